@@ -1,0 +1,9 @@
+pub mod Cached
+pub mod Forest
+pub mod Kinds
+pub mod Names
+pub mod Place
+pub mod Sound
+pub mod TreeFalls
+pub mod TreeView
+pub mod Walk
