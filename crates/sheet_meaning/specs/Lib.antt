@@ -1,0 +1,4 @@
+pub mod First
+pub mod Meaning
+pub mod Outcome
+pub mod Rules
