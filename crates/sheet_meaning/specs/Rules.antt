@@ -17,22 +17,22 @@ pub record Template : Type 0 where
 -- `/` matches a document, and a name an element of that name without uri (XSLT 2.0, 5.5)
 abbrev pub pattern_matches : List ℕ → Tree → Bool
 pattern_matches pattern (Doc kids) = bytes_eq pattern (codes "/")
-pattern_matches pattern (Elem name attributes kids) = is_empty_text name.uri && bytes_eq name.local pattern
+pattern_matches pattern (Elem name attributes kids) = is_empty_text name.uri && bytes_eq pattern name.local
 pattern_matches pattern (Text t) = false
 pattern_matches pattern (Comment t) = false
 pattern_matches pattern (Pi target t) = false
 pattern_matches pattern (Attr name t) = false
 
--- the value of the only attribute
-abbrev pub first_value : List Attribute → List ℕ
-first_value [] = []
-first_value (a ∷ rest) = a.value
+-- the template of an element, whose only attribute is the pattern
+abbrev pub template_of : List Attribute → Forest → List Template
+template_of [] kids = []
+template_of (a ∷ rest) kids = record { pattern = a.value; content = kids } ∷ []
 
 -- the templates among the children of the root, in order
 abbrev pub templates_among : Forest → List Template
 templates_among end = []
 templates_among (doc kids rest) = templates_among rest
-templates_among (elem name attributes kids rest) = record { pattern = first_value attributes; content = kids } ∷ templates_among rest
+templates_among (elem name attributes kids rest) = template_of attributes kids ++ templates_among rest
 templates_among (text t rest) = templates_among rest
 templates_among (comment t rest) = templates_among rest
 templates_among (pi target t rest) = templates_among rest

@@ -1,0 +1,4 @@
+pub mod ContentLemmas
+pub mod Follow
+pub mod Measure
+pub mod TableLemmas
