@@ -52,7 +52,7 @@ constructed_reaches f g h kids (doc inside rest) = constructed_reaches f g h kid
 constructed_reaches f g h kids (elem name attributes inside rest) =
     reaches_joined _ _ (constructed f kids rest) (constructed g kids rest)
     (reaches_if (is_in_xslt name) (applied f kids) (applied g kids) _ _ (applied_reaches f g h kids)
-     (reaches_and_then (constructed f kids inside) (constructed g kids inside) _ _ (constructed_reaches f g h kids inside) (λ items. reaches_refl (listed (element_of name items)))))
+    (reaches_and_then (constructed f kids inside) (constructed g kids inside) _ _ (constructed_reaches f g h kids inside) (λ items. reaches_refl (listed (element_of name items)))))
     (constructed_reaches f g h kids rest)
 constructed_reaches f g h kids (text t rest) =
     reaches_joined _ _ (constructed f kids rest) (constructed g kids rest)

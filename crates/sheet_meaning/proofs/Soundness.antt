@@ -202,7 +202,7 @@ constructed_sound enter c kids k after (elem name attributes inside rest) h =
     let n = and_parts _ _ q.0 in
     joined_sound _ (constructed enter kids rest)
     (if_sound (is_in_xslt name) (applied enter kids) _ (applied_sound enter c kids k)
-     (literal_sound name (constructed enter kids inside) n.0 (constructed_sound enter c kids k false inside q.1)))
+    (literal_sound name (constructed enter kids inside) n.0 (constructed_sound enter c kids k false inside q.1)))
     (constructed_sound enter c kids k false rest p.1)
 constructed_sound enter c kids k after (text t rest) h =
     let p = and_parts _ _ h in

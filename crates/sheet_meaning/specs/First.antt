@@ -68,7 +68,7 @@ is_content room end = true
 is_content room (doc kids rest) = false
 is_content room (elem name attributes kids rest) =
     (if is_in_xslt name then is_named_apply_templates name && is_no_attribute attributes && is_blank kids
-     else is_empty_text name.uri && is_no_attribute attributes && nat_lt 0 room && is_content (room - 1) kids)
+    else is_empty_text name.uri && is_no_attribute attributes && nat_lt 0 room && is_content (room - 1) kids)
     && is_content room rest
 is_content room (text t rest) = is_content room rest
 is_content room (comment t rest) = false

@@ -66,9 +66,9 @@ constructed enter kids end = Ends []
 constructed enter kids (doc inside rest) = constructed enter kids rest
 constructed enter kids (elem name attributes inside rest) =
     joined
-      (if is_in_xslt name then applied enter kids
-       else and_then (constructed enter kids inside) (λ items. listed (element_of name items)))
-      (constructed enter kids rest)
+    (if is_in_xslt name then applied enter kids
+    else and_then (constructed enter kids inside) (λ items. listed (element_of name items)))
+    (constructed enter kids rest)
 constructed enter kids (text t rest) =
     joined (if is_white_text t then Ends [] else Ends (Text t ∷ [])) (constructed enter kids rest)
 constructed enter kids (comment t rest) = constructed enter kids rest

@@ -10,7 +10,5 @@
 mod laws;
 mod texts;
 
-pub use laws::{
-    content_keeps_texts, deeper_runs_end_alike, last_match_is_best, results_are_sound,
-};
+pub use laws::{content_keeps_texts, deeper_runs_end_alike, last_match_is_best, results_are_sound};
 pub use texts::{is_in_xslt, is_white};

@@ -14,4 +14,3 @@ mod names;
 mod sheets;
 
 pub use sheets::is_first_sheet;
-

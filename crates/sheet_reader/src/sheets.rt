@@ -41,8 +41,8 @@ fn is_root_part(seen: bool, tree: &Tree) -> bool
     ensures { result ≡ is_root_part seen tree.now }
 {
     match tree {
-        Tree::Elem(name, attributes, kids) =>
-            !seen && is_stylesheet(name, attributes.as_slice(), kids.as_slice()),
+        Tree::Elem(name, attributes, kids) => !seen
+            && is_stylesheet(name, attributes.as_slice(), kids.as_slice()),
         Tree::Text(text) => is_white(text),
         Tree::Comment(_) | Tree::Pi(_, _) => true,
         Tree::Doc(_) | Tree::Attr(_, _) => false,
@@ -71,8 +71,11 @@ fn is_declaration(tree: &Tree) -> bool
     ensures { result ≡ is_declaration tree.now }
 {
     match tree {
-        Tree::Elem(name, attributes, kids) =>
-            is_template(name, attributes.as_slice(), kids.as_slice()),
+        Tree::Elem(name, attributes, kids) => is_template(
+            name,
+            attributes.as_slice(),
+            kids.as_slice(),
+        ),
         Tree::Text(text) => is_white(text),
         Tree::Comment(_) | Tree::Pi(_, _) => true,
         Tree::Doc(_) | Tree::Attr(_, _) => false,

@@ -14,7 +14,7 @@ use Rattle.sheet_meaning.specs.Rules.{best_rule, templates_of}
 use Rattle.sheet_meaning.specs.Outcome.{Outcome, Ends, Fails, Deep as past_depth, and_then, joined}
 use Rattle.xslt_run.specs.declared.faults.EvalFault.{EvalFault}
 use Rattle.xslt_run.specs.declared.faults.EvalFault.TheVariants.{Error, Deep, Memory}
-use Rattle.xslt_run.specs.Answers.{IsFaultOf, Makes}
+use Rattle.xslt_run.specs.Answers.{IsFaultOf, Grows, Makes}
 use Rattle.xslt_run.specs.Content.{Built, empty, all_of, with_tree, with_items, grown, instructed, literal_of}
 use Rattle.xslt_run.proofs.ContentLemmas.{with_items-append, all_of-empty}
 
@@ -124,22 +124,22 @@ pub limited_same : (x t : Tree) → limited x ≡ Ends t → t ≡ x
 unfolding limited
 limited_same x t e = limited_by (is_within_limits x) x t _ e
 
-grown_element : (b : Built) (name : Name) (attributes : _) (kids : Forest) (t : Tree) → limited (Elem name attributes kids) ≡ Ends t → grown b (listed (limited (Elem name attributes kids))) ≡ Ends (with_tree b t)
-grown_element b name attributes kids t e =
+-- an element that is made, put at the end
+pub grown_element : (b new : Built) (name : Name) (attributes : _) (kids : Forest) (t : Tree) → limited (Elem name attributes kids) ≡ Ends t → new ≡ with_tree b t → grown b (listed (limited (Elem name attributes kids))) ≡ Ends new
+grown_element b new name attributes kids t e n =
     let same : t ≡ Elem name attributes kids = limited_same (Elem name attributes kids) t e in
-    rw (e, same) refl
+    rw (e, n, same) refl
 
--- a literal element whose content is made and which is made itself
-pub literal_grown : (b start new : Built) (enter : Calls) (kids : List Tree) (name : Name) (inside : Forest) (c : Built) (t : Tree) → start ≡ empty → grown start (constructed enter kids inside) ≡ Ends c → limited (Elem name [] (forest_of (all_of c))) ≡ Ends t → new ≡ with_tree b t → grown b (literal_of enter kids name inside) ≡ Ends new
-literal_grown b start new enter kids name inside c t s e l n =
-    ap (λ p. grown b p) (element_made name (constructed enter kids inside) c (rw s at e))
-    ∙ grown_element b name [] (forest_of (all_of c)) t l ∙ ap Ends (sym n)
+-- an element that is not made
+pub fault_element : (f : EvalFault) (b : Built) (o : Outcome Tree) → IsFaultOf f o → IsFaultOf f (grown b (listed o))
+fault_element f b o h = fault_first f (listed o) _ (fault_first f o _ h)
 
--- a literal element whose content is made and which is not made itself
-pub literal_fault : (f : EvalFault) (b start : Built) (enter : Calls) (kids : List Tree) (name : Name) (inside : Forest) (c : Built) → start ≡ empty → grown start (constructed enter kids inside) ≡ Ends c → IsFaultOf f (limited (Elem name [] (forest_of (all_of c)))) → IsFaultOf f (grown b (literal_of enter kids name inside))
-literal_fault f b start enter kids name inside c s e h =
-    fault_along f _ _ (ap (λ p. grown b p) (element_made name (constructed enter kids inside) c (rw s at e)))
-    (fault_first f (listed (limited (Elem name [] (forest_of (all_of c))))) _ (fault_first f (limited (Elem name [] (forest_of (all_of c)))) _ h))
+-- a literal element whose content is made
+pub literal_made : (start : Built) (enter : Calls) (kids : List Tree) (name : Name) (inside : Forest) (c : Built) → start ≡ empty → grown start (constructed enter kids inside) ≡ Ends c → literal_of enter kids name inside ≡ listed (limited (Elem name [] (forest_of (all_of c))))
+literal_made start enter kids name inside c s e = element_made name (constructed enter kids inside) c (rw s at e)
+
+pub grows_along : (r : Result (Unit {0}) EvalFault) (content b : Built) (o p : Outcome (List Tree)) → o ≡ p → Grows r content (grown b p) → Grows r content (grown b o)
+grows_along r content b o p e h = rw e h
 
 same_rules : (sheet document : Tree) (n : ℕ) (best : Tree → Option Forest) → ((node : Tree) → best node ≡ best_rule (templates_of sheet) node) → transform_meaning sheet document n ≡ and_then (entered best n document) document_of
 same_rules sheet document n best h = ap (λ g. and_then (entered g n document) document_of) (sym (fun_ext h))

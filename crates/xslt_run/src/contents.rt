@@ -34,6 +34,7 @@ impl Content {
     }
 
     /// Puts a text at the end.
+    #[inline(never)]
     pub fn push_text(&mut self, alloc: Global, text: &Text) -> Result<(), AllocError>
         ensures { OnOk result (built self.new ≡ with_text (built self.old) text.now) }
     {

@@ -4,7 +4,7 @@ ghost use Rattle.xt_tree.specs.declared.trees.Tree.TheVariants.{Doc as a_documen
 ghost use Rattle.xt_tree.specs.TreeView.{forest_of};
 ghost use Rattle.sheet_meaning.specs.First.{is_first_sheet};
 ghost use Rattle.sheet_meaning.specs.Outcome.{Ends};
-ghost use Rattle.sheet_meaning.specs.Meaning.{entered, built_in, applied, constructed, limited, transform_meaning};
+ghost use Rattle.sheet_meaning.specs.Meaning.{entered, built_in, applied, constructed, limited, listed, transform_meaning};
 ghost use Rattle.xslt_run.specs.Answers.{Grows, Makes, HasEvalCause};
 ghost use Rattle.xslt_run.specs.Content.{built, grown, all_of, instructed, literal_of};
 ghost use Rattle.xslt_run.specs.Table.{rule_for};
@@ -49,7 +49,14 @@ fn enter(
         return Err(EvalFault::Deep);
     }
     match rules.find(node) {
-        Some(content) => construct(alloc, rules, depth - 1, node.kids(), content.as_slice(), out),
+        Some(content) => construct(
+            alloc,
+            rules,
+            depth - 1,
+            node.kids(),
+            content.as_slice(),
+            out,
+        ),
         None => run_built_in(alloc, rules, depth - 1, node, out),
     }
 }
@@ -66,7 +73,13 @@ fn run_built_in(
     ensures { Grows result (built out.new) (grown (built out.old) (built_in (entered (rule_for rules.now) depth) node.now)) }
 {
     match node {
-        Tree::Doc(kids) | Tree::Elem(_, _, kids) => apply(alloc, rules, depth, kids.as_slice(), out),
+        Tree::Doc(kids) | Tree::Elem(_, _, kids) => apply(
+            alloc,
+            rules,
+            depth,
+            kids.as_slice(),
+            out,
+        ),
         Tree::Text(text) | Tree::Attr(_, text) => {
             out.push_text(alloc, text)?;
             Ok(())
@@ -155,6 +168,19 @@ fn construct_element(
 {
     let mut content = Content::new(alloc);
     construct(alloc, rules, depth, kids, inside, &mut content)?;
+    close_element(alloc, name, content, out)
+}
+
+/// Puts an element of this content at the end. Apart from `construct_element`, whose frames are many.
+#[inline(never)]
+fn close_element(
+    alloc: Global,
+    name: &Name,
+    content: Content,
+    out: &mut Content,
+) -> Result<(), EvalFault>
+    ensures { Grows result (built out.new) (grown (built out.old) (listed (limited (an_element name.now [] (forest_of (all_of (built content))))))) }
+{
     let tree = make_element(alloc, name, content)?;
     out.push_tree(tree)?;
     Ok(())

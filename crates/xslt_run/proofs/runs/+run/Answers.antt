@@ -6,7 +6,7 @@ use Rattle.xt_tree.proofs.TreeLemmas.{size_within}
 use Rattle.sheet_meaning.specs.Meaning.{entered}
 use Rattle.xslt_run.specs.Content.{built}
 use Rattle.xslt_run.specs.Table.{rule_for}
-use Rattle.xslt_run.proofs.Follow.{runs_first_of, runs_step, runs_exit, constructed_each, entered_rule, literal_grown, literal_fault}
+use Rattle.xslt_run.proofs.Follow.{runs_first_of, runs_step, runs_exit, constructed_each, entered_rule, literal_made, grows_along}
 use Rattle.xslt_run.proofs.Measure.{weight_falls}
 use Rattle.xslt_run.proofs.runs.+run.Goals as goal
 
@@ -36,15 +36,10 @@ construct-returns-in_err-instruct t c =
     let lt : c.loop-part.part-index < length c.args.parts.now = omega arith in
     rw (p.1, p.2) (runs_exit _ _ _ _ _ _ _ _ c.loop-part.invariant lt c.part-item.is c.in_err-instruct.ensures)
 
-pub construct_element-returns-in_err-tree : goal.construct_element-returns-in_err-tree
-construct_element-returns-in_err-tree t c =
-    let p = err_from_is_err_and c.from_residual-in_err-tree.result c.from_residual-in_err-tree.ensures.1 in
-    rw (p.1, p.2)
-    (literal_fault _ (built c.args.out.now) (built c.new-content.result) (entered (rule_for c.args.rules.now) c.args.depth) c.args.kids.now c.args.name.now (forest_of c.args.inside.now) _ c.new-content.ensures c.in_ok-construct.ensures c.in_err-tree.ensures)
-
 pub construct_element-returns : goal.construct_element-returns
 construct_element-returns t c =
-    literal_grown (built c.args.out.now) (built c.new-content.result) _ (entered (rule_for c.args.rules.now) c.args.depth) c.args.kids.now c.args.name.now (forest_of c.args.inside.now) _ c.in_ok-tree.tree c.new-content.ensures c.in_ok-construct.ensures c.in_ok-tree.ensures c.in_ok-push_tree.ensures
+    let enter = entered (rule_for c.args.rules.now) c.args.depth in
+    grows_along _ _ (built c.args.out.now) _ _ (literal_made (built c.new-content.result) enter c.args.kids.now c.args.name.now (forest_of c.args.inside.now) _ c.new-content.ensures c.in_ok-construct.ensures) c.close_element.ensures
 
 pub enter-construct-requires : goal.enter-construct-requires
 enter-construct-requires t c =
