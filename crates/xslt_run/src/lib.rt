@@ -14,3 +14,6 @@ mod runs;
 
 pub use faults::EvalFault;
 pub use runs::run_first_sheet;
+
+#[cfg(test)]
+mod tests;
