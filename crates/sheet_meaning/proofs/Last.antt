@@ -1,11 +1,11 @@
 -- The best rule is the last that matches.
-use Rattle.std.proofs.Common.{◌≡◌, List, [], ◌∷◌, ◌++◌, Bool, true, false, refl, ap}
+use Rattle.std.proofs.Common.{◌≡◌, List, [], ◌∷◌, Bool, true, false, refl, ap}
 use Rattle.std.specs.Prelude.{Option, Some, None, if◌then◌else◌, All}
 use Rattle.std.specs.Option.{option_or}
 use Rattle.std.proofs.lemmas.List.Elements.{All-nil, All-cons}
 use Rattle.xt_tree.specs.declared.trees.Tree.{Tree}
 use Rattle.xt_tree.specs.Forest.{Forest}
-use Rattle.sheet_meaning.specs.Rules.{Template, pattern_matches, best_rule, IsLastMatch, IsBestRule}
+use Rattle.sheet_meaning.specs.Rules.{Template, pattern_matches, best_rule, IsBestRule}
 
 none_yet : (t : Template) (ts : List Template) (node : Tree) (b : Bool) → pattern_matches t.pattern node ≡ b → All (λ u. pattern_matches u.pattern node ≡ false) ts → IsBestRule (t ∷ ts) node (if b then Some t.content else None)
 none_yet t ts node true e rest = record { before = []; chosen = t; after = ts; parts = refl; content_is = refl; matches = e; none_after = rest }

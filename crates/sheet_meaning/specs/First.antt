@@ -10,7 +10,6 @@ use Rattle.xt_tree.specs.declared.attributes.Attribute.{Attribute}
 use Rattle.xt_tree.specs.declared.trees.Tree.{Tree}
 use Rattle.xt_tree.specs.declared.trees.Tree.TheVariants.{Doc, Elem, Text, Comment, Pi, Attr}
 use Rattle.xt_tree.specs.Forest.{Forest, end, doc, elem, text, comment, pi, attr}
-use Rattle.xt_tree.specs.TreeView.{put}
 
 unfoldable pub is_white_char : ℕ → Bool
 is_white_char c = is_white c
