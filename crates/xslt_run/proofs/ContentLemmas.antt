@@ -1,15 +1,12 @@
 -- Content while it is made, against complex content.
-use Rattle.std.proofs.Common.{◌≡◌, ℕ, List, [], ◌∷◌, ◌++◌, Bool, true, false, refl, ap, sym, ◌∙◌, append_assoc}
+use Rattle.std.proofs.Common.{◌≡◌, ℕ, List, [], ◌∷◌, ◌++◌, true, refl, ap, sym, ◌∙◌, append_assoc}
 use Rattle.std.proofs.lemmas.List.{append-nil}
-use Rattle.std.specs.Prelude.{if◌then◌else◌}
 use Rattle.xt_names.specs.Allowed.{is_empty_text}
 use Rattle.xt_names.specs.declared.names.Name.{Name}
 use Rattle.xt_tree.specs.declared.trees.Tree.{Tree}
 use Rattle.xt_tree.specs.declared.trees.Tree.TheVariants.{Doc, Elem, Text, Comment, Pi, Attr}
-use Rattle.xt_tree.specs.TreeView.{forest_of}
-use Rattle.sheet_meaning.specs.Meaning.{put_text, complex_content, limited, is_within_limits, element_of, document_of, listed}
-use Rattle.sheet_meaning.specs.Outcome.{Outcome, Ends, Fails, Deep, and_then, joined}
-use Rattle.xslt_run.specs.Content.{Built, empty, flushed, all_of, with_text, with_tree, with_item, with_items, grown}
+use Rattle.sheet_meaning.specs.Meaning.{put_text, complex_content}
+use Rattle.xslt_run.specs.Content.{Built, empty, flushed, all_of, with_text, with_tree, with_item, with_items}
 
 pub flushed_none : (t : List ℕ) → is_empty_text t ≡ true → flushed t ≡ []
 unfolding is_empty_text

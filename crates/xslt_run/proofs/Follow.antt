@@ -1,15 +1,15 @@
 -- How the parts of a run follow one another.
-use Rattle.std.proofs.Common.{◌≡◌, ℕ, zero, suc, ◌+◌, ◌-◌, ◌<◌, ◌≤◌, List, [], ◌∷◌, ◌++◌, length, drop, get_or, Bool, true, false, refl, ap, sym, ◌∙◌, arith, add-one, drop-cons}
+use Rattle.std.proofs.Common.{◌≡◌, ℕ, zero, suc, ◌+◌, ◌-◌, ◌<◌, ◌≤◌, List, [], ◌∷◌, length, drop, get_or, Bool, true, false, refl, ap, sym, ◌∙◌, arith, add-one, drop-cons}
 use Rattle.std.proofs.lemmas.List.{drop_all}
 use mathlib.Core.Path.{fun_ext}
-use Rattle.std.specs.Prelude.{if◌then◌else◌, Option, Some, None, Result, Ok, Err, IfOk, IfErr}
+use Rattle.std.specs.Prelude.{if◌then◌else◌, Option, Some, Result, Ok, Err, IfOk, IfErr}
 use Rattle.xt_names.specs.declared.names.Name.{Name}
 use Rattle.xt_names.specs.declared.codes.Code.{Code}
 use Rattle.xt_tree.specs.declared.trees.Tree.{Tree}
 use Rattle.xt_tree.specs.declared.trees.Tree.TheVariants.{Doc, Elem, Text, Comment, Pi, Attr}
 use Rattle.xt_tree.specs.Forest.{Forest}
 use Rattle.xt_tree.specs.TreeView.{put, forest_of, kids_of}
-use Rattle.sheet_meaning.specs.Meaning.{Calls, applied, constructed, entered, ruled, limited, is_within_limits, complex_content, element_of, document_of, listed, transform_meaning}
+use Rattle.sheet_meaning.specs.Meaning.{Calls, applied, constructed, entered, ruled, limited, is_within_limits, element_of, document_of, listed, transform_meaning}
 use Rattle.sheet_meaning.specs.Rules.{best_rule, templates_of}
 use Rattle.sheet_meaning.specs.Outcome.{Outcome, Ends, Fails, Deep as past_depth, and_then, joined}
 use Rattle.xslt_run.specs.declared.faults.EvalFault.{EvalFault}

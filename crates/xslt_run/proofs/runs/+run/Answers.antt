@@ -1,4 +1,4 @@
-use Rattle.std.proofs.Common.{◌≡◌, ◌<◌, length, ap, sym, arith}
+use Rattle.std.proofs.Common.{◌<◌, length, ap, sym, arith}
 use Rattle.std.proofs.lemmas.Result.{err_from_is_err_and}
 use Rattle.xt_tree.specs.Forest.{forest_size}
 use Rattle.xt_tree.specs.TreeView.{forest_of}
