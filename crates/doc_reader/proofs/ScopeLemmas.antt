@@ -1,0 +1,130 @@
+-- Scopes and start tags, taken apart from their front.
+use Rattle.std.proofs.Common.{◌≡◌, ℕ, zero, suc, ◌+◌, ◌<◌, ◌≤◌, List, [], ◌∷◌, ◌++◌, length, drop, map, get_or, Bool, true, false, cond, Option, Some, None, refl, sym, ap, ◌∙◌, append-nil, append_assoc, arith}
+use Rattle.std.proofs.lemmas.Str.{chars-nil}
+use Rattle.std.specs.Str.{bytes_eq, chars}
+use Rattle.xt_names.specs.declared.names.Binding.{Binding}
+use Rattle.xt_tree.specs.declared.attributes.Attribute.{Attribute}
+use Rattle.doc_reader.specs.RawNames.{RawAttribute}
+use Rattle.doc_reader.specs.Scopes.{bound_later, bound_uri, with_declaration, declarations, declared_by, one_named, behind_named, both_named, named_attributes}
+
+pub chars_empty : chars [] ≡ []
+chars_empty = chars-nil
+
+-- a list from a place on
+pub drop_at : {A : Type 0} (xs : List A) (i : ℕ) (x : A) → i < length xs → x ≡ get_or xs i x → drop i xs ≡ x ∷ drop (i + 1) xs
+drop_at [] i x h e = absurd (omega arith)
+drop_at (y ∷ xs) zero x h e = ap (λ z. z ∷ xs) (sym e)
+drop_at {A = A} (y ∷ xs) (suc i) x h e =
+    let next : suc i + 1 ≡ suc (i + 1) = omega arith in
+    let rest : drop i xs ≡ x ∷ drop (i + 1) xs = drop_at xs i x (omega arith) e in rw next rest
+
+drop_past : {A : Type 0} (xs : List A) (i : ℕ) → length xs ≤ i → drop i xs ≡ []
+drop_past [] zero h = refl
+drop_past [] (suc i) h = refl
+drop_past (x ∷ xs) zero h = absurd (omega arith)
+drop_past (x ∷ xs) (suc i) h = drop_past xs i (omega arith)
+
+abbrev pub or_found : Option (List ℕ) → Option (List ℕ) → Option (List ℕ)
+or_found (Some uri) found = Some uri
+or_found None found = found
+
+-- one binding more
+pub bound_more : (rest : Option (List ℕ)) (b : Binding) (prefix : List ℕ) (found : Option (List ℕ)) → or_found (bound_later rest b prefix) found ≡ or_found rest (cond (bytes_eq b.prefix prefix) (Some b.uri) found)
+bound_more (Some uri) b prefix found = refl
+bound_more None b prefix found = go (bytes_eq b.prefix prefix) where
+  go : (x : Bool) → or_found (cond x (Some b.uri) None) found ≡ cond x (Some b.uri) found
+  go true = refl
+  go false = refl
+
+bound_uri-cons : (b : Binding) (bs : List Binding) (prefix : List ℕ) → bound_uri (b ∷ bs) prefix ≡ bound_later (bound_uri bs prefix) b prefix
+unfolding bound_uri
+bound_uri-cons b bs prefix = refl
+
+pub bound_step : (scope : List Binding) (i : ℕ) (b : Binding) (prefix : List ℕ) (found : Option (List ℕ)) → i < length scope → b ≡ get_or scope i b
+    → or_found (bound_uri (drop i scope) prefix) found ≡ or_found (bound_uri (drop (i + 1) scope) prefix) (cond (bytes_eq b.prefix prefix) (Some b.uri) found)
+bound_step scope i b prefix found h e = rw (drop_at scope i b h e, bound_uri-cons b (drop (i + 1) scope) prefix) (bound_more (bound_uri (drop (i + 1) scope) prefix) b prefix found)
+
+pub bound_none : (prefix : List ℕ) → bound_uri [] prefix ≡ None
+unfolding bound_uri
+bound_none prefix = refl
+
+pub bound_preserved : (scope : List Binding) (i : ℕ) (b : Binding) (prefix : List ℕ) (found new all : Option (List ℕ)) (x : Bool) → i < length scope → b ≡ get_or scope i b
+    → or_found (bound_uri (drop i scope) prefix) found ≡ all → x ≡ bytes_eq b.prefix prefix → new ≡ cond x (Some b.uri) found
+    → or_found (bound_uri (drop (i + 1) scope) prefix) new ≡ all
+bound_preserved scope i b prefix found new all x h e inv m n =
+    let step = bound_step scope i b prefix found h e in rw (n, m) (sym step ∙ inv)
+
+pub bound_all : (scope : List Binding) (i : ℕ) (prefix : List ℕ) (found all : Option (List ℕ)) → length scope ≤ i → or_found (bound_uri (drop i scope) prefix) found ≡ all → found ≡ all
+bound_all scope i prefix found all h inv = let none : drop i scope ≡ [] = drop_past scope i h in rw (none, bound_none prefix) at inv
+
+declarations-cons : (a : RawAttribute) (more : List RawAttribute) → declarations (a ∷ more) ≡ with_declaration (declared_by a.name) a.value (declarations more)
+unfolding declarations
+declarations-cons a more = refl
+
+declarations_none : declarations [] ≡ []
+unfolding declarations
+declarations_none = refl
+
+with_declaration-append : (d : Option (List ℕ)) (value : List ℕ) (rest : List Binding) → with_declaration d value rest ≡ with_declaration d value [] ++ rest
+with_declaration-append None value rest = refl
+with_declaration-append (Some prefix) value rest = refl
+
+-- one attribute more is declared
+pub declared_preserved : {A : Type 0} (view : A → RawAttribute) (xs : List A) (i : ℕ) (x : A) (old new all : List Binding) → i < length xs → x ≡ get_or xs i x
+    → old ++ declarations (map view (drop i xs)) ≡ all → new ≡ old ++ with_declaration (declared_by (view x).name) (view x).value []
+    → new ++ declarations (map view (drop (i + 1) xs)) ≡ all
+declared_preserved view xs i x old new all h e inv n =
+    let rest = declarations (map view (drop (i + 1) xs)) in
+    let one = with_declaration (declared_by (view x).name) (view x).value [] in
+    let step : declarations (map view (drop i xs)) ≡ one ++ rest =
+    rw (drop_at xs i x h e) (declarations-cons (view x) (map view (drop (i + 1) xs)) ∙ with_declaration-append _ _ rest) in
+    ap (λ (b : List Binding). b ++ rest) n ∙ append_assoc old one rest ∙ ap (λ (b : List Binding). old ++ b) (sym step) ∙ inv
+
+pub declared_all : {A : Type 0} (view : A → RawAttribute) (xs : List A) (i : ℕ) (old all : List Binding) → length xs ≤ i → old ++ declarations (map view (drop i xs)) ≡ all → old ≡ all
+declared_all view xs i old all h inv =
+    let none : drop i xs ≡ [] = drop_past xs i h in
+    let e : old ++ declarations [] ≡ all = rw none at inv in
+    sym (append-nil old) ∙ ap (λ (b : List Binding). old ++ b) (sym declarations_none) ∙ e
+
+named-cons : (scope : List Binding) (a : RawAttribute) (more : List RawAttribute) → named_attributes scope (a ∷ more) ≡ both_named (one_named scope a) (named_attributes scope more)
+unfolding named_attributes
+named-cons scope a more = refl
+
+named_none : (scope : List Binding) → named_attributes scope [] ≡ Some []
+unfolding named_attributes
+named_none scope = refl
+
+behind_both : (front new : List Attribute) (one rest : Option (List Attribute)) → behind_named front one ≡ Some new → behind_named front (both_named one rest) ≡ behind_named new rest
+behind_both front new None rest e = absurd (cc)
+behind_both front new (Some xs) None e = refl
+behind_both front new (Some xs) (Some rest) e = let same : front ++ xs ≡ new = cc in ap Some (sym (append_assoc front xs rest) ∙ ap (λ (b : List Attribute). b ++ rest) same)
+
+-- one attribute more is named
+pub named_preserved : {A : Type 0} (view : A → RawAttribute) (scope : List Binding) (xs : List A) (i : ℕ) (x : A) (old new : List Attribute) (all : Option (List Attribute)) → i < length xs → x ≡ get_or xs i x
+    → behind_named old (named_attributes scope (map view (drop i xs))) ≡ all → behind_named old (one_named scope (view x)) ≡ Some new
+    → behind_named new (named_attributes scope (map view (drop (i + 1) xs))) ≡ all
+named_preserved view scope xs i x old new all h e inv n =
+    let rest = named_attributes scope (map view (drop (i + 1) xs)) in
+    let step : named_attributes scope (map view (drop i xs)) ≡ both_named (one_named scope (view x)) rest =
+    rw (drop_at xs i x h e) (named-cons scope (view x) (map view (drop (i + 1) xs))) in
+    sym (behind_both old new (one_named scope (view x)) rest n) ∙ ap (behind_named old) (sym step) ∙ inv
+
+pub named_refused : {A : Type 0} (view : A → RawAttribute) (scope : List Binding) (xs : List A) (i : ℕ) (x : A) (old : List Attribute) (all : Option (List Attribute)) → i < length xs → x ≡ get_or xs i x
+    → behind_named old (named_attributes scope (map view (drop i xs))) ≡ all → one_named scope (view x) ≡ None → None ≡ all
+named_refused view scope xs i x old all h e inv n =
+    let rest = named_attributes scope (map view (drop (i + 1) xs)) in
+    let step : named_attributes scope (map view (drop i xs)) ≡ both_named (one_named scope (view x)) rest =
+    rw (drop_at xs i x h e) (named-cons scope (view x) (map view (drop (i + 1) xs))) in
+    let none : both_named (one_named scope (view x)) rest ≡ None = rw n refl in
+    sym (ap (behind_named old) (step ∙ none)) ∙ inv
+
+pub named_all : {A : Type 0} (view : A → RawAttribute) (scope : List Binding) (xs : List A) (i : ℕ) (old : List Attribute) (all : Option (List Attribute)) → length xs ≤ i
+    → behind_named old (named_attributes scope (map view (drop i xs))) ≡ all → Some old ≡ all
+named_all view scope xs i old all h inv =
+    let none : drop i xs ≡ [] = drop_past xs i h in
+    let e : behind_named old (named_attributes scope []) ≡ all = rw none at inv in
+    ap Some (sym (append-nil old)) ∙ ap (behind_named old) (sym (named_none scope)) ∙ e
+
+pub behind_none : (xs : List Attribute) (o : Option (List Attribute)) → behind_named [] o ≡ o
+behind_none xs None = refl
+behind_none xs (Some ys) = refl

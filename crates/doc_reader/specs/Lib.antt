@@ -1,0 +1,10 @@
+pub mod Characters
+pub mod RawNames
+pub mod Scopes
+pub mod Document
+pub mod Machine
+pub mod Sources
+pub mod View
+pub mod Frames
+pub mod Opening
+pub mod Fault

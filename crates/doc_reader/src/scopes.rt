@@ -1,0 +1,256 @@
+// Namespaces: the names that a start tag gives in a scope.
+ghost use Rattle.std.specs.Prelude.{◌≡◌, ◌++◌, [], true, false, length, map, Some, None, IfOk, OnOk, MatchBool, MatchOption};
+ghost use Rattle.std.specs.List.{list_any, list_all};
+ghost use Rattle.std.specs.Option.{option_copied, option_map};
+ghost use Rattle.std.specs.Str.{chars, bytes_eq};
+ghost use Rattle.doc_reader.specs.Scopes.{bound_uri, declared_by, declarations, is_binding, prefixes_differ, are_declarations, element_name, attribute_name, named_attributes, opened, in_namespace, with_declaration, one_named, behind_named};
+ghost use Rattle.doc_reader.specs.View.{name_of, attribute_of, tag_of};
+ghost use Rattle.doc_reader.specs.Opening.{OpensTag};
+
+use crate::tags::{RawAttribute, RawName, RawTag};
+use std::alloc::{AllocError, Global};
+use xt_names::{Binding, List, Name, Text, is_ascii_text, keeps_xml, keeps_xmlns};
+use xt_tree::{Attribute, Attrs, names_differ};
+
+/// The uri that the last binding of the prefix gives it.
+fn bound_uri<'b>(scope: &'b [Binding], prefix: &str) -> Option<&'b Text>
+    ensures { option_copied result ≡ bound_uri scope.now (chars prefix.now) }
+{
+    let mut found = None;
+    for binding in scope {
+        if binding.prefix.is(prefix) {
+            found = Some(&binding.uri);
+        }
+    }
+    found
+}
+
+/// The prefix that an attribute of this name declares.
+#[tactic(auto, using(crate::proofs::ScopeLemmas::chars_empty), unfolding(crate::specs::Scopes::declared_by))]
+fn declared_by<'a>(name: RawName<'a>) -> Option<&'a str>
+    ensures { option_map (λ p. chars p.now) result ≡ declared_by (name_of name.entry) }
+{
+    match name.prefix {
+        None if is_ascii_text(name.local, "xmlns") => Some(""),
+        Some(prefix) if is_ascii_text(prefix, "xmlns") => Some(name.local),
+        _ => None,
+    }
+}
+
+/// What a start tag opens: its name, its attributes, and how many declarations it has.
+#[derive(Drop)]
+pub(crate) struct OpenedTag {
+    pub(crate) element: Name,
+    pub(crate) attributes: Attrs,
+    pub(crate) declared: usize,
+}
+
+/// Opens a start tag in the scope, to which its declarations are added; None where a rule on names is broken.
+#[tactic(auto, unfolding(crate::specs::Scopes::opened))]
+pub(crate) fn open_tag(
+    alloc: Global,
+    scope: &mut Vec<Binding>,
+    tag: &RawTag<'_>,
+) -> Result<Option<OpenedTag>, AllocError>
+    ensures { IfOk result (λ o. MatchOption o (opened scope.old.items (tag_of tag.now) ≡ None) (λ t. OpensTag scope.old.items (tag_of tag.now) t scope.new.items)) }
+{
+    let outer = scope.len();
+    declare(alloc, scope, &tag.attributes)?;
+    let declared = &scope[outer..];
+    if !are_declarations(declared) {
+        return Ok(None);
+    }
+    let declared = declared.len();
+    let Some(element) = element_name(alloc, scope, tag.name)? else {
+        return Ok(None);
+    };
+    let Some(attributes) = named_attributes(alloc, scope, &tag.attributes)? else {
+        return Ok(None);
+    };
+    if !names_differ(alloc, attributes.as_slice()) {
+        return Ok(None);
+    }
+    let attributes = Attrs::make(alloc, attributes)?;
+    Ok(Some(OpenedTag {
+        element,
+        attributes,
+        declared,
+    }))
+}
+
+/// Puts the namespace declarations among the attributes into force.
+fn declare(
+    alloc: Global,
+    scope: &mut Vec<Binding>,
+    attributes: &[RawAttribute<'_>],
+) -> Result<(), AllocError>
+    ensures { OnOk result (scope.new.items ≡ scope.old.items ++ declarations (map attribute_of attributes.now)) }
+{
+    for attribute in attributes {
+        declare_one(alloc, scope, attribute)?;
+    }
+    Ok(())
+}
+
+fn declare_one(
+    alloc: Global,
+    scope: &mut Vec<Binding>,
+    attribute: &RawAttribute<'_>,
+) -> Result<(), AllocError>
+    ensures { OnOk result (scope.new.items ≡ scope.old.items ++ with_declaration (declared_by (name_of attribute.now.name)) attribute.now.value []) }
+{
+    match declared_by(attribute.name) {
+        Some(prefix) => {
+            let prefix = Text::make(alloc, prefix)?;
+            let uri = attribute.value.copy()?;
+            scope.push(Binding { prefix, uri })?;
+            Ok(())
+        }
+        None => Ok(()),
+    }
+}
+
+/// Whether the declarations of one start tag are allowed.
+#[tactic(auto, unfolding(crate::specs::Scopes::are_declarations))]
+fn are_declarations(bindings: &[Binding]) -> bool
+    ensures { result ≡ are_declarations bindings.now }
+{
+    are_all_bindings(bindings) && prefixes_differ(bindings)
+}
+
+fn are_all_bindings(bindings: &[Binding]) -> bool
+    ensures { result ≡ list_all is_binding bindings.now }
+{
+    bindings.iter().all(|b| is_binding(b))
+}
+
+#[tactic(auto, unfolding(crate::specs::Scopes::is_binding))]
+fn is_binding(binding: &Binding) -> bool
+    ensures { result ≡ is_binding binding.now }
+{
+    (binding.prefix.is_empty() || !binding.uri.is_empty())
+        && keeps_xml(binding.prefix.as_str(), binding.uri.as_str())
+        && keeps_xmlns(binding.prefix.as_str(), binding.uri.as_str())
+}
+
+#[tactic(auto, unfolding(crate::specs::Scopes::prefixes_differ))]
+fn prefixes_differ(bindings: &[Binding]) -> bool
+    ensures { result ≡ prefixes_differ bindings.now }
+{
+    match bindings {
+        [] => true,
+        [first, rest @ ..] => !has_prefix(rest, &first.prefix) && prefixes_differ(rest),
+    }
+}
+
+fn has_prefix(bindings: &[Binding], prefix: &Text) -> bool
+    ensures { result ≡ list_any (λ c. bytes_eq prefix.now c.prefix) bindings.now }
+{
+    bindings.iter().any(|b| *prefix == b.prefix)
+}
+
+/// The name of an element, if its prefix is declared.
+#[tactic(auto, using(crate::proofs::ScopeLemmas::chars_empty), unfolding(crate::specs::Scopes::element_name))]
+fn element_name(
+    alloc: Global,
+    scope: &[Binding],
+    name: RawName<'_>,
+) -> Result<Option<Name>, AllocError>
+    ensures { IfOk result (λ made. made ≡ element_name scope.now (name_of name.entry)) }
+{
+    match name.prefix {
+        Some(prefix) => prefixed_name(alloc, scope, prefix, name.local),
+        None => {
+            let uri = match bound_uri(scope, "") {
+                Some(uri) => uri.copy()?,
+                None => Text::make(alloc, "")?,
+            };
+            Ok(Some(Name {
+                prefix: Text::make(alloc, "")?,
+                uri,
+                local: Text::make(alloc, name.local)?,
+            }))
+        }
+    }
+}
+
+/// The name of an attribute, if its prefix is declared.
+#[tactic(auto, using(crate::proofs::ScopeLemmas::chars_empty), unfolding(crate::specs::Scopes::attribute_name))]
+fn attribute_name(
+    alloc: Global,
+    scope: &[Binding],
+    name: RawName<'_>,
+) -> Result<Option<Name>, AllocError>
+    ensures { IfOk result (λ made. made ≡ attribute_name scope.now (name_of name.entry)) }
+{
+    match name.prefix {
+        Some(prefix) => prefixed_name(alloc, scope, prefix, name.local),
+        None => {
+            let empty = Text::make(alloc, "")?;
+            Ok(Some(Name {
+                prefix: empty.copy()?,
+                uri: empty,
+                local: Text::make(alloc, name.local)?,
+            }))
+        }
+    }
+}
+
+fn prefixed_name(
+    alloc: Global,
+    scope: &[Binding],
+    prefix: &str,
+    local: &str,
+) -> Result<Option<Name>, AllocError>
+    ensures { IfOk result (λ made. made ≡ in_namespace (chars prefix.now) (chars local.now) (bound_uri scope.now (chars prefix.now))) }
+{
+    match bound_uri(scope, prefix) {
+        None => Ok(None),
+        Some(uri) => Ok(Some(Name {
+            prefix: Text::make(alloc, prefix)?,
+            uri: uri.copy()?,
+            local: Text::make(alloc, local)?,
+        })),
+    }
+}
+
+/// The attributes that are no declarations, if all their prefixes are declared.
+fn named_attributes(
+    alloc: Global,
+    scope: &[Binding],
+    attributes: &[RawAttribute<'_>],
+) -> Result<Option<List<Attribute>>, AllocError>
+    ensures { IfOk result (λ made. made ≡ named_attributes scope.now (map attribute_of attributes.now)) }
+{
+    let mut named = List::new(alloc);
+    for attribute in attributes {
+        if !name_one(alloc, scope, attribute, &mut named)? {
+            return Ok(None);
+        }
+    }
+    Ok(Some(named))
+}
+
+// Names one attribute, if it is no declaration, or says that its prefix is not declared.
+fn name_one(
+    alloc: Global,
+    scope: &[Binding],
+    attribute: &RawAttribute<'_>,
+    named: &mut List<Attribute>,
+) -> Result<bool, AllocError>
+    ensures { IfOk result (λ went. MatchBool went
+        (behind_named named.old (one_named scope.now (attribute_of attribute.now)) ≡ Some named.new)
+        (one_named scope.now (attribute_of attribute.now) ≡ None)) }
+{
+    if declared_by(attribute.name).is_some() {
+        return Ok(true);
+    }
+    match attribute_name(alloc, scope, attribute.name)? {
+        Some(name) => {
+            let value = attribute.value.copy()?;
+            named.push(Attribute { name, value })?;
+            Ok(true)
+        }
+        None => Ok(false),
+    }
+}
