@@ -1,0 +1,4 @@
+pub mod EscapeLemmas
+pub mod PlainLemmas
+pub mod ScopeLemmas
+pub mod WrittenLemmas

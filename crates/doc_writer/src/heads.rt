@@ -1,0 +1,125 @@
+ghost use Rattle.std.specs.Prelude.{◌≡◌, ℕ, ◌++◌, ◌∷◌, ◌≤◌, [], length, take, IfOk, OnOk};
+ghost use Rattle.std.specs.List.{list_any};
+ghost use Rattle.std.specs.Str.{bytes_eq};
+ghost use Rattle.doc_writer.specs.Heads.{head_of, keeps_prefix, may_declare, with_element, with_attribute, empty_head};
+ghost use Rattle.doc_writer.specs.HeadView.{head_at};
+ghost use Rattle.doc_writer.specs.Scopes.{binding};
+
+use crate::plain::ascii_text;
+use crate::scopes::Scope;
+use std::alloc::{AllocError, Global};
+use xt_names::{Binding, Name, Text};
+use xt_tree::Attribute;
+
+/// The scope, and the prefixes that the present start tag writes.
+#[derive(Drop)]
+pub(crate) struct Heads {
+    pub scope: Scope,
+    /// The prefix of the element, and then those of its attributes.
+    pub used: Vec<Text>,
+}
+
+impl Heads {
+    /// Settles what a start tag declares and which prefixes it writes. The declarations stand from the answered place on.
+    #[tactic(auto, unfolding(crate::specs::Heads::head_of))]
+    pub fn open(
+        &mut self,
+        alloc: Global,
+        name: &Name,
+        attributes: &[Attribute],
+    ) -> Result<usize, AllocError>
+        ensures place { IfOk result (λ place. place ≡ length self.old.scope) }
+        ensures outer { IfOk result (λ place. take place self.new.scope ≡ self.old.scope) }
+        ensures within { IfOk result (λ place. place ≤ length self.new.scope) }
+        ensures head { IfOk result (λ place. head_at place self.new.scope self.new.used.items ≡ head_of self.old.scope name.now attributes.now) }
+    {
+        let place = self.scope.len();
+        self.used.clear();
+        self.open_element(place, name)?;
+        for attribute in attributes {
+            self.open_attribute(alloc, place, &attribute.name)?;
+        }
+        Ok(place)
+    }
+
+    #[tactic(auto, unfolding(crate::specs::Heads::with_element))]
+    fn open_element(&mut self, place: usize, name: &Name) -> Result<(), AllocError>
+        requires { place ≤ length self.old.scope }
+        ensures outer { OnOk result (take place self.new.scope ≡ take place self.old.scope) }
+        ensures within { OnOk result (place ≤ length self.new.scope) }
+        ensures head { OnOk result (head_at place self.new.scope self.new.used.items ≡ with_element (head_at place self.old.scope self.old.used.items) name.now) }
+    {
+        if self.scope.binds_to(&name.prefix, &name.uri) {
+            self.write(name.prefix.copy()?)
+        } else {
+            self.declare(name.prefix.copy()?, &name.uri)
+        }
+    }
+
+    #[tactic(auto, unfolding(crate::specs::Heads::with_attribute))]
+    fn open_attribute(&mut self, alloc: Global, place: usize, name: &Name) -> Result<(), AllocError>
+        requires { place ≤ length self.old.scope }
+        ensures outer { OnOk result (take place self.new.scope ≡ take place self.old.scope) }
+        ensures within { OnOk result (place ≤ length self.new.scope) }
+        ensures head { OnOk result (head_at place self.new.scope self.new.used.items ≡ with_attribute (head_at place self.old.scope self.old.used.items) name.now) }
+    {
+        if name.uri.is_empty() {
+            return self.write(ascii_text(alloc, "")?);
+        }
+        if self.keeps_prefix(name) {
+            return self.write(name.prefix.copy()?);
+        }
+        if self.may_declare(place, &name.prefix) {
+            return self.declare(name.prefix.copy()?, &name.uri);
+        }
+        let prefix = self.scope.free_prefix(alloc)?;
+        self.declare(prefix, &name.uri)
+    }
+
+    #[tactic(auto, unfolding(crate::specs::Heads::keeps_prefix))]
+    fn keeps_prefix(&self, name: &Name) -> bool
+        ensures { (place : ℕ) → result ≡ keeps_prefix (head_at place self.now.scope self.now.used.items) name.now }
+    {
+        !name.prefix.is_empty() && self.scope.binds_to(&name.prefix, &name.uri)
+    }
+
+    #[tactic(auto, unfolding(crate::specs::Heads::may_declare))]
+    fn may_declare(&self, place: usize, prefix: &Text) -> bool
+        requires { place ≤ length self.now.scope }
+        ensures { result ≡ may_declare (head_at place self.now.scope self.now.used.items) prefix.now }
+    {
+        !prefix.is_empty()
+            && !is_among(self.used.as_slice(), prefix)
+            && !is_declared(self.scope.from(place), prefix)
+    }
+
+    /// The next name of the tag is written with the prefix.
+    fn write(&mut self, prefix: Text) -> Result<(), AllocError>
+        ensures scope { self.new.scope ≡ self.old.scope }
+        ensures used { OnOk result (self.new.used.items ≡ self.old.used.items ++ prefix ∷ []) }
+    {
+        self.used.push(prefix)?;
+        Ok(())
+    }
+
+    /// The same, where the prefix is first declared.
+    fn declare(&mut self, prefix: Text, uri: &Text) -> Result<(), AllocError>
+        ensures scope { OnOk result (self.new.scope ≡ self.old.scope ++ binding prefix uri.now ∷ []) }
+        ensures used { OnOk result (self.new.used.items ≡ self.old.used.items ++ prefix ∷ []) }
+    {
+        self.scope.push(prefix.copy()?, uri.copy()?)?;
+        self.write(prefix)
+    }
+}
+
+fn is_among(prefixes: &[Text], prefix: &Text) -> bool
+    ensures { result ≡ list_any (λ p. bytes_eq p prefix.now) prefixes.now }
+{
+    prefixes.iter().any(|p| *p == *prefix)
+}
+
+fn is_declared(bindings: &[Binding], prefix: &Text) -> bool
+    ensures { result ≡ list_any (λ b. bytes_eq b.prefix prefix.now) bindings.now }
+{
+    bindings.iter().any(|b| b.prefix == *prefix)
+}
