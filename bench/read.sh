@@ -1,0 +1,54 @@
+#!/usr/bin/env bash
+# Compares the reading of a document: the user time in seconds and the peak memory in kilobytes of `xslt2xq transform`,
+# whose stylesheet looks at nothing of the document, and of `xmllint --noout`. Each is the best of three runs.
+#
+# usage: bench/read.sh BYTES    a catalogue of about so many bytes, made by the generator that GEN names
+#        bench/read.sh FILE     this document
+set -eu
+
+top=$(dirname "$(dirname "$(readlink -f "${BASH_SOURCE[0]}")")")
+data=$top/bench/data
+generator=${GEN:-$top/../shared/tools/gen.py}
+
+case ${1-} in
+'')
+    echo "usage: bench/read.sh BYTES | bench/read.sh FILE" >&2
+    exit 2
+    ;;
+*[!0-9]*)
+    document=$(readlink -f "$1")
+    ;;
+*)
+    mkdir -p "$data/catalogue-$1"
+    document=$data/catalogue-$1/d.xml
+    [[ -s $document ]] || python3 "$generator" catalogue "$1" "$data/catalogue-$1"
+    ;;
+esac
+
+mkdir -p "$data"
+sheet=$data/one-element.xsl
+printf '%s' '<xsl:stylesheet version="2.0" xmlns:xsl="http://www.w3.org/1999/XSL/Transform">' \
+    '<xsl:template match="/"><r/></xsl:template></xsl:stylesheet>' >"$sheet"
+
+# The smallest user time and the smallest peak of three runs, and the status of the last.
+measure() {
+    local name=$1 times status=0
+    shift
+    times=$(mktemp)
+    for _ in 1 2 3; do
+        status=0
+        /usr/bin/time -q -a -o "$times" -f '%U %M' "$@" >/dev/null 2>&1 || status=$?
+    done
+    awk -v name="$name" -v status="$status" '
+        NR == 1 || $1 < user { user = $1 }
+        NR == 1 || $2 < peak { peak = $2 }
+        END { printf "%-10s user %7.2f s   peak %9d kB   status %d\n", name, user, peak, status }' "$times"
+    rm -f "$times"
+}
+
+# Proves and builds it where need be.
+"$top/xslt2xq" transform "$sheet" "$document" >/dev/null || true
+
+printf '%s: %d bytes\n' "$document" "$(wc -c <"$document")"
+measure xslt2xq "$top/crates/xslt2xq/out/xslt2xq" transform "$sheet" "$document"
+measure xmllint xmllint --noout "$document"

@@ -1,0 +1,140 @@
+-- How the refusals of the parts make the refusals of a request.
+use Rattle.std.proofs.Common.{◌≡◌, ℕ, List, arith, inl, inr, refl, ◌∙◌, false}
+use Rattle.xt_io.specs.Files.{FilesState, KeepsFiles}
+use Rattle.xt_tree.specs.declared.trees.Tree.{Tree}
+use Rattle.doc_reader.specs.Document.{IsDocument}
+use Rattle.sheet_meaning.specs.First.{is_first_sheet}
+use Rattle.xslt2xq.specs.Inputs.{Holdings, HoldsDocument, HoldsNoDocument, HoldsSheet, HoldsNoSheet, IsLoadFailure, IsTooLong, IsReadRefusedAs}
+use Rattle.xslt2xq.specs.Request.{Transform}
+use Rattle.xslt2xq.specs.Result.{Makes, IsResultRefusedAs}
+use Rattle.xslt2xq.specs.Meaning.{HoldsBoth, HasText, IsRefusedAs}
+use Rattle.xslt2xq.specs.declared.status.Status.{Status}
+use Rattle.xslt2xq.specs.declared.status.Status.TheVariants.{Done, Usage, Load, TooLong, Malformed, Static, Outside, Dynamic, Deep, Write, Memory, NoPlace}
+
+-- a refusal, where its wrong form is one of the other kind
+pub refused_also : {A B : Type 0} (file : List ℕ) (old new : FilesState) (status : Status)
+    → (A → B) → IsReadRefusedAs A file old new status → IsReadRefusedAs B file old new status
+refused_also file old new Done f x = x
+refused_also file old new Usage f x = x
+refused_also file old new (Load name) f x = x
+refused_also file old new (TooLong name n) f x = x
+refused_also file old new (Malformed name spot) f x = x
+refused_also file old new (Static code) f x = (x.0, f x.1)
+refused_also file old new (Outside rule) f x = x
+refused_also file old new (Dynamic code) f x = x
+refused_also file old new (Deep depth) f x = x
+refused_also file old new Write f x = x
+refused_also file old new Memory f x = x
+refused_also file old new NoPlace f x = x
+
+-- bytes that stand for no tree stand for no stylesheet
+pub no_sheet : (files : Holdings) (name : List ℕ) → HoldsNoDocument files name → HoldsNoSheet files name
+no_sheet files name x = record { bytes = x.bytes; held = x.held; none = λ tree stands. absurd (x.none tree stands) }
+
+-- bytes that stand for a tree that is no stylesheet stand for no stylesheet
+pub other_form : (files : Holdings) (name : List ℕ) (tree : Tree)
+    → ((bytes : List ℕ) (s t : Tree) → IsDocument bytes s → IsDocument bytes t → s ≡ t)
+    → HoldsDocument files name tree → is_first_sheet tree ≡ false → HoldsNoSheet files name
+other_form files name tree one x form = record {
+  bytes = x.bytes;
+  held = x.held;
+  none = λ t stands. (let same : t ≡ tree = one x.bytes t tree stands x.stands in rw same form);
+}
+
+-- the stylesheet is refused
+pub refused_first : (sheet document : List ℕ) (old new : FilesState) (status : Status)
+    → IsReadRefusedAs (HoldsNoSheet old.held sheet) sheet old new status
+    → IsRefusedAs (Transform sheet document) old new status
+refused_first sheet document old new Done x = x
+refused_first sheet document old new Usage x = x
+refused_first sheet document old new (Load name) x = (inl x.0, rw x.0 x.1)
+refused_first sheet document old new (TooLong name n) x = (inl x.0, rw x.0 x.1)
+refused_first sheet document old new (Malformed name spot) x = x
+refused_first sheet document old new (Static code) x = (x.0, inl x.1)
+refused_first sheet document old new (Outside rule) x = x
+refused_first sheet document old new (Dynamic code) x = absurd x
+refused_first sheet document old new (Deep depth) x = absurd x
+refused_first sheet document old new Write x = x
+refused_first sheet document old new Memory x = x
+refused_first sheet document old new NoPlace x = x
+
+-- nothing was loaded
+pub keeps_none : (files : FilesState) → KeepsFiles files files
+keeps_none files = record {
+  held = refl;
+  faults = record { no_less = omega arith; stops = omega arith };
+  taken = record { no_less = omega arith; stops = omega arith };
+}
+
+-- one load after another
+pub keeps_then : (old mid new : FilesState) → KeepsFiles old mid → KeepsFiles mid new → KeepsFiles old new
+keeps_then old mid new x y = record {
+  held = y.held ∙ x.held;
+  faults = record { no_less = omega (arith, x.faults.no_less, y.faults.no_less); stops = omega (arith, x.faults.stops, y.faults.stops) };
+  taken = record { no_less = omega (arith, x.taken.no_less, y.taken.no_less); stops = omega (arith, x.taken.stops, y.taken.stops) };
+}
+
+-- a load that fails after another one
+failed_later : (old mid new : FilesState) (file : List ℕ) → KeepsFiles old mid → IsLoadFailure mid new file → IsLoadFailure old new file
+failed_later old mid new file keeps x =
+    elim x [ inl rose ↦ inl (omega (arith, keeps.faults.no_less)) | inr missing ↦ inr (rw keeps.held at missing) ]
+
+long_later : (old mid new : FilesState) (file : List ℕ) (n : ℕ) → KeepsFiles old mid → IsTooLong mid new file n → IsTooLong old new file n
+long_later old mid new file n keeps x = (x.0, omega (arith, keeps.taken.no_less), rw keeps.held at x.2)
+
+-- the document is refused, behind a stylesheet
+pub refused_second : (sheet document : List ℕ) (tree : Tree) (old mid new : FilesState) (status : Status)
+    → HoldsSheet old.held sheet tree → KeepsFiles old mid
+    → IsReadRefusedAs (HoldsNoDocument mid.held document) document mid new status
+    → IsRefusedAs (Transform sheet document) old new status
+refused_second sheet document tree old mid new Done held keeps x = x
+refused_second sheet document tree old mid new Usage held keeps x = x
+refused_second sheet document tree old mid new (Load name) held keeps x =
+    (inr (x.0, record { tree = tree; held = held }), rw x.0 (failed_later old mid new document keeps x.1))
+refused_second sheet document tree old mid new (TooLong name n) held keeps x =
+    (inr (x.0, record { tree = tree; held = held }), rw x.0 (long_later old mid new document n keeps x.1))
+refused_second sheet document tree old mid new (Malformed name spot) held keeps x = x
+refused_second sheet document tree old mid new (Static code) held keeps x =
+    (x.0, inr (record { tree = tree; held = held }, rw keeps.held at x.1))
+refused_second sheet document tree old mid new (Outside rule) held keeps x = x
+refused_second sheet document tree old mid new (Dynamic code) held keeps x = absurd x
+refused_second sheet document tree old mid new (Deep depth) held keeps x = absurd x
+refused_second sheet document tree old mid new Write held keeps x = x
+refused_second sheet document tree old mid new Memory held keeps x = x
+refused_second sheet document tree old mid new NoPlace held keeps x = x
+
+-- both are held
+abbrev pub both_held : (sheet document : List ℕ) (s d : Tree) (old mid : FilesState)
+    → HoldsSheet old.held sheet s → KeepsFiles old mid → HoldsDocument mid.held document d → HoldsBoth old.held sheet document
+both_held sheet document s d old mid held keeps x = record {
+  sheet_tree = s;
+  document_tree = d;
+  sheet_held = held;
+  document_held = rw keeps.held at x;
+}
+
+-- the result is refused, behind both
+pub refused_third : (sheet document : List ℕ) (s d : Tree) (old mid new : FilesState) (status : Status)
+    → HoldsSheet old.held sheet s → KeepsFiles old mid → HoldsDocument mid.held document d → IsResultRefusedAs s d status
+    → IsRefusedAs (Transform sheet document) old new status
+refused_third sheet document s d old mid new Done held keeps doc x = x
+refused_third sheet document s d old mid new Usage held keeps doc x = x
+refused_third sheet document s d old mid new (Load name) held keeps doc x = absurd x
+refused_third sheet document s d old mid new (TooLong name n) held keeps doc x = absurd x
+refused_third sheet document s d old mid new (Malformed name spot) held keeps doc x = x
+refused_third sheet document s d old mid new (Static code) held keeps doc x = absurd x
+refused_third sheet document s d old mid new (Outside rule) held keeps doc x = x
+refused_third sheet document s d old mid new (Dynamic code) held keeps doc x = (both_held sheet document s d old mid held keeps doc, x)
+refused_third sheet document s d old mid new (Deep depth) held keeps doc x = (both_held sheet document s d old mid held keeps doc, x.0, x.1)
+refused_third sheet document s d old mid new Write held keeps doc x = x
+refused_third sheet document s d old mid new Memory held keeps doc x = x
+refused_third sheet document s d old mid new NoPlace held keeps doc x = x
+
+-- the text is that of the request
+pub text_made : (sheet document text : List ℕ) (s d : Tree) (old mid : FilesState)
+    → HoldsSheet old.held sheet s → KeepsFiles old mid → HoldsDocument mid.held document d → Makes s d text
+    → HasText (Transform sheet document) old text
+text_made sheet document text s d old mid held keeps doc x = record {
+  inputs = both_held sheet document s d old mid held keeps doc;
+  makes = x;
+}

@@ -1,0 +1,71 @@
+// Files that are loaded and read.
+ghost use Rattle.std.specs.Prelude.{◌≡◌, IfOk, IfErr};
+ghost use Rattle.std.specs.Str.{encode_utf8_all};
+ghost use Rattle.xt_io.specs.Files.{KeepsFiles, IsHeld};
+ghost use Rattle.xslt2xq.specs.Inputs.{HoldsDocument, HoldsNoDocument, HoldsSheet, HoldsNoSheet, IsReadRefusedAs};
+
+use crate::status::Status;
+use doc_reader::{ReadFault, documents_are_one, read};
+use sheet_reader::is_first_sheet;
+use std::alloc::Global;
+use xt_io::{Files, LoadFault};
+use xt_names::{Code, SheetStaticCode, Text};
+use xt_tree::Tree;
+
+/// The greatest number of bytes of a file that is loaded.
+const FILE_LIMIT: u64 = 67_108_864;
+
+/// What is said of a stylesheet or a document that the program cannot read yet.
+const NOT_READ: Status = Status::Static(Code::SheetStatic(SheetStaticCode::XTUN0001));
+
+/// The bytes of a file.
+fn load<F: Files>(alloc: Global, name: &str, files: &mut F) -> Result<Vec<u8>, Status>
+    ensures held { IfOk result (λ bytes. IsHeld (F.state files.old).held name.now bytes.items) }
+    ensures refused { IfErr result (IsReadRefusedAs ⊥ name.now (F.state files.old) (F.state files.new)) }
+    ensures keeps { KeepsFiles (F.state files.old) (F.state files.new) }
+{
+    match files.load(alloc, name, FILE_LIMIT) {
+        Ok(bytes) => Ok(bytes),
+        Err(LoadFault::Failed) => Err(Status::Load(file_name(alloc, name)?)),
+        Err(LoadFault::TooLong(n)) => Err(Status::TooLong(file_name(alloc, name)?, n)),
+        Err(LoadFault::Memory(_)) => Err(Status::Memory),
+    }
+}
+
+fn file_name(alloc: Global, name: &str) -> Result<Text, Status>
+    ensures named { IfOk result (λ text. encode_utf8_all text ≡ name.now) }
+    ensures refused { IfErr result (λ status. status ≡ Status.Memory) }
+{
+    match Text::make(alloc, name) {
+        Ok(text) => Ok(text),
+        Err(_) => Err(Status::Memory),
+    }
+}
+
+/// The tree of the document in a file.
+pub fn load_document<F: Files>(alloc: Global, name: &str, files: &mut F) -> Result<Tree, Status>
+    ensures document { IfOk result (λ tree. HoldsDocument (F.state files.old).held name.now tree) }
+    ensures refused { IfErr result (IsReadRefusedAs (HoldsNoDocument (F.state files.old).held name.now) name.now (F.state files.old) (F.state files.new)) }
+    ensures keeps { KeepsFiles (F.state files.old) (F.state files.new) }
+{
+    let bytes = load(alloc, name, files)?;
+    match read(alloc, &bytes) {
+        Ok(tree) => Ok(tree),
+        Err(ReadFault::Bad(_)) => Err(NOT_READ),
+        Err(ReadFault::Memory(_)) => Err(Status::Memory),
+    }
+}
+
+/// The tree of the stylesheet in a file.
+pub fn load_sheet<F: Files>(alloc: Global, name: &str, files: &mut F) -> Result<Tree, Status>
+    ensures sheet { IfOk result (λ tree. HoldsSheet (F.state files.old).held name.now tree) }
+    ensures refused { IfErr result (IsReadRefusedAs (HoldsNoSheet (F.state files.old).held name.now) name.now (F.state files.old) (F.state files.new)) }
+    ensures keeps { KeepsFiles (F.state files.old) (F.state files.new) }
+{
+    let tree = load_document(alloc, name, files)?;
+    if !is_first_sheet(&tree) {
+        documents_are_one();
+        return Err(NOT_READ);
+    }
+    Ok(tree)
+}
