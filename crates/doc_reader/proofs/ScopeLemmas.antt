@@ -1,11 +1,13 @@
 -- Scopes and start tags, taken apart from their front.
-use Rattle.std.proofs.Common.{◌≡◌, ℕ, zero, suc, ◌+◌, ◌<◌, ◌≤◌, List, [], ◌∷◌, ◌++◌, length, drop, map, get_or, Bool, true, false, cond, Option, Some, None, refl, sym, ap, ◌∙◌, append-nil, append_assoc, arith}
+use Rattle.std.proofs.Common.{◌≡◌, ℕ, zero, suc, ◌+◌, ◌<◌, ◌≤◌, List, [], ◌∷◌, ◌++◌, length, drop, map, get_or, Bool, true, false, not, ◌&&◌, ◌||◌, cond, Option, Some, None, refl, sym, ap, ◌∙◌, append-nil, append_assoc, arith}
 use Rattle.std.proofs.lemmas.Str.{chars-nil}
+use Rattle.std.specs.List.{list_any}
 use Rattle.std.specs.Str.{bytes_eq, chars}
 use Rattle.xt_names.specs.declared.names.Binding.{Binding}
 use Rattle.xt_tree.specs.declared.attributes.Attribute.{Attribute}
+use Rattle.xt_tree.specs.Sound.{names_differ, same_name}
 use Rattle.doc_reader.specs.RawNames.{RawAttribute}
-use Rattle.doc_reader.specs.Scopes.{bound_later, bound_uri, with_declaration, declarations, declared_by, one_named, behind_named, both_named, named_attributes}
+use Rattle.doc_reader.specs.Scopes.{bound_later, bound_uri, with_declaration, declarations, declared_by, one_named, behind_named, both_named, named_attributes, prefix_name, prefixes_differ}
 
 pub chars_empty : chars [] ≡ []
 chars_empty = chars-nil
@@ -98,6 +100,33 @@ behind_both : (front new : List Attribute) (one rest : Option (List Attribute)) 
 behind_both front new None rest e = absurd (cc)
 behind_both front new (Some xs) None e = refl
 behind_both front new (Some xs) (Some rest) e = let same : front ++ xs ≡ new = cc in ap Some (sym (append_assoc front xs rest) ∙ ap (λ (b : List Attribute). b ++ rest) same)
+
+-- one item more of a list
+pub mapped_preserved : {A B : Type 0} (f : A → B) (xs : List A) (i : ℕ) (x : A) (old new all : List B) → i < length xs → x ≡ get_or xs i x
+    → old ++ map f (drop i xs) ≡ all → (y : B) → y ≡ f x → new ≡ old ++ (y ∷ []) → new ++ map f (drop (i + 1) xs) ≡ all
+mapped_preserved {B = B} f xs i x old new all h e inv y m n =
+    let rest = map f (drop (i + 1) xs) in
+    let step : map f (drop i xs) ≡ f x ∷ rest = rw (drop_at xs i x h e) refl in
+    ap (λ (b : List B). b ++ rest) (n ∙ ap (λ (z : B). old ++ (z ∷ [])) m) ∙ append_assoc old (f x ∷ []) rest ∙ ap (λ (b : List B). old ++ b) (sym step) ∙ inv
+
+pub mapped_all : {A B : Type 0} (f : A → B) (xs : List A) (i : ℕ) (old all : List B) → length xs ≤ i → old ++ map f (drop i xs) ≡ all → old ≡ all
+mapped_all f xs i old all h inv =
+    let none : drop i xs ≡ [] = drop_past xs i h in
+    let e : old ++ [] ≡ all = rw none at inv in
+    sym (append-nil old) ∙ e
+
+any_as_names : (b : Binding) (bs : List Binding) → list_any (λ (c : Attribute). same_name (prefix_name b).name c.name) (map prefix_name bs) ≡ list_any (λ (c : Binding). bytes_eq b.prefix c.prefix) bs
+unfolding prefix_name
+any_as_names b [] = refl
+any_as_names b (c ∷ bs) = ap (λ x. bytes_eq b.prefix c.prefix || x) (any_as_names b bs)
+
+-- prefixes differ where they do as names
+pub differ_as_names : (bs : List Binding) → names_differ (map prefix_name bs) ≡ prefixes_differ bs
+unfolding prefixes_differ
+differ_as_names [] = refl
+differ_as_names (b ∷ bs) =
+    ap (λ x. not x && names_differ (map prefix_name bs)) (any_as_names b bs)
+    ∙ ap (λ y. not (list_any (λ (c : Binding). bytes_eq b.prefix c.prefix) bs) && y) (differ_as_names bs)
 
 -- one attribute more is named
 pub named_preserved : {A : Type 0} (view : A → RawAttribute) (scope : List Binding) (xs : List A) (i : ℕ) (x : A) (old new : List Attribute) (all : Option (List Attribute)) → i < length xs → x ≡ get_or xs i x

@@ -50,6 +50,10 @@ unfoldable pub prefixes_differ : List Binding → Bool
 prefixes_differ [] = true
 prefixes_differ (b ∷ bs) = not (list_any (λ c. bytes_eq b.prefix c.prefix) bs) && prefixes_differ bs
 
+-- the prefix of a binding, as the name of an attribute
+unfoldable pub prefix_name : Binding → Attribute
+prefix_name b = record { name = record { prefix = []; uri = []; local = b.prefix }; value = [] }
+
 unfoldable pub are_declarations : List Binding → Bool
 are_declarations bs = list_all is_binding bs && prefixes_differ bs
 

@@ -6,7 +6,7 @@ ghost use Rattle.doc_reader.specs.Machine.{tag, tagged, slashed, content, over, 
 ghost use Rattle.doc_reader.specs.Scopes.{opened};
 ghost use Rattle.doc_reader.specs.Sources.{NextIs};
 ghost use Rattle.doc_reader.specs.View.{tag_of};
-ghost use Rattle.doc_reader.specs.Frames.{frames_of, frames_in, Ran, Reached, ReadsText, CannotClose, Pushes, Closes, OnStep};
+ghost use Rattle.doc_reader.specs.Frames.{frames_of, Ran, Reached, ReadsText, CannotClose, Pushes, Closes, OnStep};
 
 use crate::classes::TextChar;
 use crate::scopes::open_tag;

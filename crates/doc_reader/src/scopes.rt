@@ -1,9 +1,9 @@
 // Namespaces: the names that a start tag gives in a scope.
-ghost use Rattle.std.specs.Prelude.{◌≡◌, ◌++◌, [], true, false, length, map, Some, None, IfOk, OnOk, MatchBool, MatchOption};
-ghost use Rattle.std.specs.List.{list_any, list_all};
+ghost use Rattle.std.specs.Prelude.{◌≡◌, ◌++◌, [], true, false, map, Some, None, IfOk, OnOk, MatchBool, MatchOption};
+ghost use Rattle.std.specs.List.{list_all};
 ghost use Rattle.std.specs.Option.{option_copied, option_map};
-ghost use Rattle.std.specs.Str.{chars, bytes_eq};
-ghost use Rattle.doc_reader.specs.Scopes.{bound_uri, declared_by, declarations, is_binding, prefixes_differ, are_declarations, element_name, attribute_name, named_attributes, opened, in_namespace, with_declaration, one_named, behind_named};
+ghost use Rattle.std.specs.Str.{chars};
+ghost use Rattle.doc_reader.specs.Scopes.{bound_uri, declared_by, declarations, is_binding, prefixes_differ, prefix_name, are_declarations, element_name, attribute_name, named_attributes, opened, in_namespace, with_declaration, one_named, behind_named};
 ghost use Rattle.doc_reader.specs.View.{name_of, attribute_of, tag_of};
 ghost use Rattle.doc_reader.specs.Opening.{OpensTag};
 
@@ -57,7 +57,7 @@ pub(crate) fn open_tag(
     let outer = scope.len();
     declare(alloc, scope, &tag.attributes)?;
     let declared = &scope[outer..];
-    if !are_declarations(declared) {
+    if !are_declarations(alloc, declared)? {
         return Ok(None);
     }
     let declared = declared.len();
@@ -112,10 +112,10 @@ fn declare_one(
 
 /// Whether the declarations of one start tag are allowed.
 #[tactic(auto, unfolding(crate::specs::Scopes::are_declarations))]
-fn are_declarations(bindings: &[Binding]) -> bool
-    ensures { result ≡ are_declarations bindings.now }
+fn are_declarations(alloc: Global, bindings: &[Binding]) -> Result<bool, AllocError>
+    ensures { IfOk result (λ allowed. allowed ≡ are_declarations bindings.now) }
 {
-    are_all_bindings(bindings) && prefixes_differ(bindings)
+    Ok(are_all_bindings(bindings) && prefixes_differ(alloc, bindings)?)
 }
 
 fn are_all_bindings(bindings: &[Binding]) -> bool
@@ -133,20 +133,41 @@ fn is_binding(binding: &Binding) -> bool
         && keeps_xmlns(binding.prefix.as_str(), binding.uri.as_str())
 }
 
-#[tactic(auto, unfolding(crate::specs::Scopes::prefixes_differ))]
-fn prefixes_differ(bindings: &[Binding]) -> bool
-    ensures { result ≡ prefixes_differ bindings.now }
+/// Whether no prefix is declared twice. Prefixes are looked up as names without uri, so that many take no scan.
+#[tactic(auto, using(crate::proofs::ScopeLemmas::differ_as_names))]
+fn prefixes_differ(alloc: Global, bindings: &[Binding]) -> Result<bool, AllocError>
+    ensures { IfOk result (λ differ. differ ≡ prefixes_differ bindings.now) }
 {
-    match bindings {
-        [] => true,
-        [first, rest @ ..] => !has_prefix(rest, &first.prefix) && prefixes_differ(rest),
-    }
+    let names = prefix_names(alloc, bindings)?;
+    Ok(names_differ(alloc, names.as_slice()))
 }
 
-fn has_prefix(bindings: &[Binding], prefix: &Text) -> bool
-    ensures { result ≡ list_any (λ c. bytes_eq prefix.now c.prefix) bindings.now }
+#[tactic(auto, using(crate::proofs::ScopeLemmas::chars_empty))]
+fn prefix_names(alloc: Global, bindings: &[Binding]) -> Result<List<Attribute>, AllocError>
+    ensures { IfOk result (λ names. names ≡ map prefix_name bindings.now) }
 {
-    bindings.iter().any(|b| *prefix == b.prefix)
+    let empty = Text::make(alloc, "")?;
+    let mut names = List::new(alloc);
+    for binding in bindings {
+        names.push(prefix_name(&empty, binding)?)?;
+    }
+    Ok(names)
+}
+
+// The prefix as the name of an attribute.
+#[tactic(auto, unfolding(crate::specs::Scopes::prefix_name))]
+fn prefix_name(empty: &Text, binding: &Binding) -> Result<Attribute, AllocError>
+    requires { empty.now ≡ [] }
+    ensures { IfOk result (λ made. made ≡ prefix_name binding.now) }
+{
+    Ok(Attribute {
+        name: Name {
+            prefix: empty.copy()?,
+            uri: empty.copy()?,
+            local: binding.prefix.copy()?,
+        },
+        value: empty.copy()?,
+    })
 }
 
 /// The name of an element, if its prefix is declared.

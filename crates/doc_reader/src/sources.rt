@@ -1,5 +1,5 @@
 // What is left of a text, and how it is taken character by character and in runs.
-ghost use Rattle.std.specs.Prelude.{◌≡◌, ◌≤◌, length, true, ◌++◌, ◌∷◌, [], slice_get, MatchOption, MatchBool, IsTrue};
+ghost use Rattle.std.specs.Prelude.{◌≡◌, ◌≤◌, length, true, ◌++◌, ◌∷◌, [], slice_get, MatchBool};
 ghost use Rattle.std.specs.List.{list_all};
 ghost use Rattle.std.specs.Str.{chars};
 ghost use Rattle.doc_reader.specs.Document.{Ends};

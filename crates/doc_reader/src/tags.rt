@@ -1,8 +1,7 @@
 // Start tags, as they are written.
 ghost use Rattle.std.specs.Prelude.{◌≡◌, ◌++◌, ◌∷◌, [], ◌≤◌, ◌<◌, true, false, length, List, ℕ, MatchOption, MatchBool, IfOk, IfSome, IfNone, OnSome};
-ghost use Rattle.std.specs.List.{list_all};
 ghost use Rattle.std.specs.Str.{chars};
-ghost use Rattle.doc_reader.specs.Characters.{is_space, is_value, starts_name, is_name_char};
+ghost use Rattle.doc_reader.specs.Characters.{is_space, is_value, starts_name};
 ghost use Rattle.doc_reader.specs.Document.{Ends, Spaces, NCName, QName, Valued, AtEnd};
 ghost use Rattle.doc_reader.specs.RawNames.{with_attribute, tag_named, written_name, RawTag as Tag};
 ghost use Rattle.doc_reader.specs.Machine.{Frame, spaced, tagged, run, StopsAt};

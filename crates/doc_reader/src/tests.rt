@@ -188,24 +188,35 @@ fn too_deep(rt: HostRuntime) -> Result<(), Fail> {
     Ok(())
 }
 
-// One tag of many attributes.
-fn wide(alloc: Global, count: u32) -> Result<String, AllocError> {
+// One tag of many attributes, whose names begin alike.
+fn wide(alloc: Global, begin: &str, count: u32) -> Result<String, AllocError> {
     let mut text = String::from_str(alloc, "<a")?;
     for i in 0..count {
-        text.push_str(format!(in alloc; " k{i}=\"v\"")?.as_str())?;
+        text.push_str(format!(in alloc; " {begin}{i}=\"v\"")?.as_str())?;
     }
     text.push_str("/>")?;
     Ok(text)
 }
 
-fn is_wide_read(alloc: Global, count: u32) -> Result<bool, AllocError> {
-    let text = wide(alloc, count)?;
+fn are_attributes_read(alloc: Global, count: u32) -> Result<bool, AllocError> {
+    let text = wide(alloc, "k", count)?;
     is_read(alloc, text.as_str(), "", u64::from(count).saturating_add(2))
+}
+
+fn are_declarations_read(alloc: Global, count: u32) -> Result<bool, AllocError> {
+    let text = wide(alloc, "xmlns:k", count)?;
+    is_read(alloc, text.as_str(), "", 2)
 }
 
 #[test]
 fn a_megabyte_of_attributes(rt: HostRuntime) -> Result<(), Fail> {
-    assert!(rt; is_wide_read(rt.alloc(), 100_000)?);
+    assert!(rt; are_attributes_read(rt.alloc(), 100_000)?);
+    Ok(())
+}
+
+#[test]
+fn a_megabyte_of_declarations(rt: HostRuntime) -> Result<(), Fail> {
+    assert!(rt; are_declarations_read(rt.alloc(), 60_000)?);
     Ok(())
 }
 
