@@ -1,8 +1,12 @@
 -- How the refusals of the parts make the refusals of a request.
 use Rattle.std.proofs.Common.{◌≡◌, ℕ, List, arith, inl, inr, refl, ◌∙◌, false}
-use Rattle.xt_io.specs.Files.{FilesState, KeepsFiles}
+use Rattle.xt_io.specs.Files.{FilesState, KeepsFiles, IsHeld}
 use Rattle.xt_tree.specs.declared.trees.Tree.{Tree}
 use Rattle.doc_reader.specs.Document.{IsDocument}
+use Rattle.doc_reader.specs.Fault.{HasReadCause}
+use Rattle.doc_reader.specs.declared.faults.ReadFault.{ReadFault}
+use Rattle.doc_reader.specs.declared.faults.ReadFault.TheVariants.{Bad}
+use Rattle.doc_reader.specs.declared.faults.Spot.{Spot}
 use Rattle.sheet_meaning.specs.First.{is_first_sheet}
 use Rattle.xslt2xq.specs.Inputs.{Holdings, HoldsDocument, HoldsNoDocument, HoldsSheet, HoldsNoSheet, IsLoadFailure, IsTooLong, IsReadRefusedAs}
 use Rattle.xslt2xq.specs.Request.{Transform}
@@ -26,6 +30,12 @@ refused_also file old new (Deep depth) f x = x
 refused_also file old new Write f x = x
 refused_also file old new Memory f x = x
 refused_also file old new NoPlace f x = x
+
+-- a file whose bytes are not read holds no document
+pub not_read : (files : Holdings) (name items bytes : List ℕ) (fault : ReadFault) (spot : Spot)
+    → bytes ≡ items → fault ≡ Bad spot → IsHeld files name items → HasReadCause bytes fault → HoldsNoDocument files name
+not_read files name items bytes fault spot same bad held cause =
+    let none : HasReadCause items (Bad spot) = rw (same, bad) at cause in record { bytes = items; held = held; none = none }
 
 -- bytes that stand for no tree stand for no stylesheet
 pub no_sheet : (files : Holdings) (name : List ℕ) → HoldsNoDocument files name → HoldsNoSheet files name
