@@ -1,4 +1,6 @@
 pub mod EscapeLemmas
+pub mod PlaceLemmas
 pub mod PlainLemmas
+pub mod RunLemmas
 pub mod ScopeLemmas
 pub mod WrittenLemmas

@@ -24,7 +24,7 @@ is_end-put (Comment t) rest = refl
 is_end-put (Pi target t) rest = refl
 is_end-put (Attr name t) rest = refl
 
-nonzero : (n : ℕ) → false ≡ nat_eq (suc n) 0
+pub nonzero : (n : ℕ) → false ≡ nat_eq (suc n) 0
 nonzero n = grind (arith, nat_tests)
 
 pub is_end_of : (ts : List Tree) → is_end (forest_of ts) ≡ nat_eq (length ts) 0

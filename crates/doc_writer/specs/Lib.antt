@@ -2,6 +2,7 @@ pub mod Causes
 pub mod Escapes
 pub mod HeadView
 pub mod Heads
+pub mod Places
 pub mod Plain
 pub mod Readable
 pub mod Scopes

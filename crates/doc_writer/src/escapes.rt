@@ -1,9 +1,9 @@
-ghost use Rattle.std.specs.Prelude.{◌≡◌, ◌++◌, ◌<◌, ◌≤◌, OnOk, true};
+ghost use Rattle.std.specs.Prelude.{◌≡◌, ◌++◌, ◌<◌, ◌≤◌, ◌-◌, IfOk, OnOk, length, true};
 ghost use Rattle.std.specs.Fmt.{digit_glyph};
-ghost use Rattle.std.specs.List.{list_all};
+ghost use Rattle.std.specs.List.{flat_map};
 ghost use Rattle.std.specs.Str.{chars};
-ghost use Rattle.doc_writer.specs.Plain.{is_plain_char};
-ghost use Rattle.doc_writer.specs.Escapes.{reference, text_char, value_char, escaped_text, escaped_value};
+ghost use Rattle.doc_writer.specs.Escapes.{reference, escaped_text, escaped_value};
+ghost use Rattle.doc_writer.specs.Plain.{BeginsPlain, is_plain_in_text, is_plain_in_value};
 
 use crate::plain::push_ascii;
 use std::alloc::AllocError;
@@ -13,91 +13,162 @@ use xt_names::{Text, TextBuilder};
 pub(crate) fn push_text(out: &mut TextBuilder, text: &Text) -> Result<(), AllocError>
     ensures { OnOk result (out.new ≡ out.old ++ escaped_text text.now) }
 {
-    if is_plain(text.as_str()) {
-        return push_plain_text(out, text);
-    }
-    for c in text.as_str().chars() {
-        push_text_char(out, c)?;
-    }
-    Ok(())
+    push_escaped::<InText>(out, text.as_str())
 }
 
 /// Writes a text between double quotes.
 pub(crate) fn push_value(out: &mut TextBuilder, text: &Text) -> Result<(), AllocError>
     ensures { OnOk result (out.new ≡ out.old ++ escaped_value text.now) }
 {
-    if is_plain(text.as_str()) {
-        return push_plain_value(out, text);
+    push_escaped::<InValue>(out, text.as_str())
+}
+
+/// How the characters of a text are written.
+trait Escape {
+    ghost use Rattle.std.specs.Prelude.{ℕ, List, ◌∷◌, [], Bool};
+
+    /// What a character is written as.
+    ghost written: { ℕ → List ℕ };
+
+    /// Which characters are written as they are.
+    ghost plain: { ℕ → Bool };
+
+    /// Whether the character is written as it is.
+    fn is_plain(c: char) -> bool
+        ensures test { result ≡ plain c }
+        ensures itself { result ≡ true → written c ≡ c ∷ [] };
+
+    /// Writes a character.
+    fn push_char(out: &mut TextBuilder, c: char) -> Result<(), AllocError>
+        ensures { OnOk result (out.new ≡ out.old ++ written c) };
+}
+
+/// In a text node.
+struct InText;
+
+/// Between double quotes.
+struct InValue;
+
+impl Escape for InText {
+    ghost use Rattle.doc_writer.specs.Escapes.{text_char};
+
+    ghost written = { text_char };
+
+    ghost plain = { is_plain_in_text };
+
+    #[tactic(auto, using(crate::proofs::EscapeLemmas::plain_text_char))]
+    fn is_plain(c: char) -> bool {
+        is_plain_in_text(c)
     }
-    for c in text.as_str().chars() {
-        push_value_char(out, c)?;
+
+    #[tactic(auto, using(crate::proofs::EscapeLemmas::references), unfolding(crate::specs::Escapes::text_char))]
+    fn push_char(out: &mut TextBuilder, c: char) -> Result<(), AllocError> {
+        match c {
+            '&' => push_ascii(out, "&amp;"),
+            '<' => push_ascii(out, "&lt;"),
+            '>' => push_ascii(out, "&gt;"),
+            '\r' => push_ascii(out, "&#xD;"),
+            '\u{7F}'..='\u{9F}' => push_control(out, c),
+            '\u{2028}' => push_ascii(out, "&#x2028;"),
+            _ => out.push(c),
+        }
+    }
+}
+
+impl Escape for InValue {
+    ghost use Rattle.doc_writer.specs.Escapes.{value_char};
+
+    ghost written = { value_char };
+
+    ghost plain = { is_plain_in_value };
+
+    #[tactic(auto, using(crate::proofs::EscapeLemmas::plain_value_char))]
+    fn is_plain(c: char) -> bool {
+        is_plain_in_value(c)
+    }
+
+    #[tactic(auto, using(crate::proofs::EscapeLemmas::references), unfolding(crate::specs::Escapes::value_char))]
+    fn push_char(out: &mut TextBuilder, c: char) -> Result<(), AllocError> {
+        match c {
+            '&' => push_ascii(out, "&amp;"),
+            '<' => push_ascii(out, "&lt;"),
+            '"' => push_ascii(out, "&quot;"),
+            '\t' => push_ascii(out, "&#x9;"),
+            '\n' => push_ascii(out, "&#xA;"),
+            '\r' => push_ascii(out, "&#xD;"),
+            '\u{7F}'..='\u{9F}' => push_control(out, c),
+            '\u{2028}' => push_ascii(out, "&#x2028;"),
+            _ => out.push(c),
+        }
+    }
+}
+
+#[tactic(auto, unfolding(crate::specs::Plain::is_plain_in_text))]
+fn is_plain_in_text(c: char) -> bool
+    ensures { result ≡ is_plain_in_text c }
+{
+    !matches!(c, '&' | '<' | '>' | '\r' | '\u{7F}'..='\u{9F}' | '\u{2028}')
+}
+
+#[tactic(auto, unfolding(crate::specs::Plain::is_plain_in_value))]
+fn is_plain_in_value(c: char) -> bool
+    ensures { result ≡ is_plain_in_value c }
+{
+    !matches!(
+        c,
+        '&' | '<' | '"' | '\t' | '\n' | '\r' | '\u{7F}'..='\u{9F}' | '\u{2028}'
+    )
+}
+
+/// Writes a text piece by piece.
+fn push_escaped<E: Escape>(out: &mut TextBuilder, s: &str) -> Result<(), AllocError>
+    ensures { OnOk result (out.new ≡ out.old ++ flat_map E.written (chars s.now)) }
+{
+    let mut left = s;
+    while !left.is_empty() {
+        left = push_piece::<E>(out, left)?;
     }
     Ok(())
 }
 
-/// Whether no character of the text is written in another way than as itself, so that it can be copied whole.
-fn is_plain(s: &str) -> bool
-    ensures { result ≡ list_all is_plain_char (chars s.now) }
+/// Writes the characters at the front that are plain, in one piece, and the one behind them. Gives what is left.
+fn push_piece<'a, E: Escape>(out: &mut TextBuilder, s: &'a str) -> Result<&'a str, AllocError>
+    ensures written { IfOk result (λ left. out.new ++ flat_map E.written (chars left.now) ≡ out.old ++ flat_map E.written (chars s.now)) }
+    ensures shorter { IfOk result (λ left. length left.now ≤ length s.now - 1) }
 {
-    s.chars().all(|c| is_plain_char(c))
+    let rest = behind_plain::<E>(s);
+    out.push_str(&s[..s.len() - rest.len()])?;
+    let left = push_first::<E>(out, rest)?;
+    Ok(left)
 }
 
-#[tactic(auto, unfolding(crate::specs::Plain::is_plain_char))]
-fn is_plain_char(c: char) -> bool
-    ensures { result ≡ is_plain_char c }
+/// Writes the first character, if there is one. Gives what is left.
+fn push_first<'a, E: Escape>(out: &mut TextBuilder, s: &'a str) -> Result<&'a str, AllocError>
+    ensures written { IfOk result (λ left. out.new ++ flat_map E.written (chars left.now) ≡ out.old ++ flat_map E.written (chars s.now)) }
+    ensures shorter { IfOk result (λ left. length left.now ≤ length s.now - 1) }
 {
-    !matches!(
-        c,
-        '&' | '<' | '>' | '"' | '\t' | '\n' | '\r' | '\u{7F}'..='\u{9F}' | '\u{2028}'
-    )
+    let mut chars = s.chars();
+    let _text = chars.as_str();
+    let Some(c) = chars.next() else {
+        return Ok(s);
+    };
+    E::push_char(out, c)?;
+    Ok(chars.as_str())
 }
 
-#[tactic(auto, using(crate::proofs::EscapeLemmas::plain_text))]
-fn push_plain_text(out: &mut TextBuilder, text: &Text) -> Result<(), AllocError>
-    requires { list_all is_plain_char text.now ≡ true }
-    ensures { OnOk result (out.new ≡ out.old ++ escaped_text text.now) }
+/// What is behind the characters at the front that are plain.
+fn behind_plain<'a, E: Escape>(s: &'a str) -> &'a str
+    ensures { BeginsPlain E.written s.now result.now }
 {
-    out.push_text(text)
-}
-
-#[tactic(auto, using(crate::proofs::EscapeLemmas::plain_value))]
-fn push_plain_value(out: &mut TextBuilder, text: &Text) -> Result<(), AllocError>
-    requires { list_all is_plain_char text.now ≡ true }
-    ensures { OnOk result (out.new ≡ out.old ++ escaped_value text.now) }
-{
-    out.push_text(text)
-}
-
-#[tactic(auto, using(crate::proofs::EscapeLemmas::references), unfolding(crate::specs::Escapes::text_char))]
-fn push_text_char(out: &mut TextBuilder, c: char) -> Result<(), AllocError>
-    ensures { OnOk result (out.new ≡ out.old ++ text_char c) }
-{
-    match c {
-        '&' => push_ascii(out, "&amp;"),
-        '<' => push_ascii(out, "&lt;"),
-        '>' => push_ascii(out, "&gt;"),
-        '\r' => push_ascii(out, "&#xD;"),
-        '\u{7F}'..='\u{9F}' => push_control(out, c),
-        '\u{2028}' => push_ascii(out, "&#x2028;"),
-        _ => out.push(c),
+    let mut chars = s.chars();
+    let mut rest = chars.as_str();
+    while let Some(c) = chars.next() {
+        if !E::is_plain(c) {
+            break;
+        }
+        rest = chars.as_str();
     }
-}
-
-#[tactic(auto, using(crate::proofs::EscapeLemmas::references), unfolding(crate::specs::Escapes::value_char))]
-fn push_value_char(out: &mut TextBuilder, c: char) -> Result<(), AllocError>
-    ensures { OnOk result (out.new ≡ out.old ++ value_char c) }
-{
-    match c {
-        '&' => push_ascii(out, "&amp;"),
-        '<' => push_ascii(out, "&lt;"),
-        '"' => push_ascii(out, "&quot;"),
-        '\t' => push_ascii(out, "&#x9;"),
-        '\n' => push_ascii(out, "&#xA;"),
-        '\r' => push_ascii(out, "&#xD;"),
-        '\u{7F}'..='\u{9F}' => push_control(out, c),
-        '\u{2028}' => push_ascii(out, "&#x2028;"),
-        _ => out.push(c),
-    }
+    rest
 }
 
 /// Writes a character whose number has two hexadecimal digits as its reference.

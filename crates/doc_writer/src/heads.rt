@@ -1,14 +1,13 @@
 ghost use Rattle.std.specs.Prelude.{◌≡◌, ℕ, ◌++◌, ◌∷◌, ◌≤◌, [], length, take, IfOk, OnOk};
-ghost use Rattle.std.specs.List.{list_any};
-ghost use Rattle.std.specs.Str.{bytes_eq};
-ghost use Rattle.doc_writer.specs.Heads.{head_of, keeps_prefix, may_declare, with_element, with_attribute, empty_head};
+ghost use Rattle.doc_writer.specs.Heads.{head_of, keeps_prefix, may_declare, with_element, with_attribute};
 ghost use Rattle.doc_writer.specs.HeadView.{head_at};
 ghost use Rattle.doc_writer.specs.Scopes.{binding};
 
 use crate::plain::ascii_text;
 use crate::scopes::Scope;
+use crate::used::UsedPrefixes;
 use std::alloc::{AllocError, Global};
-use xt_names::{Binding, Name, Text};
+use xt_names::{Name, Text};
 use xt_tree::Attribute;
 
 /// The scope, and the prefixes that the present start tag writes.
@@ -16,7 +15,7 @@ use xt_tree::Attribute;
 pub(crate) struct Heads {
     pub scope: Scope,
     /// The prefix of the element, and then those of its attributes.
-    pub used: Vec<Text>,
+    pub used: UsedPrefixes,
 }
 
 impl Heads {
@@ -31,7 +30,7 @@ impl Heads {
         ensures place { IfOk result (λ place. place ≡ length self.old.scope) }
         ensures outer { IfOk result (λ place. take place self.new.scope ≡ self.old.scope) }
         ensures within { IfOk result (λ place. place ≤ length self.new.scope) }
-        ensures head { IfOk result (λ place. head_at place self.new.scope self.new.used.items ≡ head_of self.old.scope name.now attributes.now) }
+        ensures head { IfOk result (λ place. head_at place self.new.scope self.new.used ≡ head_of self.old.scope name.now attributes.now) }
     {
         let place = self.scope.len();
         self.used.clear();
@@ -47,7 +46,7 @@ impl Heads {
         requires { place ≤ length self.old.scope }
         ensures outer { OnOk result (take place self.new.scope ≡ take place self.old.scope) }
         ensures within { OnOk result (place ≤ length self.new.scope) }
-        ensures head { OnOk result (head_at place self.new.scope self.new.used.items ≡ with_element (head_at place self.old.scope self.old.used.items) name.now) }
+        ensures head { OnOk result (head_at place self.new.scope self.new.used ≡ with_element (head_at place self.old.scope self.old.used) name.now) }
     {
         if self.scope.binds_to(&name.prefix, &name.uri) {
             self.write(name.prefix.copy()?)
@@ -61,7 +60,7 @@ impl Heads {
         requires { place ≤ length self.old.scope }
         ensures outer { OnOk result (take place self.new.scope ≡ take place self.old.scope) }
         ensures within { OnOk result (place ≤ length self.new.scope) }
-        ensures head { OnOk result (head_at place self.new.scope self.new.used.items ≡ with_attribute (head_at place self.old.scope self.old.used.items) name.now) }
+        ensures head { OnOk result (head_at place self.new.scope self.new.used ≡ with_attribute (head_at place self.old.scope self.old.used) name.now) }
     {
         if name.uri.is_empty() {
             return self.write(ascii_text(alloc, "")?);
@@ -69,7 +68,7 @@ impl Heads {
         if self.keeps_prefix(name) {
             return self.write(name.prefix.copy()?);
         }
-        if self.may_declare(place, &name.prefix) {
+        if self.may_declare(place, &name.prefix)? {
             return self.declare(name.prefix.copy()?, &name.uri);
         }
         let prefix = self.scope.free_prefix(alloc)?;
@@ -78,25 +77,28 @@ impl Heads {
 
     #[tactic(auto, unfolding(crate::specs::Heads::keeps_prefix))]
     fn keeps_prefix(&self, name: &Name) -> bool
-        ensures { (place : ℕ) → result ≡ keeps_prefix (head_at place self.now.scope self.now.used.items) name.now }
+        ensures { (place : ℕ) → result ≡ keeps_prefix (head_at place self.now.scope self.now.used) name.now }
     {
         !name.prefix.is_empty() && self.scope.binds_to(&name.prefix, &name.uri)
     }
 
     #[tactic(auto, unfolding(crate::specs::Heads::may_declare))]
-    fn may_declare(&self, place: usize, prefix: &Text) -> bool
-        requires { place ≤ length self.now.scope }
-        ensures { result ≡ may_declare (head_at place self.now.scope self.now.used.items) prefix.now }
+    fn may_declare(&mut self, place: usize, prefix: &Text) -> Result<bool, AllocError>
+        requires { place ≤ length self.old.scope }
+        ensures scope { self.new.scope ≡ self.old.scope }
+        ensures used { self.new.used ≡ self.old.used }
+        ensures may { IfOk result (λ may. may ≡ may_declare (head_at place self.old.scope self.old.used) prefix.now) }
     {
-        !prefix.is_empty()
-            && !is_among(self.used.as_slice(), prefix)
-            && !is_declared(self.scope.from(place), prefix)
+        if prefix.is_empty() || self.scope.binds_from(place, prefix) {
+            return Ok(false);
+        }
+        Ok(!self.used.has(prefix)?)
     }
 
     /// The next name of the tag is written with the prefix.
     fn write(&mut self, prefix: Text) -> Result<(), AllocError>
         ensures scope { self.new.scope ≡ self.old.scope }
-        ensures used { OnOk result (self.new.used.items ≡ self.old.used.items ++ prefix ∷ []) }
+        ensures used { OnOk result (self.new.used ≡ self.old.used ++ prefix ∷ []) }
     {
         self.used.push(prefix)?;
         Ok(())
@@ -105,21 +107,9 @@ impl Heads {
     /// The same, where the prefix is first declared.
     fn declare(&mut self, prefix: Text, uri: &Text) -> Result<(), AllocError>
         ensures scope { OnOk result (self.new.scope ≡ self.old.scope ++ binding prefix uri.now ∷ []) }
-        ensures used { OnOk result (self.new.used.items ≡ self.old.used.items ++ prefix ∷ []) }
+        ensures used { OnOk result (self.new.used ≡ self.old.used ++ prefix ∷ []) }
     {
         self.scope.push(prefix.copy()?, uri.copy()?)?;
         self.write(prefix)
     }
-}
-
-fn is_among(prefixes: &[Text], prefix: &Text) -> bool
-    ensures { result ≡ list_any (λ p. bytes_eq p prefix.now) prefixes.now }
-{
-    prefixes.iter().any(|p| *p == *prefix)
-}
-
-fn is_declared(bindings: &[Binding], prefix: &Text) -> bool
-    ensures { result ≡ list_any (λ b. bytes_eq b.prefix prefix.now) bindings.now }
-{
-    bindings.iter().any(|b| b.prefix == *prefix)
 }

@@ -13,6 +13,7 @@ mod escapes;
 mod heads;
 mod plain;
 mod scopes;
+mod used;
 mod writers;
 
 pub use causes::WriteRefusal;

@@ -285,10 +285,14 @@ fn written_len(alloc: Global, tree: &Tree) -> usize {
     }
 }
 
+/// A hundred characters, of which one is written as a reference.
+const HUNDRED: &str =
+    "0123456789012345678901234567890123456789012345678901234567890123456789012345678901234567890123456&89";
+
 fn long_text(alloc: Global) -> Result<Tree, AllocError> {
     let mut text = String::new(alloc);
-    for _ in 0..1_000_000 {
-        text.push_str("0123456&89")?;
+    for _ in 0..100_000 {
+        text.push_str(HUNDRED)?;
     }
     Ok(Tree::Text(Text::of_string(text)?))
 }
@@ -309,10 +313,41 @@ fn deep(alloc: Global) -> Result<Tree, AllocError> {
     Ok(tree)
 }
 
+/// An attribute of the prefix p, in a namespace of its own.
+fn add_numbered(
+    attributes: &mut List<Attribute>,
+    alloc: Global,
+    number: u32,
+) -> Result<(), AllocError> {
+    let uri = format!(in alloc; "u{number}")?;
+    add_attribute(attributes, alloc, name(alloc, "p", uri.as_str(), "k")?, "v")
+}
+
+/// An element with 10,000 attributes of one prefix and as many namespaces.
+fn crowded(alloc: Global) -> Result<Tree, AllocError> {
+    let mut attributes = List::new(alloc);
+    for number in 0..10_000 {
+        add_numbered(&mut attributes, alloc, number)?;
+    }
+    with_kids(
+        alloc,
+        name(alloc, "", "", "a")?,
+        attributes,
+        List::new(alloc),
+    )
+}
+
+#[test]
+fn many_prefixes_are_made(rt: HostRuntime) -> Result<(), Fail> {
+    let tree = crowded(rt.alloc())?;
+    assert_eq!(rt; written_len(rt.alloc(), &tree), 336_702);
+    Ok(())
+}
+
 #[test]
 fn a_long_text_is_written(rt: HostRuntime) -> Result<(), Fail> {
     let tree = long_text(rt.alloc())?;
-    assert_eq!(rt; written_len(rt.alloc(), &tree), 14_000_038);
+    assert_eq!(rt; written_len(rt.alloc(), &tree), 10_400_038);
     Ok(())
 }
 

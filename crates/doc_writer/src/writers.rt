@@ -1,16 +1,16 @@
-ghost use Rattle.std.specs.Prelude.{◌≡◌, ◌++◌, ◌≤◌, length, drop, take, IfOk, IfErr, OnOk, Some, codes};
+ghost use Rattle.std.specs.Prelude.{◌≡◌, ◌++◌, take, IfOk, IfErr, OnOk, Some};
 ghost use Rattle.xt_tree.specs.TreeView.{forest_of};
 ghost use Rattle.doc_writer.specs.Causes.{HasWriteCause};
-ghost use Rattle.doc_writer.specs.HeadView.{head_at};
 ghost use Rattle.doc_writer.specs.Heads.{head_of};
-ghost use Rattle.doc_writer.specs.Scopes.{first_scope};
+ghost use Rattle.doc_writer.specs.Places.{bindings_of};
 ghost use Rattle.doc_writer.specs.Written.{qualified, quoted, declaration, declarations, written_attribute, written_attributes, later_prefixes, start_tag, is_end, element_rest, written_comment, written_pi, written_forest, written_node, written_text, written_tree};
 
 use crate::causes::WriteRefusal;
 use crate::escapes::{push_text, push_value};
 use crate::heads::Heads;
 use crate::plain::push_ascii;
-use crate::scopes::Scope;
+use crate::scopes::{Entry, Scope};
+use crate::used::UsedPrefixes;
 use std::alloc::{AllocError, Global};
 use xt_names::{Binding, Code, DynamicCode, Name, Text, TextBuilder};
 use xt_tree::{Attribute, Tree};
@@ -36,7 +36,7 @@ fn write_text(alloc: Global, tree: &Tree) -> Result<TextBuilder, AllocError>
         out: TextBuilder::new(alloc),
         heads: Heads {
             scope: Scope::first(alloc)?,
-            used: Vec::new(alloc),
+            used: UsedPrefixes::new(alloc),
         },
     };
     push_ascii(
@@ -167,11 +167,11 @@ fn push_quoted(out: &mut TextBuilder, value: &Text) -> Result<(), AllocError>
     push_ascii(out, "\"")
 }
 
-fn push_declarations(out: &mut TextBuilder, bindings: &[Binding]) -> Result<(), AllocError>
-    ensures { OnOk result (out.new ≡ out.old ++ declarations bindings.now) }
+fn push_declarations(out: &mut TextBuilder, entries: &[Entry]) -> Result<(), AllocError>
+    ensures { OnOk result (out.new ≡ out.old ++ declarations (bindings_of entries.now)) }
 {
-    for binding in bindings {
-        push_declaration(out, binding)?;
+    for entry in entries {
+        push_declaration(out, &entry.binding)?;
     }
     Ok(())
 }

@@ -7,6 +7,6 @@ abbrev pub invariant-loop-attribute : goal.invariant-loop-attribute
 invariant-loop-attribute l = record {
   outer : take l.place l.self.scope ≡ take l.initial.place l.initial.self.scope;
   within : l.place ≤ length l.self.scope;
-  head : with_attributes (head_at l.place l.self.scope l.self.used.items) (drop l.attribute-index l.attributes)
-      ≡ with_attributes (head_at l.place l.initial.self.scope l.initial.self.used.items) l.attributes;
+  head : with_attributes (head_at l.place l.self.scope l.self.used) (drop l.attribute-index l.attributes)
+      ≡ with_attributes (head_at l.place l.initial.self.scope l.initial.self.used) l.attributes;
 }
