@@ -1,5 +1,5 @@
 // The edge to the system: a few lines over std, which tell nothing of what files hold or where bytes go.
-ghost use Rattle.std.specs.Prelude.{◌≡◌, ◌≤◌, ◌+◌, None, IfOk, IfErr, vec_len};
+ghost use Rattle.std.specs.Prelude.{◌≤◌, ◌+◌, None, IfOk, IfErr, vec_len};
 ghost use Rattle.xt_io.specs.Disk.{HasReadCause};
 
 use crate::{Files, LoadFault, Sink, SinkFault};
