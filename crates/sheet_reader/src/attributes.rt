@@ -1,6 +1,5 @@
 // The attributes of the elements of a stylesheet.
 ghost use Rattle.std.specs.Prelude.{◌≡◌};
-ghost use Rattle.std.specs.Str.{chars};
 ghost use Rattle.sheet_meaning.specs.First.{is_version, is_match, is_first_pattern, is_no_attribute};
 
 use xt_names::{Text, is_ascii_text, is_ncname};

@@ -5,6 +5,7 @@ ghost use Rattle.sheet_meaning.specs.First.{is_named_stylesheet, is_named_templa
 use sheet_meaning::is_in_xslt;
 use xt_names::{Name, is_ascii_text};
 
+/// Whether it is the name xsl:stylesheet.
 #[tactic(auto, unfolding(sheet_meaning::specs::First::is_named_stylesheet))]
 pub fn is_stylesheet(name: &Name) -> bool
     ensures { result ≡ is_named_stylesheet name.now }
@@ -12,6 +13,7 @@ pub fn is_stylesheet(name: &Name) -> bool
     is_in_xslt(name) && is_ascii_text(name.local.as_str(), "stylesheet")
 }
 
+/// Whether it is the name xsl:template.
 #[tactic(auto, unfolding(sheet_meaning::specs::First::is_named_template))]
 pub fn is_template(name: &Name) -> bool
     ensures { result ≡ is_named_template name.now }
@@ -19,6 +21,7 @@ pub fn is_template(name: &Name) -> bool
     is_in_xslt(name) && is_ascii_text(name.local.as_str(), "template")
 }
 
+/// Whether it is the name xsl:apply-templates.
 #[tactic(auto, unfolding(sheet_meaning::specs::First::is_named_apply_templates))]
 pub fn is_apply_templates(name: &Name) -> bool
     ensures { result ≡ is_named_apply_templates name.now }

@@ -1,7 +1,7 @@
 // The content of an element or a document while it is made.
-ghost use Rattle.std.specs.Prelude.{◌≡◌, ◌++◌, ◌∷◌, [], OnOk, IfOk};
+ghost use Rattle.std.specs.Prelude.{◌≡◌, ◌++◌, OnOk, IfOk};
 ghost use Rattle.xt_tree.specs.TreeView.{forest_of};
-ghost use Rattle.xslt_run.specs.Content.{Built, built, empty, pending_text, flushed, all_of, with_text, with_tree};
+ghost use Rattle.xslt_run.specs.Content.{built, empty, pending_text, flushed, all_of, with_text, with_tree};
 
 use std::alloc::{AllocError, Global};
 use std::mem;
@@ -24,6 +24,7 @@ pub enum Pending {
 }
 
 impl Content {
+    /// No items yet.
     pub fn new(alloc: Global) -> Content
         ensures { built result ≡ empty }
     {
