@@ -130,55 +130,147 @@ fn at(alloc: Global, path: &[usize], attribute: Option<usize>) -> Result<Option<
     Node::at_place(alloc, 7, sample(alloc)?, path, attribute)
 }
 
-fn is_element_a(a: &Node) -> Result<bool, AllocError> {
-    let kids = a.child_count() == 4 && a.child(3)?.is_some() && a.child(4)?.is_none();
-    let attributes = a.attribute_count() == 2
-        && a.attribute(1)?.is_some()
-        && a.attribute(2)?.is_none();
-    Ok(
-        kids && attributes
-            && a.kind() == Kind::Elem
-            && a.number() == 7
-            && a.path().len() == 1
-            && a.tree().size() == 9
-            && a.subtree()?.size() == 8
-            && a.parent()?.is_some()
-            && same_node(a, &a.copy()?),
-    )
+fn has_child(node: &Node, i: usize) -> Result<bool, AllocError> {
+    Ok(node.child(i)?.is_some())
 }
 
-fn is_attribute_y(alloc: Global, y: &Node) -> Result<bool, AllocError> {
-    let text = y.string_value(alloc)?;
-    Ok(
-        y.kind() == Kind::Attr
-            && y.attribute_place() == Some(1)
-            && y.child_count() == 0
-            && y.attribute_count() == 0
-            && y.name().is_some()
-            && y.subtree()?.kind() == Kind::Attr
-            && text.as_str() == "2",
-    )
+fn has_attribute(node: &Node, i: usize) -> Result<bool, AllocError> {
+    Ok(node.attribute(i)?.is_some())
 }
 
-fn node_a_is_right(alloc: Global) -> Result<bool, AllocError> {
-    match at(alloc, &[0], None)? {
-        Some(a) => is_element_a(&a),
+fn has_parent(node: &Node) -> Result<bool, AllocError> {
+    Ok(node.parent()?.is_some())
+}
+
+fn has_subtree_of(node: &Node, kind: Kind, size: u64) -> Result<bool, AllocError> {
+    let tree = node.subtree()?;
+    Ok(tree.kind() == kind && tree.size() == size)
+}
+
+fn is_its_copy(node: &Node) -> Result<bool, AllocError> {
+    Ok(same_node(node, &node.copy()?))
+}
+
+fn has_value(alloc: Global, node: &Node, value: &str) -> Result<bool, AllocError> {
+    Ok(node.string_value(alloc)?.as_str() == value)
+}
+
+fn is_at_element_a(a: &Node) -> bool {
+    a.kind() == Kind::Elem && a.number() == 7 && a.path().len() == 1 && a.tree().size() == 9
+}
+
+fn has_the_counts_of_a(a: &Node) -> bool {
+    a.child_count() == 4 && a.attribute_count() == 2 && a.attribute_place().is_none()
+}
+
+fn is_at_attribute_y(y: &Node) -> bool {
+    y.kind() == Kind::Attr && y.attribute_place() == Some(1) && y.name().is_some()
+}
+
+fn has_no_parts(y: &Node) -> bool {
+    y.child_count() == 0 && y.attribute_count() == 0
+}
+
+fn element_a(alloc: Global) -> Result<Option<Node>, AllocError> {
+    at(alloc, &[0], None)
+}
+
+fn attribute_y(alloc: Global) -> Result<Option<Node>, AllocError> {
+    at(alloc, &[0], Some(1))
+}
+
+fn a_is_right(alloc: Global) -> Result<bool, AllocError> {
+    match element_a(alloc)? {
+        Some(a) => Ok(is_at_element_a(&a) && has_the_counts_of_a(&a)),
         None => Ok(false),
     }
 }
 
-fn node_y_is_right(alloc: Global) -> Result<bool, AllocError> {
-    match at(alloc, &[0], Some(1))? {
-        Some(y) => is_attribute_y(alloc, &y),
+fn a_has_child(alloc: Global, i: usize) -> Result<bool, AllocError> {
+    match element_a(alloc)? {
+        Some(a) => has_child(&a, i),
+        None => Ok(false),
+    }
+}
+
+fn a_has_attribute(alloc: Global, i: usize) -> Result<bool, AllocError> {
+    match element_a(alloc)? {
+        Some(a) => has_attribute(&a, i),
+        None => Ok(false),
+    }
+}
+
+fn a_has_its_parent(alloc: Global) -> Result<bool, AllocError> {
+    match element_a(alloc)? {
+        Some(a) => has_parent(&a),
+        None => Ok(false),
+    }
+}
+
+fn a_has_its_subtree(alloc: Global) -> Result<bool, AllocError> {
+    match element_a(alloc)? {
+        Some(a) => has_subtree_of(&a, Kind::Elem, 8),
+        None => Ok(false),
+    }
+}
+
+fn a_is_copied(alloc: Global) -> Result<bool, AllocError> {
+    match element_a(alloc)? {
+        Some(a) => is_its_copy(&a),
+        None => Ok(false),
+    }
+}
+
+fn y_is_right(alloc: Global) -> Result<bool, AllocError> {
+    match attribute_y(alloc)? {
+        Some(y) => Ok(is_at_attribute_y(&y) && has_no_parts(&y)),
+        None => Ok(false),
+    }
+}
+
+fn y_has_its_subtree(alloc: Global) -> Result<bool, AllocError> {
+    match attribute_y(alloc)? {
+        Some(y) => has_subtree_of(&y, Kind::Attr, 1),
+        None => Ok(false),
+    }
+}
+
+fn y_has_its_value(alloc: Global) -> Result<bool, AllocError> {
+    match attribute_y(alloc)? {
+        Some(y) => has_value(alloc, &y, "2"),
         None => Ok(false),
     }
 }
 
 #[test]
 fn nodes_know_their_places(rt: HostRuntime) -> Result<(), Fail> {
-    assert!(rt; node_a_is_right(rt.alloc())?);
-    assert!(rt; node_y_is_right(rt.alloc())?);
+    assert!(rt; a_is_right(rt.alloc())?);
+    assert!(rt; y_is_right(rt.alloc())?);
     assert!(rt; at(rt.alloc(), &[0, 4], None)?.is_none());
+    Ok(())
+}
+
+#[test]
+fn nodes_find_their_parts(rt: HostRuntime) -> Result<(), Fail> {
+    assert!(rt; a_has_child(rt.alloc(), 3)?);
+    assert!(rt; !a_has_child(rt.alloc(), 4)?);
+    assert!(rt; a_has_attribute(rt.alloc(), 1)?);
+    assert!(rt; !a_has_attribute(rt.alloc(), 2)?);
+    Ok(())
+}
+
+#[test]
+fn nodes_give_trees_and_texts(rt: HostRuntime) -> Result<(), Fail> {
+    assert!(rt; a_has_its_subtree(rt.alloc())?);
+    assert!(rt; y_has_its_subtree(rt.alloc())?);
+    assert!(rt; y_has_its_value(rt.alloc())?);
+    Ok(())
+}
+
+#[test]
+fn nodes_give_nodes(rt: HostRuntime) -> Result<(), Fail> {
+    assert!(rt; a_has_its_parent(rt.alloc())?);
+    assert!(rt; a_is_copied(rt.alloc())?);
     Ok(())
 }
 
