@@ -2,7 +2,7 @@
 ghost use Rattle.std.specs.Prelude.{◌≡◌, ◌⊎◌, Some, map, IfOk, IfErr, OnErr, OnOk};
 ghost use Rattle.std.specs.String.{string_bytes};
 ghost use Rattle.xt_io.specs.Files.{KeepsFiles};
-ghost use Rattle.xt_io.specs.Sink.{Puts, PutsPrefix};
+ghost use Rattle.xt_io.specs.Sink.{PutsPrefix};
 ghost use Rattle.xslt2xq.specs.Request.{Asked, asked, request_of};
 ghost use Rattle.xslt2xq.specs.Meaning.{HasText, IsRefusedAs};
 ghost use Rattle.xslt2xq.specs.Status.{note_line};
