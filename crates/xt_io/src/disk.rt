@@ -1,5 +1,5 @@
 // The edge to the system: a few lines over std, which tell nothing of what files hold or where bytes go.
-ghost use Rattle.std.specs.Prelude.{◌≤◌, ◌+◌, None, IfOk, IfErr, vec_len};
+ghost use Rattle.std.specs.Prelude.{◌≡◌, ◌≤◌, ◌+◌, None, IfOk, IfErr, vec_len};
 ghost use Rattle.xt_io.specs.Disk.{HasReadCause};
 
 use crate::{Files, LoadFault, Sink, SinkFault};
@@ -30,7 +30,10 @@ impl<R> Drop for DiskFiles<'_, R> {
 
 impl<'a, R: FileSystem> DiskFiles<'a, R> {
     /// The files that the system shows; nothing has been read, and nothing has failed.
-    pub fn new(rt: &'a R) -> Self {
+    pub fn new(rt: &'a R) -> Self
+        ensures faults { result.faults ≡ 0 }
+        ensures taken { result.taken ≡ 0 }
+    {
         DiskFiles {
             rt,
             faults: 0,
@@ -103,7 +106,9 @@ pub struct StdSink<W> {
 
 impl<W: Write> StdSink<W> {
     /// A sink over the writer; nothing has failed.
-    pub fn new(writer: W) -> Self {
+    pub fn new(writer: W) -> Self
+        ensures { result.faults ≡ 0 }
+    {
         StdSink { writer, faults: 0 }
     }
 }
