@@ -113,7 +113,7 @@ may_root rooted = false
 
 -- document ::= XMLDecl? Misc* (doctypedecl Misc*)? element Misc*, behind the children so far; `Misc` here has no white space
 pub data Top (rules : Rules) : Level → List Tree → List ℕ → Tree → Type 0 where
-  declares : {kids : List Tree} {ts mid : List ℕ} {w : Tree} → Spelled xml_declaration ts mid → Top rules fresh [] mid w → Top rules blank kids (60 ∷ 63 ∷ 120 ∷ 109 ∷ 108 ∷ ts) w
+  declares : {kids : List Tree} {ts mid : List ℕ} {w : Tree} → Spelled xml_declaration ts mid → Top rules fresh kids mid w → Top rules blank kids (60 ∷ 63 ∷ 120 ∷ 109 ∷ 108 ∷ ts) w
   space : {l : Level} {c : ℕ} {kids : List Tree} {ts : List ℕ} {w : Tree} → is_space c ≡ true → Top rules (begun l) kids ts w → Top rules l kids (c ∷ ts) w
   aside : {l : Level} {kids : List Tree} {ts mid : List ℕ} {tree w : Tree} → Misc ts tree mid → Top rules (begun l) (kids ++ tree ∷ []) mid w → Top rules l kids ts w
   types : {l : Level} {kids : List Tree} {ts mid : List ℕ} {w : Tree} → may_type l ≡ true → Spelled doctype_declaration ts mid → Top rules typed kids mid w → Top rules l kids (60 ∷ 33 ∷ ts) w

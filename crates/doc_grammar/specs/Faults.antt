@@ -1,11 +1,9 @@
 -- Where and why a text is refused.
-use Rattle.std.specs.Prelude.{◌≡◌, ℕ, suc, List, length, take, ⊤}
+use Rattle.std.specs.Prelude.{ℕ, suc, List, length, take}
 use Rattle.std.specs.Str.{chars}
 use Rattle.std.specs.Str.Lossy.{utf8_valid_len}
-use Rattle.xt_tree.specs.declared.trees.Tree.{Tree}
 use Rattle.doc_grammar.specs.Scopes.{opened}
 use Rattle.doc_grammar.specs.Lines.{text_of, offset}
-use Rattle.doc_grammar.specs.Document.{IsDocument}
 use Rattle.doc_grammar.specs.Machine.{Stop, names, deep, entity, subset, encoding, other, End, whole, stops, run, start}
 use Rattle.doc_grammar.specs.declared.spots.Spot.{Spot}
 use Rattle.doc_grammar.specs.declared.spots.Spot.TheVariants.{At, Subset, Encoding, Entity, Deep}
@@ -21,7 +19,7 @@ spot_at other at = At at
 
 -- the spot at which a reading of these characters ends
 abbrev pub spot_of : List ℕ → List ℕ → End → Spot
-spot_of bytes cs (whole tree) = At (length bytes)
+spot_of bytes cs (whole tree declared) = At (length bytes)
 spot_of bytes cs (stops why rest) = spot_at why (offset cs rest)
 
 -- the longest front of the bytes that is UTF-8

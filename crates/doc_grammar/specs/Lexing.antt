@@ -1,8 +1,8 @@
 -- The reader inside of references, comments, processing instructions and CDATA sections, character by character.
-use Rattle.std.specs.Prelude.{ℕ, ◌+◌, ◌*◌, List, [], ◌∷◌, ◌++◌, Option, Some, None, ◌==◌, ◌||◌, nat_le, if◌then◌else◌, codes}
+use Rattle.std.specs.Prelude.{ℕ, ◌+◌, ◌*◌, List, [], ◌∷◌, ◌++◌, Option, Some, None, ◌==◌, nat_le, if◌then◌else◌}
 use Rattle.xt_tree.specs.declared.trees.Tree.{Tree}
 use Rattle.xt_tree.specs.declared.trees.Tree.TheVariants.{Comment, Pi}
-use Rattle.doc_grammar.specs.Characters.{is_space, is_char, starts_name, is_name_char, Base, decimal, hexadecimal, base_of, digit, last_char}
+use Rattle.doc_grammar.specs.Characters.{is_space, is_char, Base, decimal, hexadecimal, base_of, digit, last_char}
 
 -- where the reader stands in a reference
 pub data Ref : Type 0 where

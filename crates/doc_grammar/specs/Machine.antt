@@ -1,5 +1,5 @@
 -- The reader, character by character.
-use Rattle.std.specs.Prelude.{◌≡◌, ℕ, suc, List, [], ◌∷◌, ◌++◌, Bool, true, false, not, ◌&&◌, ◌||◌, Option, Some, None, ◌==◌, nat_lt, if◌then◌else◌, codes}
+use Rattle.std.specs.Prelude.{◌≡◌, ℕ, suc, List, [], ◌∷◌, ◌++◌, Bool, false, ◌||◌, Option, Some, None, ◌==◌, nat_lt, if◌then◌else◌, codes}
 use Rattle.std.specs.Str.{bytes_eq}
 use Rattle.xt_names.specs.declared.names.Binding.{Binding}
 use Rattle.xt_tree.specs.TreeView.{forest_of}
@@ -7,7 +7,7 @@ use Rattle.xt_tree.specs.declared.trees.Tree.{Tree}
 use Rattle.xt_tree.specs.declared.trees.Tree.TheVariants.{Doc}
 use Rattle.doc_grammar.specs.Characters.{is_space, is_value, as_value, is_quote, starts_name, is_name_char, may_stand, brackets_behind}
 use Rattle.doc_grammar.specs.RawNames.{RawName, written_name, RawTag, with_attribute, tag_named}
-use Rattle.doc_grammar.specs.Scopes.{Opened, top_scope}
+use Rattle.doc_grammar.specs.Scopes.{Opened, declarations, top_scope}
 use Rattle.doc_grammar.specs.Lexemes.{is_target}
 use Rattle.doc_grammar.specs.Forms.{Form, FormStep, Part, form_step, form_part}
 use Rattle.doc_grammar.specs.Forms as form
@@ -17,9 +17,9 @@ use Rattle.doc_grammar.specs.Lexing.{Ref, RefStep, ref_step, ampersand, letter_a
 use Rattle.doc_grammar.specs.Lexing as lexing
 
 -- what is open: the elements, the innermost first, each with its name as it was written, what its tag opened, and its
--- children so far; below them the document with its children so far
+-- children so far; below them the document with its children so far, and the namespace declarations of each element so far
 pub data Stack : Type 0 where
-  ground : Level → List Tree → Stack
+  ground : Level → List Tree → List (List Binding) → Stack
   element : RawName → Opened → List Tree → Stack → Stack
 
 -- where the reader stands in a name: behind these characters of its last part, or behind its colon
@@ -83,27 +83,37 @@ pub data State : Type 0 where
 
 -- how many elements are open
 abbrev pub depth : Stack → ℕ
-depth (ground l kids) = 0
+depth (ground l kids ds) = 0
 depth (element name o kids st) = suc (depth st)
 
 -- the bindings that are in force
 abbrev pub scope_of : Stack → List Binding
-scope_of (ground l kids) = top_scope
+scope_of (ground l kids ds) = top_scope
 scope_of (element name o kids st) = o.scope
+
+-- with something read
+abbrev pub with_begun : Stack → Stack
+with_begun (ground l kids ds) = ground (begun l) kids ds
+with_begun (element name o kids st) = element name o kids st
+
+-- with the declarations of an element more
+abbrev pub with_declared : List Binding → Stack → Stack
+with_declared d (ground l kids ds) = ground l kids (ds ++ d ∷ [])
+with_declared d (element name o kids st) = element name o kids (with_declared d st)
 
 -- with a comment or an instruction more
 abbrev pub with_aside : Tree → Stack → Stack
-with_aside n (ground l kids) = ground (begun l) (kids ++ n ∷ [])
+with_aside n (ground l kids ds) = ground (begun l) (kids ++ n ∷ []) ds
 with_aside n (element name o kids st) = element name o (kids ++ n ∷ []) st
 
 -- with an element more
 abbrev pub with_child : Tree → Stack → Stack
-with_child n (ground l kids) = ground rooted (kids ++ n ∷ [])
+with_child n (ground l kids ds) = ground rooted (kids ++ n ∷ []) ds
 with_child n (element name o kids st) = element name o (kids ++ n ∷ []) st
 
 -- with a text more; there is none among the children of the document
 abbrev pub with_text : List ℕ → Stack → Stack
-with_text text (ground l kids) = ground l kids
+with_text text (ground l kids ds) = ground l kids ds
 with_text text (element name o kids st) = element name o (kids ++ text_nodes text) st
 
 -- behind an element
@@ -112,11 +122,11 @@ behind n st = content 0 [] (with_child n st)
 
 -- an element may begin
 abbrev pub may_open : Stack → Bool
-may_open (ground l kids) = may_root l
+may_open (ground l kids ds) = may_root l
 may_open (element name o kids st) = nat_lt (depth (element name o kids st)) limit
 
 abbrev pub in_content : ℕ → List ℕ → Stack → ℕ → Option State
-in_content n text (ground l kids) c = if is_space c then Some (content 0 [] (ground (begun l) kids)) else None
+in_content n text (ground l kids ds) c = if is_space c then Some (content 0 [] (with_begun (ground l kids ds))) else None
 in_content n text (element name o kids st) c =
     if c == 38 then Some (refers text ampersand (element name o kids st))
     else if may_stand n c then Some (content (brackets_behind n c) (text ++ c ∷ []) (element name o kids st)) else None
@@ -144,15 +154,15 @@ in_forming st form.fails = None
 
 -- behind `<!`, where no comment begins
 abbrev pub in_bang : List ℕ → Stack → ℕ → Option State
-in_bang text (ground l kids) c = if may_type l then in_forming (ground typed kids) (form_step doctype_declaration c) else None
+in_bang text (ground l kids ds) c = if may_type l then in_forming (ground typed kids ds) (form_step doctype_declaration c) else None
 in_bang text (element name o kids st) c = if c == 91 then Some (marked (section_open (codes "CDATA[")) text (element name o kids st)) else None
 
 -- a target of the name `xml` is that of the XML declaration, if nothing comes before it
 abbrev pub declares : Stack → List ℕ → Bool
-declares (ground blank kids) target = bytes_eq target (codes "xml")
-declares (ground fresh kids) target = false
-declares (ground typed kids) target = false
-declares (ground rooted kids) target = false
+declares (ground blank kids ds) target = bytes_eq target (codes "xml")
+declares (ground fresh kids ds) target = false
+declares (ground typed kids ds) target = false
+declares (ground rooted kids ds) target = false
 declares (element name o kids st) target = false
 
 abbrev pub behind_plain_target : List ℕ → List ℕ → Stack → ℕ → Option State
@@ -162,10 +172,10 @@ behind_plain_target target text st c =
 
 abbrev pub behind_target : List ℕ → List ℕ → Stack → ℕ → Option State
 behind_target target text st c =
-    if declares st target then in_forming (ground fresh []) (form_step xml_declaration c) else behind_plain_target target text st c
+    if declares st target then in_forming (with_begun st) (form_step xml_declaration c) else behind_plain_target target text st c
 
 abbrev pub behind_slash : List ℕ → Stack → Option State
-behind_slash text (ground l kids) = None
+behind_slash text (ground l kids ds) = None
 behind_slash text (element name o kids st) = Some (ending (written_name name) (element name o (kids ++ text_nodes text) st))
 
 abbrev pub in_tag : List ℕ → Stack → ℕ → Option State
@@ -174,11 +184,11 @@ in_tag text st c =
 
 abbrev pub opens : RawTag → Stack → Option Opened → Option State
 opens t st None = None
-opens t st (Some o) = Some (content 0 [] (element t.name o [] st))
+opens t st (Some o) = Some (content 0 [] (element t.name o [] (with_declared (declarations t.attributes) st)))
 
-abbrev pub closes : Stack → Option Opened → Option State
-closes st None = None
-closes st (Some o) = Some (behind (element_of o []) st)
+abbrev pub closes : RawTag → Stack → Option Opened → Option State
+closes t st None = None
+closes t st (Some o) = Some (behind (element_of o []) (with_declared (declarations t.attributes) st))
 
 -- the end of a start tag
 abbrev pub at_end : Rules → RawTag → Stack → ℕ → Option State
@@ -211,7 +221,7 @@ in_ending (d ∷ left) st c = if c == d then Some (ending left st) else None
 
 -- the innermost element is whole
 abbrev pub closed : Stack → Option State
-closed (ground l kids) = None
+closed (ground l kids ds) = None
 closed (element name o kids st) = Some (behind (element_of o kids) st)
 
 abbrev pub in_ended : Stack → ℕ → Option State
@@ -242,7 +252,7 @@ step rules (valued t name quote read st) c =
     else if c == 38 then Some (value_refers t name quote read ampersand st)
     else if is_value quote c then Some (valued t name quote (read ++ as_value c ∷ []) st) else None
 step rules (value_refers t name quote read r st) c = in_value_reference t name quote read st (ref_step r c)
-step rules (slashed t st) c = if c == 62 then closes st (rules (scope_of st) t) else None
+step rules (slashed t st) c = if c == 62 then closes t st (rules (scope_of st) t) else None
 step rules (ending left st) c = behind_ending left st c
 step rules (ended st) c = in_ended st c
 
@@ -265,7 +275,7 @@ stop_in_name c (behind_name name) = at_close c
 stop_in_name c fails = other
 
 abbrev pub stop_before_name : Stack → Stop
-stop_before_name (ground l kids) = other
+stop_before_name (ground l kids ds) = other
 stop_before_name (element name o kids st) = deep
 
 -- a reference by name: a name begins right behind `&`, or it goes on or ends elsewhere
@@ -307,16 +317,16 @@ stop_at (slashed t st) c = at_close c
 stop_at (ending left st) c = other
 stop_at (ended st) c = other
 
--- how a reading ends: with a tree, or before the rest, which does not go on
+-- how a reading ends: with a tree and the declarations of each of its elements in document order, or before the rest, which does not go on
 pub data End : Type 0 where
-  whole : Tree → End
+  whole : Tree → List (List Binding) → End
   stops : Stop → List ℕ → End
 
 abbrev pub finish_ground : Stack → End
-finish_ground (ground blank kids) = stops other []
-finish_ground (ground fresh kids) = stops other []
-finish_ground (ground typed kids) = stops other []
-finish_ground (ground rooted kids) = whole (Doc (forest_of kids))
+finish_ground (ground blank kids ds) = stops other []
+finish_ground (ground fresh kids ds) = stops other []
+finish_ground (ground typed kids ds) = stops other []
+finish_ground (ground rooted kids ds) = whole (Doc (forest_of kids)) ds
 finish_ground (element name o kids st) = stops other []
 
 abbrev pub finish : State → End
@@ -333,7 +343,7 @@ run rules (c ∷ cs) s = or_stop (run rules cs) (stops (stop_at s c) (c ∷ cs))
 
 -- before the first character
 abbrev pub start : State
-start = content 0 [] (ground blank [])
+start = content 0 [] (ground blank [] [])
 
 -- the reading stops before the rest
 abbrev pub StopsAt : End → List ℕ → Type 0
