@@ -2,15 +2,19 @@
 use Rattle.std.proofs.Common.{◌≡◌, ℕ, List, [], ◌∷◌, ◌++◌, arith, Bool, true, false, ◌||◌, ◌==◌, refl, sym, subst}
 use Rattle.std.proofs.lemmas.Bool.{eqb-true}
 use Rattle.xt_names.specs.Classes.{is_in_ranges, ncname_start_ranges}
-use Rattle.doc_reader.specs.Characters.{is_space, is_text, is_value, starts_name, is_name_char}
-
-pub text_open : is_text 60 ≡ false
-unfolding is_text is_in_ranges
-text_open = refl
+use Rattle.doc_grammar.specs.Characters.{is_space, is_char, is_text, is_value, starts_name, is_name_char}
 
 pub slash_starts : starts_name 47 ≡ false
 unfolding starts_name is_in_ranges
 slash_starts = refl
+
+pub bang_starts : starts_name 33 ≡ false
+unfolding starts_name is_in_ranges
+bang_starts = refl
+
+pub question_starts : starts_name 63 ≡ false
+unfolding starts_name is_in_ranges
+question_starts = refl
 
 pub close_starts : starts_name 62 ≡ false
 unfolding starts_name is_in_ranges
@@ -24,6 +28,10 @@ pub close_space : is_space 62 ≡ false
 unfolding is_space
 close_space = refl
 
+pub equals_space : is_space 61 ≡ false
+unfolding is_space
+equals_space = refl
+
 pub colon_name : is_name_char 58 ≡ false
 unfolding is_name_char is_in_ranges
 colon_name = refl
@@ -31,10 +39,6 @@ colon_name = refl
 pub equals_name : is_name_char 61 ≡ false
 unfolding is_name_char is_in_ranges
 equals_name = refl
-
-pub quote_value : is_value 34 ≡ false
-unfolding is_value is_text is_in_ranges
-quote_value = refl
 
 space_32 : starts_name 32 ≡ false
 unfolding starts_name is_in_ranges

@@ -1,14 +1,5 @@
-pub mod CharacterFacts
-pub mod Residue
-pub mod Rests
-pub mod Steps
-pub mod Runs
-pub mod SourceLemmas
-pub mod Spans
-pub mod TagSpans
-pub mod ScanLemmas
-pub mod AttributeLemmas
-pub mod TagLemmas
-pub mod ScopeLemmas
-pub mod FrameLemmas
-pub mod ReaderLemmas
+mod CharacterFacts
+mod SourceLemmas
+mod ScanLemmas
+mod NameLemmas
+mod ScopeLemmas

@@ -1,10 +1,9 @@
-pub mod Characters
-pub mod RawNames
-pub mod Scopes
-pub mod Document
-pub mod Machine
+pub mod Reading
 pub mod Sources
+pub mod Classes
 pub mod View
-pub mod Frames
+pub mod References
+pub mod Asides
+pub mod Spelling
 pub mod Opening
-pub mod Fault
+pub mod Frames

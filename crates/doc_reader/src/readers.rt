@@ -1,312 +1,311 @@
-// The reader: the elements that are open, and what comes next.
-ghost use Rattle.std.specs.Prelude.{◌≡◌, ◌∷◌, [], ◌<◌, ◌≤◌, length, List, ℕ, Some, None, IfOk, OnOk, MatchOption};
-ghost use Rattle.std.specs.Str.{chars};
-ghost use Rattle.doc_reader.specs.Document.{AtEnd};
-ghost use Rattle.doc_reader.specs.Machine.{tag, tagged, slashed, content, over, run, with_text, behind, scope_of, start, whole, StopsAt};
-ghost use Rattle.doc_reader.specs.Scopes.{opened};
-ghost use Rattle.doc_reader.specs.Sources.{NextIs};
-ghost use Rattle.doc_reader.specs.View.{tag_of};
-ghost use Rattle.doc_reader.specs.Frames.{frames_of, Ran, Reached, ReadsText, CannotClose, Pushes, Closes, OnStep};
-
-use crate::classes::TextChar;
-use crate::scopes::open_tag;
+// The reader: what is open, and what comes next.
+use crate::buffers::Buffer;
+use crate::classes::{Bracket, PlainText};
+use crate::names::RawName;
 use crate::sources::Source;
-use crate::tags::{RawName, RawTag};
+use crate::steps::{Step, Stop};
 use std::alloc::{AllocError, Global};
-use xt_names::{Binding, List, Name, Text};
+use xt_names::{Binding, List, Name, Text, is_ascii_text};
 use xt_tree::{Attrs, Kids, Tree};
 
 /// How many elements are open at most.
-const LIMIT: usize = 2000;
+pub(crate) const LIMIT: usize = 2000;
 
 /// An element that is open.
 #[derive(Drop)]
 pub(crate) struct Frame<'a> {
-    name: RawName<'a>,
-    element: Name,
-    attributes: Attrs,
+    pub(crate) name: RawName<'a>,
+    pub(crate) element: Name,
+    pub(crate) attributes: Attrs,
     /// How many namespace declarations its start tag has.
-    declared: usize,
-    kids: List<Tree>,
+    pub(crate) declared: usize,
+    pub(crate) kids: List<Tree>,
 }
 
-/// What a step of the reader came to.
-#[derive(Drop)]
-pub(crate) enum Step {
-    /// The next part of the content was read.
-    On,
-    /// The root element was read.
-    Root(Tree),
-    /// The text does not go on as a document.
-    Stop,
+/// What has been read of the document.
+#[derive(Clone, Copy, PartialEq, Eq)]
+pub(crate) enum Level {
+    /// Nothing.
+    Blank,
+    /// Something, but neither a DOCTYPE nor the root.
+    Fresh,
+    /// A DOCTYPE and not the root.
+    Typed,
+    /// The root.
+    Rooted,
 }
 
 #[derive(Drop)]
 pub(crate) struct Reader<'a> {
-    source: Source<'a>,
-    frames: Vec<Frame<'a>>,
+    pub(crate) source: Source<'a>,
+    /// The elements that are open, the innermost last.
+    pub(crate) frames: Vec<Frame<'a>>,
     /// The bindings in force, the innermost last.
-    scope: Vec<Binding>,
+    pub(crate) scope: Vec<Binding>,
+    /// The text so far in the innermost element.
+    pub(crate) text: Buffer,
+    /// What is being read of a value, a comment or an instruction.
+    pub(crate) piece: Buffer,
+    pub(crate) level: Level,
+    /// The children of the document so far.
+    pub(crate) kids: List<Tree>,
+    /// The declarations of each element so far.
+    pub(crate) declared: List<List<Binding>>,
+    /// The empty text, which names share.
+    pub(crate) empty: Text,
 }
 
 impl<'a> Reader<'a> {
-    /// Puts an element behind what the innermost open element has.
-    fn add(&mut self, tree: Tree) -> Result<Step, AllocError>
-        ensures reached { IfOk result (λ s. Reached (behind tree (frames_of self.old.frames.items self.old.scope.items)) (frames_of self.new.frames.items self.new.scope.items) s) }
-        ensures source { self.new.source ≡ self.old.source }
-    {
-        match self.frames.pop() {
-            None => Ok(Step::Root(tree)),
-            Some(mut frame) => {
-                frame.kids.push(tree)?;
-                self.frames.push(frame)?;
-                Ok(Step::On)
-            }
+    /// Before the first character of a text.
+    pub(crate) fn new(alloc: Global, text: &'a str) -> Result<Reader<'a>, AllocError> {
+        Ok(Reader {
+            source: Source::new(text),
+            frames: Vec::new(alloc),
+            scope: Vec::new(alloc),
+            text: Buffer::new(alloc),
+            piece: Buffer::new(alloc),
+            level: Level::Blank,
+            kids: List::new(alloc),
+            declared: List::new(alloc),
+            empty: Text::make(alloc, "")?,
+        })
+    }
+
+    /// Reads the next part of the content, or of the document around its root.
+    pub(crate) fn part(&mut self, alloc: Global) -> Result<Step, AllocError> {
+        if self.source.eat('<') {
+            return self.markup(alloc);
+        }
+        if self.frames.is_empty() {
+            return Ok(self.around());
+        }
+        self.characters()
+    }
+
+    /// Reads white space around the root.
+    fn around(&mut self) -> Step {
+        if !self.source.spaces() {
+            return Step::Stopped(Stop::Other);
+        }
+        self.begin();
+        Step::On
+    }
+
+    /// Something is read.
+    fn begin(&mut self) {
+        self.text.clear();
+        if self.level == Level::Blank {
+            self.level = Level::Fresh;
         }
     }
 
-    /// Puts a text behind what the innermost open element has, where there is a text.
-    fn add_text(&mut self, alloc: Global, text: &str) -> Result<(), AllocError>
-        ensures frames { OnOk result (frames_of self.new.frames.items self.new.scope.items ≡ with_text (chars text.now) (frames_of self.old.frames.items self.old.scope.items)) }
-        ensures source { self.new.source ≡ self.old.source }
-    {
-        if text.is_empty() {
-            return Ok(());
+    /// Reads characters of an element's content.
+    fn characters(&mut self) -> Result<Step, AllocError> {
+        if self.source.eat('&') {
+            return match self.source.reference() {
+                Ok(c) => {
+                    self.text.push(c)?;
+                    Ok(Step::On)
+                }
+                Err(stop) => Ok(Step::Stopped(stop)),
+            };
         }
+        if self.source.eat('>') {
+            self.text.push('>')?;
+            return Ok(Step::On);
+        }
+        if self.source.is_next(']') {
+            return self.brackets();
+        }
+        self.plain_text()
+    }
+
+    fn plain_text(&mut self) -> Result<Step, AllocError> {
+        let run = self.source.take_run::<PlainText>();
+        if run.is_empty() {
+            return Ok(Step::Stopped(Stop::Other));
+        }
+        self.text.push_str(run)?;
+        Ok(Step::On)
+    }
+
+    /// Reads closing brackets, and stops before a `>` behind two of them.
+    fn brackets(&mut self) -> Result<Step, AllocError> {
+        let run = self.source.take_run::<Bracket>();
+        self.text.push_str(run)?;
+        if run.len() >= 2 && self.source.is_next('>') {
+            return Ok(Step::Stopped(Stop::Other));
+        }
+        Ok(Step::On)
+    }
+
+    /// Reads what stands behind `<`.
+    fn markup(&mut self, alloc: Global) -> Result<Step, AllocError> {
+        match self.source.peek() {
+            Some('/') => self.end_tag(alloc),
+            Some('!') => self.bang(alloc),
+            Some('?') => self.question(alloc),
+            _ => self.start_tag(alloc),
+        }
+    }
+
+    /// Reads a comment, a section or a DOCTYPE, before its `!`.
+    fn bang(&mut self, alloc: Global) -> Result<Step, AllocError> {
+        let _bang = self.source.eat('!');
+        if self.source.eat('-') {
+            return self.comment(alloc);
+        }
+        if self.frames.is_empty() {
+            return Ok(self.doctype());
+        }
+        self.section()
+    }
+
+    fn comment(&mut self, alloc: Global) -> Result<Step, AllocError> {
+        self.piece.clear();
+        if !self.source.comment(&mut self.piece)? {
+            return Ok(Step::Stopped(Stop::Other));
+        }
+        let comment = Tree::Comment(self.piece.to_text(alloc)?);
+        self.aside(alloc, comment)?;
+        Ok(Step::On)
+    }
+
+    fn section(&mut self) -> Result<Step, AllocError> {
+        if !self.source.eat('[') {
+            return Ok(Step::Stopped(Stop::Other));
+        }
+        if self.source.section(&mut self.text)? {
+            Ok(Step::On)
+        } else {
+            Ok(Step::Stopped(Stop::Other))
+        }
+    }
+
+    fn doctype(&mut self) -> Step {
+        if self.level == Level::Typed || self.level == Level::Rooted {
+            return Step::Stopped(Stop::Other);
+        }
+        let step = self.source.doctype();
+        self.text.clear();
+        self.level = Level::Typed;
+        step
+    }
+
+    /// Reads an instruction, or the XML declaration, before its `?`.
+    fn question(&mut self, alloc: Global) -> Result<Step, AllocError> {
+        let _question = self.source.eat('?');
+        let Some(target) = self.source.ncname() else {
+            return Ok(Step::Stopped(Stop::Other));
+        };
+        if self.level == Level::Blank && self.frames.is_empty() && is_ascii_text(target, "xml") {
+            let step = self.source.xml_declaration();
+            self.begin();
+            return Ok(step);
+        }
+        if target.eq_ignore_ascii_case("xml") {
+            return Ok(Step::Stopped(Stop::Other));
+        }
+        self.instruction(alloc, target)
+    }
+
+    /// Reads an instruction behind its target.
+    fn instruction(&mut self, alloc: Global, target: &str) -> Result<Step, AllocError> {
+        self.piece.clear();
+        if !self.source.instruction(&mut self.piece)? {
+            return Ok(Step::Stopped(Stop::Other));
+        }
+        let target = Text::make(alloc, target)?;
+        let instruction = Tree::Pi(target, self.piece.to_text(alloc)?);
+        self.aside(alloc, instruction)?;
+        Ok(Step::On)
+    }
+
+    /// Puts a comment or an instruction behind what is open.
+    fn aside(&mut self, alloc: Global, tree: Tree) -> Result<(), AllocError> {
+        self.flush(alloc)?;
         match self.frames.pop() {
-            None => Ok(()),
+            None => {
+                self.begin();
+                self.kids.push(tree)
+            }
             Some(mut frame) => {
-                frame.kids.push(Tree::Text(Text::make(alloc, text)?))?;
+                frame.kids.push(tree)?;
                 self.frames.push(frame)?;
                 Ok(())
             }
         }
     }
 
-    /// Takes the text that comes next in the innermost open element.
-    fn text(&mut self, alloc: Global) -> Result<(), AllocError>
-        ensures read { OnOk result (ReadsText (run self.old.source (content [] (frames_of self.old.frames.items self.old.scope.items))) self.new.source
-            (frames_of self.old.frames.items self.old.scope.items) (frames_of self.new.frames.items self.new.scope.items)) }
-        ensures shorter { length self.new.source ≤ length self.old.source }
-    {
-        if self.frames.is_empty() {
+    /// Makes the text so far a node, where there is a text.
+    pub(crate) fn flush(&mut self, alloc: Global) -> Result<(), AllocError> {
+        if self.text.is_empty() {
             return Ok(());
         }
-        let text = self.source.take_run::<TextChar>();
-        self.add_text(alloc, text)
-    }
-
-    /// Makes the element of a frame that is no longer open.
-    fn close(&mut self, alloc: Global, frame: Frame<'a>) -> Result<Step, AllocError>
-        ensures reached { IfOk result (λ s. Closes frame.entry self.old.frames.items self.old.scope.items (frames_of self.new.frames.items self.new.scope.items) s) }
-        ensures source { self.new.source ≡ self.old.source }
-    {
-        let Frame {
-            name: _,
-            element,
-            attributes,
-            declared,
-            kids,
-        } = frame;
-        self.scope
-            .truncate(self.scope.len().saturating_sub(declared));
-        let kids = Kids::make(alloc, kids)?;
-        self.add(Tree::Elem(element, attributes, kids))
-    }
-
-    /// Reads the next part of the content, or of the text before the root.
-    pub(crate) fn part(&mut self, alloc: Global) -> Result<Step, AllocError>
-        ensures ran { IfOk result (λ s. Ran (run self.old.source (content [] (frames_of self.old.frames.items self.old.scope.items))) self.new.source
-            (frames_of self.new.frames.items self.new.scope.items) s) }
-        ensures shorter { IfOk result (λ s. OnStep s (length self.new.source < length self.old.source)) }
-    {
-        self.text(alloc)?;
-        if !self.source.eat('<') {
-            return Ok(Step::Stop);
+        match self.frames.pop() {
+            None => {}
+            Some(mut frame) => {
+                frame.kids.push(Tree::Text(self.text.to_text(alloc)?))?;
+                self.frames.push(frame)?;
+            }
         }
-        self.markup(alloc)
+        self.text.clear();
+        Ok(())
     }
+}
 
-    /// Reads what stands behind `<`.
-    fn markup(&mut self, alloc: Global) -> Result<Step, AllocError>
-        ensures ran { IfOk result (λ s. Ran (run self.old.source (tag [] (frames_of self.old.frames.items self.old.scope.items))) self.new.source
-            (frames_of self.new.frames.items self.new.scope.items) s) }
-        ensures shorter { length self.new.source ≤ length self.old.source }
-    {
-        if self.frames.is_empty() {
-            return self.start_tag(alloc);
-        }
-        if self.source.eat('/') {
-            return self.end_tag(alloc);
-        }
-        self.start_tag(alloc)
-    }
+/// What a text stands for.
+#[derive(Drop)]
+pub(crate) struct Whole {
+    pub(crate) tree: Tree,
+    pub(crate) declared: List<List<Binding>>,
+}
 
-    /// Reads a start tag behind its `<`.
-    fn start_tag(&mut self, alloc: Global) -> Result<Step, AllocError>
-        requires { CannotClose (frames_of self.old.frames.items self.old.scope.items) self.old.source }
-        ensures ran { IfOk result (λ s. Ran (run self.old.source (tag [] (frames_of self.old.frames.items self.old.scope.items))) self.new.source
-            (frames_of self.new.frames.items self.new.scope.items) s) }
-        ensures shorter { length self.new.source ≤ length self.old.source }
-    {
-        if self.frames.len() >= LIMIT {
-            return Ok(Step::Stop);
-        }
-        let Some(name) = self.source.name() else {
-            return Ok(Step::Stop);
-        };
-        match self.source.tag(alloc, name)? {
-            Some(tag) => self.open(alloc, tag),
-            None => Ok(Step::Stop),
-        }
-    }
+/// Why a reading stops, and how many characters are left there.
+#[derive(Clone, Copy)]
+pub(crate) struct Refusal {
+    pub(crate) stop: Stop,
+    pub(crate) left: usize,
+}
 
-    /// Reads the end of a start tag.
-    fn open(&mut self, alloc: Global, tag: RawTag<'a>) -> Result<Step, AllocError>
-        requires { AtEnd self.old.source }
-        ensures ran { IfOk result (λ s. Ran (run self.old.source (tagged (tag_of tag.entry) (frames_of self.old.frames.items self.old.scope.items))) self.new.source
-            (frames_of self.new.frames.items self.new.scope.items) s) }
-        ensures shorter { length self.new.source ≤ length self.old.source }
-    {
-        if self.source.eat('/') {
-            self.open_empty(alloc, tag)
-        } else {
-            self.open_full(alloc, tag)
-        }
-    }
-
-    /// Reads the `>` of a start tag, and opens its element.
-    fn open_full(&mut self, alloc: Global, tag: RawTag<'a>) -> Result<Step, AllocError>
-        requires { NextIs 62 self.old.source }
-        ensures ran { IfOk result (λ s. Ran (run self.old.source (tagged (tag_of tag.entry) (frames_of self.old.frames.items self.old.scope.items))) self.new.source
-            (frames_of self.new.frames.items self.new.scope.items) s) }
-        ensures shorter { length self.new.source ≤ length self.old.source }
-    {
-        let Some(frame) = self.open_frame(alloc, tag)? else {
-            return Ok(Step::Stop);
-        };
-        let _closed = self.source.eat('>');
-        self.frames.push(frame)?;
-        Ok(Step::On)
-    }
-
-    /// Reads the `>` of an empty-element tag, and makes its element.
-    fn open_empty(&mut self, alloc: Global, tag: RawTag<'a>) -> Result<Step, AllocError>
-        ensures ran { IfOk result (λ s. Ran (run self.old.source (slashed (tag_of tag.entry) (frames_of self.old.frames.items self.old.scope.items))) self.new.source
-            (frames_of self.new.frames.items self.new.scope.items) s) }
-        ensures shorter { length self.new.source ≤ length self.old.source }
-    {
-        if !self.source.is_next('>') {
-            return Ok(Step::Stop);
-        }
-        let Some(frame) = self.open_frame(alloc, tag)? else {
-            return Ok(Step::Stop);
-        };
-        let _closed = self.source.eat('>');
-        self.close(alloc, frame)
-    }
-
-    /// The frame of a start tag, whose declarations come into force; None where the tag breaks a rule on names.
-    fn open_frame(
-        &mut self,
-        alloc: Global,
-        tag: RawTag<'a>,
-    ) -> Result<Option<Frame<'a>>, AllocError>
-        ensures opens { IfOk result (λ o. MatchOption o (opened (scope_of (frames_of self.old.frames.items self.old.scope.items)) (tag_of tag.entry) ≡ None)
-            (λ f. Pushes (tag_of tag.entry) (frames_of self.old.frames.items self.old.scope.items) f self.new.frames.items self.new.scope.items)) }
-        ensures source { self.new.source ≡ self.old.source }
-    {
-        self.enter(alloc)?;
-        match open_tag(alloc, &mut self.scope, &tag)? {
-            None => Ok(None),
-            Some(opened) => Ok(Some(Frame {
-                name: tag.name,
-                element: opened.element,
-                attributes: opened.attributes,
-                declared: opened.declared,
-                kids: List::new(alloc),
+impl<'a> Reader<'a> {
+    /// Reads a whole text.
+    pub(crate) fn read(alloc: Global, text: &str) -> Result<Result<Whole, Refusal>, AllocError> {
+        let mut reader = Reader::new(alloc, text)?;
+        match reader.parts(alloc)? {
+            Step::On => reader.finish(alloc),
+            Step::Stopped(stop) => Ok(Err(Refusal {
+                stop,
+                left: reader.source.left(),
             })),
         }
     }
 
-    /// Puts the first bindings into force where no element is open.
-    fn enter(&mut self, alloc: Global) -> Result<(), AllocError>
-        ensures scope { OnOk result (self.new.scope.items ≡ scope_of (frames_of self.old.frames.items self.old.scope.items)) }
-        ensures frames { OnOk result (frames_of self.new.frames.items self.new.scope.items ≡ frames_of self.old.frames.items self.old.scope.items) }
-        ensures source { self.new.source ≡ self.old.source }
-    {
-        if self.frames.is_empty() {
-            self.scope.clear();
-            self.scope.push(Binding {
-                prefix: Text::make(alloc, "xml")?,
-                uri: Text::make(alloc, "http://www.w3.org/XML/1998/namespace")?,
-            })?;
-        }
-        Ok(())
-    }
-
-    /// Reads an end tag behind its `</`.
-    fn end_tag(&mut self, alloc: Global) -> Result<Step, AllocError>
-        requires { 0 < length self.old.frames.items }
-        ensures ran { IfOk result (λ s. Ran (run (47 ∷ self.old.source) (tag [] (frames_of self.old.frames.items self.old.scope.items))) self.new.source
-            (frames_of self.new.frames.items self.new.scope.items) s) }
-        ensures shorter { length self.new.source ≤ length self.old.source }
-    {
-        match self.frames.pop() {
-            None => Ok(Step::Stop),
-            Some(frame) => {
-                if !self.source.end_name(frame.name) {
-                    return Ok(Step::Stop);
-                }
-                let _space = self.source.spaces();
-                if !self.source.eat('>') {
-                    return Ok(Step::Stop);
-                }
-                self.close(alloc, frame)
-            }
-        }
-    }
-
-    /// Before the first character of a text.
-    fn new(alloc: Global, text: &'a str) -> Reader<'a>
-        ensures source { result.source ≡ chars text.now }
-        ensures frames { result.frames.items ≡ [] }
-    {
-        Reader {
-            source: Source::new(text),
-            frames: Vec::new(alloc),
-            scope: Vec::new(alloc),
-        }
-    }
-
-    /// Reads up to the end of the root element.
-    fn root(&mut self, alloc: Global) -> Result<Option<Tree>, AllocError>
-        ensures { IfOk result (λ o. MatchOption o (StopsAt (run self.old.source (content [] (frames_of self.old.frames.items self.old.scope.items))) self.new.source)
-            (λ root. run self.old.source (content [] (frames_of self.old.frames.items self.old.scope.items)) ≡ run self.new.source (over root))) }
-    {
+    /// Reads part by part to the end of the text.
+    fn parts(&mut self, alloc: Global) -> Result<Step, AllocError> {
         'parts: loop {
+            if self.source.is_over() {
+                return Ok(Step::On);
+            }
             match self.part(alloc)? {
                 Step::On => {}
-                Step::Root(root) => return Ok(Some(root)),
-                Step::Stop => return Ok(None),
+                stopped => return Ok(stopped),
             }
         }
     }
-}
 
-/// The tree of a text that is a document.
-pub(crate) fn read_text(alloc: Global, text: &str) -> Result<Option<Tree>, AllocError>
-    ensures { IfOk result (λ o. MatchOption o ((rest : List ℕ) × StopsAt (run (chars text.now) start) rest) (λ tree. run (chars text.now) start ≡ whole tree)) }
-{
-    let mut reader = Reader::new(alloc, text);
-    let Some(root) = reader.root(alloc)? else {
-        return Ok(None);
-    };
-    let _space = reader.source.spaces();
-    if reader.source.peek().is_some() {
-        return Ok(None);
+    /// The document, at the end of the text.
+    fn finish(self, alloc: Global) -> Result<Result<Whole, Refusal>, AllocError> {
+        if self.level != Level::Rooted || !self.frames.is_empty() {
+            return Ok(Err(Refusal {
+                stop: Stop::Other,
+                left: 0,
+            }));
+        }
+        let tree = Tree::Doc(Kids::make(alloc, self.kids)?);
+        Ok(Ok(Whole {
+            tree,
+            declared: self.declared,
+        }))
     }
-    let mut kids = List::new(alloc);
-    kids.push(root)?;
-    Ok(Some(Tree::Doc(Kids::make(alloc, kids)?)))
 }

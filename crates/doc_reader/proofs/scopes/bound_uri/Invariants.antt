@@ -1,7 +1,7 @@
 use Rattle.std.proofs.Common.{◌≡◌, drop}
 use Rattle.std.specs.Option.{option_copied}
 use Rattle.std.specs.Str.{chars}
-use Rattle.doc_reader.specs.Scopes.{bound_uri}
+use Rattle.doc_grammar.specs.Scopes.{bound_uri}
 use Rattle.doc_reader.proofs.ScopeLemmas.{or_found}
 use Rattle.doc_reader.proofs.scopes.bound_uri.Given as goal
 
