@@ -1,5 +1,8 @@
 mod CharacterFacts
+mod ReadLemmas
 mod SourceLemmas
 mod ScanLemmas
 mod NameLemmas
+mod ReferenceReads
+mod ReferenceLemmas
 mod ScopeLemmas

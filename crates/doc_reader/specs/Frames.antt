@@ -1,13 +1,12 @@
 -- What the open elements of the reader stand for.
-use Rattle.std.specs.Prelude.{◌≡◌, ℕ, ◌-◌, List, [], ◌∷◌, length, take, reverse, Some}
-use Rattle.std.specs.Str.{chars}
-use Rattle.std.specs.String.{string_bytes}
+use Rattle.std.specs.Prelude.{◌≡◌, ℕ, ◌-◌, List, [], ◌∷◌, length, take, reverse, Some, if◌then◌else◌}
 use Rattle.xt_names.specs.declared.names.Binding.{Binding}
 use Rattle.xt_tree.specs.declared.trees.Tree.{Tree}
+use Rattle.doc_grammar.specs.Characters.{starts_name}
 use Rattle.doc_grammar.specs.RawNames.{RawTag}
 use Rattle.doc_grammar.specs.Scopes.{Opened, opened, declarations}
 use Rattle.doc_grammar.specs.Document.{Level, blank, fresh, typed, rooted}
-use Rattle.doc_grammar.specs.Machine.{Stack, ground, element, State, content, scope_of, with_declared}
+use Rattle.doc_grammar.specs.Machine.{Stack, ground, element, State, Stop, other, content, scope_of, stop_before_name, with_declared}
 use Rattle.doc_reader.specs.View.{name_of}
 use Rattle.doc_reader.specs.declared.readers.Frame as code
 use Rattle.doc_reader.specs.declared.readers.Level as level
@@ -47,7 +46,7 @@ open_in r = stack_of r.frames.items r.scope.items (base_of r)
 
 -- the text so far
 abbrev pub text_in : Reader → List ℕ
-text_in r = chars (string_bytes r.text)
+text_in r = r.text
 
 -- between two parts of the content
 abbrev pub here : Reader → State
@@ -59,3 +58,8 @@ pub record Pushes (t : RawTag) (old : Stack) (f : code.Frame) (frames : List cod
   pub is_opened : opened (scope_of old) t ≡ Some opening
   pub is_frame : (st : Stack) → with_frame f scope st ≡ element t.name opening [] st
   pub is_outside : stack_of frames (outside f scope) base ≡ with_declared (declarations t.attributes) old
+
+-- why no element begins with what comes next
+abbrev pub stop_before : List ℕ → Stack → Stop
+stop_before [] st = other
+stop_before (c ∷ cs) st = if starts_name c then stop_before_name st else other

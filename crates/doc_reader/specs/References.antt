@@ -1,6 +1,6 @@
 -- A reading of a reference alone.
-use Rattle.std.specs.Prelude.{◌≡◌, ℕ, List, [], ◌∷◌, Bool, ◌||◌, ◌==◌, if◌then◌else◌}
-use Rattle.doc_grammar.specs.Characters.{is_name_char, Base, decimal, hexadecimal}
+use Rattle.std.specs.Prelude.{ℕ, Option, None, List, [], ◌∷◌, Bool, ◌||◌, ◌==◌, if◌then◌else◌}
+use Rattle.doc_grammar.specs.Characters.{is_name_char, Base, decimal, hexadecimal, digit}
 use Rattle.doc_grammar.specs.Lexing.{Ref, RefStep, on, stands_for, fails, hash, hash_x, ref_step}
 use Rattle.doc_grammar.specs.Machine.{Stop, entity, other, stop_in_ref}
 use Rattle.doc_reader.specs.declared.references.Base as code
@@ -37,3 +37,8 @@ base_view Hexadecimal = hexadecimal
 abbrev pub before_digits : Base → Ref
 before_digits decimal = hash
 before_digits hexadecimal = hash_x
+
+-- the value of the digit that comes next
+abbrev pub next_digit : Base → List ℕ → Option ℕ
+next_digit b [] = None
+next_digit b (c ∷ cs) = digit b c

@@ -3,6 +3,7 @@ ghost use Rattle.std.specs.Prelude.{◌≡◌, ◌≤◌, ◌++◌, [], length, 
 ghost use Rattle.xt_tree.specs.declared.trees.Tree.TheVariants.{Comment, Pi};
 ghost use Rattle.doc_grammar.specs.Lexing.{dash, section_open};
 ghost use Rattle.doc_reader.specs.Asides.{lex_reads, made, said, stopped, target_reads};
+
 use crate::buffers::Buffer;
 use crate::classes::{NotBracket, NotDash, NotQuestion};
 use crate::sources::Source;

@@ -2,6 +2,7 @@
 ghost use Rattle.std.specs.Prelude.{◌≡◌, ◌≤◌, length};
 ghost use Rattle.doc_grammar.specs.Prolog as prolog;
 ghost use Rattle.doc_reader.specs.Spelling.{spells, Spells};
+
 use crate::classes::{
     ColonNameChar, Digit, NotDoubleQuote, NotSingleQuote, PublicInDouble, PublicInSingle,
     starts_colon_name,

@@ -1,4 +1,15 @@
 // The reader: what is open, and what comes next.
+ghost use Rattle.std.specs.Prelude.{◌≡◌, ◌<◌, ◌≤◌, [], true, false, length, List, ℕ, IfOk, OnOk, MatchResult};
+ghost use Rattle.std.specs.Str.{chars};
+ghost use Rattle.doc_grammar.specs.Characters.{is_name_char};
+ghost use Rattle.doc_grammar.specs.Lexing.{dash};
+ghost use Rattle.doc_grammar.specs.Lexemes.{Ends, is_target};
+ghost use Rattle.doc_grammar.specs.Document.{begun};
+ghost use Rattle.doc_grammar.specs.Machine.{tag, bang, targeting, marked, content, with_aside, with_text, declares, start, finish, whole, stops, other};
+ghost use Rattle.doc_reader.specs.Reading.{reads, stop_of, Ran, OnStep};
+ghost use Rattle.doc_reader.specs.Sources.{NextIs, NotNext};
+ghost use Rattle.doc_reader.specs.Frames.{level_of, open_in, here};
+
 use crate::buffers::Buffer;
 use crate::classes::{Bracket, PlainText};
 use crate::names::RawName;
@@ -57,7 +68,9 @@ pub(crate) struct Reader<'a> {
 
 impl<'a> Reader<'a> {
     /// Before the first character of a text.
-    pub(crate) fn new(alloc: Global, text: &'a str) -> Result<Reader<'a>, AllocError> {
+    pub(crate) fn new(alloc: Global, text: &'a str) -> Result<Reader<'a>, AllocError>
+        ensures { IfOk result (λ r. (r.source ≡ chars text.now) × (here r ≡ start)) }
+    {
         Ok(Reader {
             source: Source::new(text),
             frames: Vec::new(alloc),
@@ -72,7 +85,11 @@ impl<'a> Reader<'a> {
     }
 
     /// Reads the next part of the content, or of the document around its root.
-    pub(crate) fn part(&mut self, alloc: Global) -> Result<Step, AllocError> {
+    pub(crate) fn part(&mut self, alloc: Global) -> Result<Step, AllocError>
+        requires { 0 < length self.old.source }
+        ensures ran { IfOk result (λ s. Ran (reads self.old.source (here self.old)) self.new.source (here self.new) s) }
+        ensures falls { IfOk result (λ s. OnStep s (length self.new.source < length self.old.source)) }
+    {
         if self.source.eat('<') {
             return self.markup(alloc);
         }
@@ -83,7 +100,13 @@ impl<'a> Reader<'a> {
     }
 
     /// Reads white space around the root.
-    fn around(&mut self) -> Step {
+    fn around(&mut self) -> Step
+        requires some { 0 < length self.old.source }
+        requires ground { self.old.frames.items ≡ [] }
+        requires no_markup { NotNext 60 self.old.source }
+        ensures ran { Ran (reads self.old.source (here self.old)) self.new.source (here self.new) result }
+        ensures falls { OnStep result (length self.new.source < length self.old.source) }
+    {
         if !self.source.spaces() {
             return Step::Stopped(Stop::Other);
         }
@@ -92,7 +115,15 @@ impl<'a> Reader<'a> {
     }
 
     /// Something is read.
-    fn begin(&mut self) {
+    fn begin(&mut self)
+        ensures text { self.new.text ≡ [] }
+        ensures level { level_of self.new.level ≡ begun (level_of self.old.level) }
+        ensures frames { self.new.frames.items ≡ self.old.frames.items }
+        ensures scope { self.new.scope.items ≡ self.old.scope.items }
+        ensures kids { self.new.kids ≡ self.old.kids }
+        ensures declared { self.new.declared ≡ self.old.declared }
+        ensures source { self.new.source ≡ self.old.source }
+    {
         self.text.clear();
         if self.level == Level::Blank {
             self.level = Level::Fresh;
@@ -100,7 +131,13 @@ impl<'a> Reader<'a> {
     }
 
     /// Reads characters of an element's content.
-    fn characters(&mut self) -> Result<Step, AllocError> {
+    fn characters(&mut self) -> Result<Step, AllocError>
+        requires some { 0 < length self.old.source }
+        requires element { 0 < length self.old.frames.items }
+        requires no_markup { NotNext 60 self.old.source }
+        ensures ran { IfOk result (λ s. Ran (reads self.old.source (here self.old)) self.new.source (here self.new) s) }
+        ensures falls { IfOk result (λ s. OnStep s (length self.new.source < length self.old.source)) }
+    {
         if self.source.eat('&') {
             return match self.source.reference() {
                 Ok(c) => {
@@ -120,7 +157,16 @@ impl<'a> Reader<'a> {
         self.plain_text()
     }
 
-    fn plain_text(&mut self) -> Result<Step, AllocError> {
+    fn plain_text(&mut self) -> Result<Step, AllocError>
+        requires some { 0 < length self.old.source }
+        requires element { 0 < length self.old.frames.items }
+        requires no_markup { NotNext 60 self.old.source }
+        requires no_reference { NotNext 38 self.old.source }
+        requires no_close { NotNext 62 self.old.source }
+        requires no_bracket { NotNext 93 self.old.source }
+        ensures ran { IfOk result (λ s. Ran (reads self.old.source (here self.old)) self.new.source (here self.new) s) }
+        ensures falls { IfOk result (λ s. OnStep s (length self.new.source < length self.old.source)) }
+    {
         let run = self.source.take_run::<PlainText>();
         if run.is_empty() {
             return Ok(Step::Stopped(Stop::Other));
@@ -130,7 +176,12 @@ impl<'a> Reader<'a> {
     }
 
     /// Reads closing brackets, and stops before a `>` behind two of them.
-    fn brackets(&mut self) -> Result<Step, AllocError> {
+    fn brackets(&mut self) -> Result<Step, AllocError>
+        requires bracket { NextIs 93 self.old.source }
+        requires element { 0 < length self.old.frames.items }
+        ensures ran { IfOk result (λ s. Ran (reads self.old.source (here self.old)) self.new.source (here self.new) s) }
+        ensures falls { IfOk result (λ s. OnStep s (length self.new.source < length self.old.source)) }
+    {
         let run = self.source.take_run::<Bracket>();
         self.text.push_str(run)?;
         if run.len() >= 2 && self.source.is_next('>') {
@@ -140,7 +191,10 @@ impl<'a> Reader<'a> {
     }
 
     /// Reads what stands behind `<`.
-    fn markup(&mut self, alloc: Global) -> Result<Step, AllocError> {
+    fn markup(&mut self, alloc: Global) -> Result<Step, AllocError>
+        ensures ran { IfOk result (λ s. Ran (reads self.old.source (tag self.old.text (open_in self.old))) self.new.source (here self.new) s) }
+        ensures shorter { length self.new.source ≤ length self.old.source }
+    {
         match self.source.peek() {
             Some('/') => self.end_tag(alloc),
             Some('!') => self.bang(alloc),
@@ -150,7 +204,11 @@ impl<'a> Reader<'a> {
     }
 
     /// Reads a comment, a section or a DOCTYPE, before its `!`.
-    fn bang(&mut self, alloc: Global) -> Result<Step, AllocError> {
+    fn bang(&mut self, alloc: Global) -> Result<Step, AllocError>
+        requires { NextIs 33 self.old.source }
+        ensures ran { IfOk result (λ s. Ran (reads self.old.source (tag self.old.text (open_in self.old))) self.new.source (here self.new) s) }
+        ensures shorter { length self.new.source ≤ length self.old.source }
+    {
         let _bang = self.source.eat('!');
         if self.source.eat('-') {
             return self.comment(alloc);
@@ -161,7 +219,10 @@ impl<'a> Reader<'a> {
         self.section()
     }
 
-    fn comment(&mut self, alloc: Global) -> Result<Step, AllocError> {
+    fn comment(&mut self, alloc: Global) -> Result<Step, AllocError>
+        ensures ran { IfOk result (λ s. Ran (reads self.old.source (marked dash self.old.text (open_in self.old))) self.new.source (here self.new) s) }
+        ensures shorter { length self.new.source ≤ length self.old.source }
+    {
         self.piece.clear();
         if !self.source.comment(&mut self.piece)? {
             return Ok(Step::Stopped(Stop::Other));
@@ -171,7 +232,12 @@ impl<'a> Reader<'a> {
         Ok(Step::On)
     }
 
-    fn section(&mut self) -> Result<Step, AllocError> {
+    fn section(&mut self) -> Result<Step, AllocError>
+        requires element { 0 < length self.old.frames.items }
+        requires no_comment { NotNext 45 self.old.source }
+        ensures ran { IfOk result (λ s. Ran (reads self.old.source (bang self.old.text (open_in self.old))) self.new.source (here self.new) s) }
+        ensures shorter { length self.new.source ≤ length self.old.source }
+    {
         if !self.source.eat('[') {
             return Ok(Step::Stopped(Stop::Other));
         }
@@ -182,7 +248,12 @@ impl<'a> Reader<'a> {
         }
     }
 
-    fn doctype(&mut self) -> Step {
+    fn doctype(&mut self) -> Step
+        requires ground { self.old.frames.items ≡ [] }
+        requires no_comment { NotNext 45 self.old.source }
+        ensures ran { Ran (reads self.old.source (bang self.old.text (open_in self.old))) self.new.source (here self.new) result }
+        ensures shorter { length self.new.source ≤ length self.old.source }
+    {
         if self.level == Level::Typed || self.level == Level::Rooted {
             return Step::Stopped(Stop::Other);
         }
@@ -193,7 +264,11 @@ impl<'a> Reader<'a> {
     }
 
     /// Reads an instruction, or the XML declaration, before its `?`.
-    fn question(&mut self, alloc: Global) -> Result<Step, AllocError> {
+    fn question(&mut self, alloc: Global) -> Result<Step, AllocError>
+        requires { NextIs 63 self.old.source }
+        ensures ran { IfOk result (λ s. Ran (reads self.old.source (tag self.old.text (open_in self.old))) self.new.source (here self.new) s) }
+        ensures shorter { length self.new.source ≤ length self.old.source }
+    {
         let _question = self.source.eat('?');
         let Some(target) = self.source.ncname() else {
             return Ok(Step::Stopped(Stop::Other));
@@ -210,7 +285,13 @@ impl<'a> Reader<'a> {
     }
 
     /// Reads an instruction behind its target.
-    fn instruction(&mut self, alloc: Global, target: &str) -> Result<Step, AllocError> {
+    fn instruction(&mut self, alloc: Global, target: &str) -> Result<Step, AllocError>
+        requires ends { Ends is_name_char self.old.source }
+        requires no_declaration { declares (open_in self.old) (chars target.now) ≡ false }
+        requires target { is_target (chars target.now) ≡ true }
+        ensures ran { IfOk result (λ s. Ran (reads self.old.source (targeting (chars target.now) self.old.text (open_in self.old))) self.new.source (here self.new) s) }
+        ensures shorter { length self.new.source ≤ length self.old.source }
+    {
         self.piece.clear();
         if !self.source.instruction(&mut self.piece)? {
             return Ok(Step::Stopped(Stop::Other));
@@ -222,7 +303,10 @@ impl<'a> Reader<'a> {
     }
 
     /// Puts a comment or an instruction behind what is open.
-    fn aside(&mut self, alloc: Global, tree: Tree) -> Result<(), AllocError> {
+    fn aside(&mut self, alloc: Global, tree: Tree) -> Result<(), AllocError>
+        ensures here { OnOk result (here self.new ≡ content 0 [] (with_aside tree (with_text self.old.text (open_in self.old)))) }
+        ensures source { self.new.source ≡ self.old.source }
+    {
         self.flush(alloc)?;
         match self.frames.pop() {
             None => {
@@ -238,7 +322,13 @@ impl<'a> Reader<'a> {
     }
 
     /// Makes the text so far a node, where there is a text.
-    pub(crate) fn flush(&mut self, alloc: Global) -> Result<(), AllocError> {
+    pub(crate) fn flush(&mut self, alloc: Global) -> Result<(), AllocError>
+        ensures opened { OnOk result (open_in self.new ≡ with_text self.old.text (open_in self.old)) }
+        ensures text { OnOk result (self.new.text ≡ []) }
+        ensures count { OnOk result (length self.new.frames.items ≡ length self.old.frames.items) }
+        ensures level { self.new.level ≡ self.old.level }
+        ensures source { self.new.source ≡ self.old.source }
+    {
         if self.text.is_empty() {
             return Ok(());
         }
@@ -270,7 +360,9 @@ pub(crate) struct Refusal {
 
 impl<'a> Reader<'a> {
     /// Reads a whole text.
-    pub(crate) fn read(alloc: Global, text: &str) -> Result<Result<Whole, Refusal>, AllocError> {
+    pub(crate) fn read(alloc: Global, text: &str) -> Result<Result<Whole, Refusal>, AllocError>
+        ensures { IfOk result (λ r. MatchResult r (λ w. reads (chars text.now) start ≡ whole w.tree w.declared) (λ f. (rest : List ℕ) × (reads (chars text.now) start ≡ stops (stop_of f.stop) rest) × (length rest ≡ f.left))) }
+    {
         let mut reader = Reader::new(alloc, text)?;
         match reader.parts(alloc)? {
             Step::On => reader.finish(alloc),
@@ -282,7 +374,10 @@ impl<'a> Reader<'a> {
     }
 
     /// Reads part by part to the end of the text.
-    fn parts(&mut self, alloc: Global) -> Result<Step, AllocError> {
+    fn parts(&mut self, alloc: Global) -> Result<Step, AllocError>
+        ensures ran { IfOk result (λ s. Ran (reads self.old.source (here self.old)) self.new.source (here self.new) s) }
+        ensures over { IfOk result (λ s. OnStep s (self.new.source ≡ [])) }
+    {
         'parts: loop {
             if self.source.is_over() {
                 return Ok(Step::On);
@@ -295,7 +390,9 @@ impl<'a> Reader<'a> {
     }
 
     /// The document, at the end of the text.
-    fn finish(self, alloc: Global) -> Result<Result<Whole, Refusal>, AllocError> {
+    fn finish(self, alloc: Global) -> Result<Result<Whole, Refusal>, AllocError>
+        ensures { IfOk result (λ r. MatchResult r (λ w. finish (here self) ≡ whole w.tree w.declared) (λ f. (finish (here self) ≡ stops (stop_of f.stop) []) × (f.left ≡ 0))) }
+    {
         if self.level != Level::Rooted || !self.frames.is_empty() {
             return Ok(Err(Refusal {
                 stop: Stop::Other,

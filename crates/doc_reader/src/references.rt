@@ -1,10 +1,11 @@
 // References: to a predefined entity by its name, or to a character by its number.
-ghost use Rattle.std.specs.Prelude.{◌≡◌, ◌≤◌, ◌<◌, ◌∷◌, [], length, MatchResult, MatchOption, OnSome, IfSome};
+ghost use Rattle.std.specs.Prelude.{◌≡◌, ◌≤◌, ◌<◌, ◌+◌, ◌*◌, length, Some, MatchResult, MatchOption, OnSome, IfSome};
 ghost use Rattle.std.specs.Str.{chars};
-ghost use Rattle.doc_grammar.specs.Characters.{digit, is_char, starts_name};
+ghost use Rattle.doc_grammar.specs.Characters.{digit, base_of, starts_name};
 ghost use Rattle.doc_grammar.specs.Lexing.{ampersand, letter_a, spelling, hash, number};
+ghost use Rattle.doc_grammar.specs.Machine.{other};
 ghost use Rattle.doc_reader.specs.Reading.{stop_of};
-ghost use Rattle.doc_reader.specs.References.{ref_reads, finds, stops, stop_by, is_in_entity, base_view, before_digits};
+ghost use Rattle.doc_reader.specs.References.{ref_reads, finds, stops, stop_by, is_in_entity, base_view, before_digits, next_digit};
 ghost use Rattle.doc_reader.specs.Sources.{NotNext, NextIs};
 
 use crate::classes::{is_char, is_name_char, starts_name};
@@ -25,7 +26,7 @@ pub(crate) enum Base {
 #[tactic(auto, unfolding(doc_grammar::specs::Characters::digit))]
 fn digit(base: Base, c: char) -> Option<u32>
     ensures value { result ≡ digit (base_view base) c }
-    ensures small { OnSome result (IfSome result (λ d. d ≤ 15)) }
+    ensures small { IfSome result (λ d. d ≤ 15) }
 {
     match (base, c) {
         (_, '0'..='9') => Some(c as u32 - 48),
@@ -39,6 +40,7 @@ fn digit(base: Base, c: char) -> Option<u32>
 fn with_digit(base: Base, n: u32, d: u32) -> Option<u32>
     requires number { n ≤ 0x10_FFFF }
     requires digit { d ≤ 15 }
+    ensures { MatchOption result (0x10_FFFF < n * base_of (base_view base) + d) (λ m. (m ≡ n * base_of (base_view base) + d) × m ≤ 0x10_FFFF) }
 {
     let base = match base {
         Base::Decimal => 10,
@@ -146,12 +148,21 @@ impl<'a> Source<'a> {
         ensures reads { MatchResult result (λ c. ref_reads self.old (before_digits (base_view base)) ≡ finds c self.new) (λ why. ref_reads self.old (before_digits (base_view base)) ≡ stops (stop_of why) self.new) }
         ensures shorter { length self.new ≤ length self.old }
     {
-        let Some(mut n) = self.first_digit(base) else {
-            return Err(Stop::Other);
-        };
+        match self.first_digit(base) {
+            Some(n) => self.more_digits(base, n),
+            None => Err(Stop::Other),
+        }
+    }
+
+    /// Takes more digits behind this number, and the `;` behind them.
+    fn more_digits(&mut self, base: Base, mut n: u32) -> Result<char, Stop>
+        requires { n ≤ 0x10_FFFF }
+        ensures reads { MatchResult result (λ c. ref_reads self.old (number (base_view base) n) ≡ finds c self.new) (λ why. ref_reads self.old (number (base_view base) n) ≡ stops (stop_of why) self.new) }
+        ensures shorter { length self.new ≤ length self.old }
+    {
         'digits: loop {
             if self.is_next(';') {
-                return self.numbered(n);
+                return self.numbered(base, n);
             }
             match self.next_digit(base, n) {
                 Some(more) => n = more,
@@ -160,31 +171,88 @@ impl<'a> Source<'a> {
         }
     }
 
-    fn first_digit(&mut self, base: Base) -> Option<u32> {
-        let d = digit(base, self.peek()?)?;
-        let _digit = self.skip();
-        Some(d)
+    /// The value of the digit that comes next, which stays.
+    fn peek_digit(&self, base: Base) -> Option<u32>
+        ensures value { result ≡ next_digit (base_view base) self.now }
+        ensures small { IfSome result (λ d. d ≤ 15) }
+    {
+        match self.peek() {
+            Some(c) => digit(base, c),
+            None => None,
+        }
     }
 
+    /// Takes the first digit of a number.
+    fn first_digit(&mut self, base: Base) -> Option<u32>
+        requires { NotNext 120 self.old }
+        ensures reads { MatchOption result (ref_reads self.old (before_digits (base_view base)) ≡ stops other self.new) (λ d. ref_reads self.old (before_digits (base_view base)) ≡ ref_reads self.new (number (base_view base) d)) }
+        ensures small { IfSome result (λ d. d ≤ 0x10_FFFF) }
+        ensures shorter { length self.new ≤ length self.old }
+    {
+        match self.peek_digit(base) {
+            Some(d) => {
+                let _digit = self.skip();
+                Some(d)
+            }
+            None => None,
+        }
+    }
+
+    /// Takes a digit more behind this number, if it makes none past the last character.
     fn next_digit(&mut self, base: Base, n: u32) -> Option<u32>
         requires number { n ≤ 0x10_FFFF }
+        requires no_end { NotNext 59 self.old }
+        ensures reads { MatchOption result (ref_reads self.old (number (base_view base) n) ≡ stops other self.new) (λ m. ref_reads self.old (number (base_view base) n) ≡ ref_reads self.new (number (base_view base) m)) }
+        ensures small { IfSome result (λ m. m ≤ 0x10_FFFF) }
+        ensures shorter { length self.new ≤ length self.old }
+        ensures falls { OnSome result (length self.new < length self.old) }
     {
-        let d = digit(base, self.peek()?)?;
-        let more = with_digit(base, n, d)?;
-        let _digit = self.skip();
-        Some(more)
+        match self.peek_digit(base) {
+            Some(d) => self.add_digit(base, n, d),
+            None => None,
+        }
+    }
+
+    fn add_digit(&mut self, base: Base, n: u32, d: u32) -> Option<u32>
+        requires number { n ≤ 0x10_FFFF }
+        requires digit { d ≤ 15 }
+        requires next { Some d ≡ next_digit (base_view base) self.old }
+        requires no_end { NotNext 59 self.old }
+        ensures reads { MatchOption result (ref_reads self.old (number (base_view base) n) ≡ stops other self.new) (λ m. ref_reads self.old (number (base_view base) n) ≡ ref_reads self.new (number (base_view base) m)) }
+        ensures small { IfSome result (λ m. m ≤ 0x10_FFFF) }
+        ensures shorter { length self.new ≤ length self.old }
+        ensures falls { OnSome result (length self.new < length self.old) }
+    {
+        match with_digit(base, n, d) {
+            Some(more) => {
+                let _digit = self.skip();
+                Some(more)
+            }
+            None => None,
+        }
     }
 
     /// Takes the `;` behind a number, if it is that of a character.
-    fn numbered(&mut self, n: u32) -> Result<char, Stop>
+    fn numbered(&mut self, base: Base, n: u32) -> Result<char, Stop>
         requires { NextIs 59 self.old }
+        ensures reads { MatchResult result (λ c. ref_reads self.old (number (base_view base) n) ≡ finds c self.new) (λ why. ref_reads self.old (number (base_view base) n) ≡ stops (stop_of why) self.new) }
+        ensures shorter { length self.new ≤ length self.old }
     {
         match char::from_u32(n) {
-            Some(c) if is_char(c) => {
-                let _end = self.skip();
-                Ok(c)
-            }
-            _ => Err(Stop::Other),
+            Some(c) => self.ended(base, c),
+            None => Err(Stop::Other),
         }
+    }
+
+    fn ended(&mut self, base: Base, c: char) -> Result<char, Stop>
+        requires { NextIs 59 self.old }
+        ensures reads { MatchResult result (λ v. ref_reads self.old (number (base_view base) c) ≡ finds v self.new) (λ why. ref_reads self.old (number (base_view base) c) ≡ stops (stop_of why) self.new) }
+        ensures shorter { length self.new ≤ length self.old }
+    {
+        if !is_char(c) {
+            return Err(Stop::Other);
+        }
+        let _end = self.skip();
+        Ok(c)
     }
 }
