@@ -5,4 +5,5 @@ mod ScanLemmas
 mod NameLemmas
 mod ReferenceReads
 mod ReferenceLemmas
+mod ValueLemmas
 mod ScopeLemmas
