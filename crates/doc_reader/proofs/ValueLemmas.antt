@@ -125,24 +125,24 @@ stuck_step : (t : RawTag) (name : RawName) (q c : ℕ) (read : List ℕ) (st : S
 unfolding step
 stuck_step t name q c read st e f v = rw (e, f, v) refl
 
-pub value_stops : (old : List ℕ) (t : RawTag) (name : RawName) (q : ℕ) (read : List ℕ) (st : Stack) → NotNext q old → NotNext 38 old → Ends (is_plain_value q) old → ((c : ℕ) → Some c ≡ slice_get old 0 → is_space c ≡ false) → reads old (valued t name q read st) ≡ stops other old
+pub value_stops : (old : List ℕ) (t : RawTag) (name : RawName) (q : ℕ) (read : List ℕ) (st : Stack) → NotNext q old → NotNext 38 old → Ends (is_plain_value q) old → Ends is_space old → reads old (valued t name q read st) ≡ stops other old
 value_stops [] t name q read st n a e s = refl
 value_stops (c ∷ cs) t name q read st n a e s =
-    stuck _ c cs (stuck_step t name q c read st (ne_eqb c q (λ x. n (sym x))) (ne_eqb c 38 (λ x. a (sym x))) (no_value q c (s c refl) e))
+    stuck _ c cs (stuck_step t name q c read st (ne_eqb c q (λ x. n (sym x))) (ne_eqb c 38 (λ x. a (sym x))) (no_value q c s e))
 
 -- between single quotes
 
-is_single : (q : ℕ) → is_quote q ≡ true → (q == 34) ≡ false → q ≡ 39
+is_single : (q : ℕ) → is_quote q ≡ true → (q ≡ 34 → ⊥) → q ≡ 39
 unfolding is_quote
-is_single q e f = eqb-true q 39 (go (q == 34) (q == 39) f e) where
+is_single q e f = eqb-true q 39 (go (q == 34) (q == 39) (ne_eqb q 34 f) e) where
   go : (a b : Bool) → a ≡ false → (a || b) ≡ true → b ≡ true
   go true b x y = cc
   go false b x y = y
 
-pub single_passes : (q : ℕ) (xs : List ℕ) → is_quote q ≡ true → (q == 34) ≡ false → list_all (is_plain_value 39) xs ≡ true → list_all (is_plain_value q) xs ≡ true
+pub single_passes : (q : ℕ) (xs : List ℕ) → is_quote q ≡ true → (q ≡ 34 → ⊥) → list_all (is_plain_value 39) xs ≡ true → list_all (is_plain_value q) xs ≡ true
 single_passes q xs e f a = rw (is_single q e f) a
 
-pub single_ends : (q : ℕ) (ts : List ℕ) → is_quote q ≡ true → (q == 34) ≡ false → Ends (is_plain_value 39) ts → Ends (is_plain_value q) ts
+pub single_ends : (q : ℕ) (ts : List ℕ) → is_quote q ≡ true → (q ≡ 34 → ⊥) → Ends (is_plain_value 39) ts → Ends (is_plain_value q) ts
 single_ends q ts e f a = rw (is_single q e f) a
 
 -- a run of it
@@ -160,6 +160,14 @@ value_space_at old (d ∷ ds) new c (Some x) t name q read st s p e k n =
     let rest : ds ≡ new = cc in
     value_space old new c t name q read st (sym s ∙ ap (λ (y : ℕ). y ∷ ds) (sym same) ∙ ap (λ (y : List ℕ). c ∷ y) rest) e n
 
-pub value_stops_at : (old now : List ℕ) (t : RawTag) (name : RawName) (q : ℕ) (read : List ℕ) (st : Stack) → (now ≡ old) × NotNext 38 old → NotNext q old → Ends (is_plain_value q) old → ((c : ℕ) → Some c ≡ slice_get now 0 → is_space c ≡ false)
+pub value_stops_at : (old now : List ℕ) (t : RawTag) (name : RawName) (q : ℕ) (read : List ℕ) (st : Stack) → (now ≡ old) × NotNext 38 old → NotNext q old → Ends (is_plain_value q) old → Ends is_space now
     → reads old (valued t name q read st) ≡ stops other now
 value_stops_at old now t name q read st s n e f = rw s.0 (value_stops old t name q read st n s.1 e (rw s.0 at f))
+
+-- what holds of a text that nothing was taken from
+
+pub eaten_not : (q : ℕ) (now old : List ℕ) → (now ≡ old) × NotNext q old → NotNext q now
+eaten_not q now old e = rw e.0 e.1
+
+pub ends_not : (q : ℕ) (now old : List ℕ) → now ≡ old → Ends (is_plain_value q) old → Ends (is_plain_value q) now
+ends_not q now old e a = rw e a

@@ -1,8 +1,8 @@
 // Values of attributes.
-ghost use Rattle.std.specs.Prelude.{◌≡◌, ◌≤◌, ◌<◌, ◌++◌, ◌∷◌, [], true, length, List, ℕ, IfOk, MatchResult, IsOk};
+ghost use Rattle.std.specs.Prelude.{◌≡◌, ◌≤◌, ◌<◌, ◌++◌, ◌∷◌, [], true, length, List, ℕ, IfOk, Some, slice_get, MatchBool, MatchResult, IsOk};
 ghost use Rattle.std.specs.List.{list_all};
 ghost use Rattle.std.specs.Str.{chars};
-ghost use Rattle.doc_grammar.specs.Characters.{is_quote};
+ghost use Rattle.doc_grammar.specs.Characters.{is_quote, is_space};
 ghost use Rattle.doc_grammar.specs.Lexemes.{Ends};
 ghost use Rattle.doc_grammar.specs.RawNames.{RawName, RawTag, with_attribute};
 ghost use Rattle.doc_grammar.specs.Machine.{Stack, tagged, valued, stops};
@@ -62,12 +62,19 @@ impl<'a> Source<'a> {
         if self.eat('&') {
             return self.reference();
         }
+        if !self.is_space_next() {
+            return Err(Stop::Other);
+        }
+        let _space = self.skip();
+        Ok(' ')
+    }
+
+    fn is_space_next(&self) -> bool
+        ensures { MatchBool result ((c : ℕ) × (Some c ≡ slice_get self.now 0) × (is_space c ≡ true)) (Ends is_space self.now) }
+    {
         match self.peek() {
-            Some(c) if is_space(c) => {
-                let _space = self.skip();
-                Ok(' ')
-            }
-            _ => Err(Stop::Other),
+            Some(c) => is_space(c),
+            None => false,
         }
     }
 }
