@@ -75,9 +75,13 @@ is_in_public q c = is_public_char c || (c == 39 && not (q == 39))
 abbrev pub doctype_close : Form
 doctype_close = many is_space (last doctype_end (is_one 62) 62)
 
+-- a character of a system identifier between such quotes
+abbrev pub is_in_system : ℕ → ℕ → Bool
+is_in_system q c = is_char c && not (c == q)
+
 -- SystemLiteral ::= ('"' [^"]* '"') | ("'" [^']* "'"), and the end
 abbrev pub system_literal : Form
-system_literal = quoted (λ q. many (λ c. is_char c && not (c == q)) (one elsewhere (is_one q) q doctype_close))
+system_literal = quoted (λ q. many (is_in_system q) (one elsewhere (is_one q) q doctype_close))
 
 -- ExternalID ::= 'SYSTEM' S SystemLiteral | 'PUBLIC' S PubidLiteral S SystemLiteral, and the end
 abbrev pub system_id : Form

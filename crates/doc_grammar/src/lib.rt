@@ -5,7 +5,14 @@
 #![tactic(auto)]
 
 ghost use Rattle.std.specs.Prelude.{◌≡◌, ℕ, List};
+ghost use Rattle.xt_tree.specs.declared.trees.Tree.{Tree as AnyTree};
+ghost use Rattle.doc_grammar.specs.Document.{IsDocument};
 
 mod spots;
 
 pub use spots::Spot;
+
+/// At most one tree stands for a text (XML 1.0; Namespaces in XML 1.0).
+pub fn documents_are_one()
+    ensures { (bytes : List ℕ) (s t : AnyTree) → IsDocument bytes s → IsDocument bytes t → s ≡ t }
+{}
