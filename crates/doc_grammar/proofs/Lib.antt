@@ -17,3 +17,10 @@ pub mod AttributeSteps
 pub mod Steps
 pub mod Ends
 pub mod Runs
+pub mod FormLemmas
+pub mod NumberLemmas
+pub mod Live
+pub mod Completions
+pub mod Alive
+pub mod Lenient
+pub mod FirstFaults
