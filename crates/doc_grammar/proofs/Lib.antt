@@ -24,3 +24,8 @@ pub mod Completions
 pub mod Alive
 pub mod Lenient
 pub mod FirstFaults
+pub mod SoundTexts
+pub mod Sizes
+pub mod SoundNames
+pub mod SoundTrees
+pub mod SoundDocuments
