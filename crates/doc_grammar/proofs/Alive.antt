@@ -1,9 +1,7 @@
 -- Each state that is reached begins a skeleton: what completes it.
-use Rattle.std.proofs.Common.{◌≡◌, ℕ, List, [], ◌∷◌, ◌++◌, refl, true, false}
-use Rattle.xt_names.specs.Classes.{is_in_ranges}
+use Rattle.std.proofs.Common.{ℕ, List, [], ◌∷◌, ◌++◌, refl}
 use Rattle.xt_tree.specs.declared.trees.Tree.{Tree}
 use Rattle.xt_tree.specs.declared.trees.Tree.TheVariants.{Comment, Pi}
-use Rattle.doc_grammar.specs.Characters.{is_quote, starts_name, is_name_char}
 use Rattle.doc_grammar.specs.RawNames.{RawName, RawTag, with_attribute, tag_named}
 use Rattle.doc_grammar.specs.Scopes.{opened}
 use Rattle.doc_grammar.specs.Skeleton.{anyhow, or_unbound}
@@ -11,34 +9,18 @@ use Rattle.doc_grammar.specs.Lexemes as lexemes
 use Rattle.doc_grammar.specs.Document.{element_of}
 use Rattle.doc_grammar.specs.Document as doc
 use Rattle.doc_grammar.specs.Machine.{Stack, ground, element, State, content, refers, tag, bang, question, targeting, marked, forming, naming, tagged, spaced, attribute, equals, assigned, valued, value_refers, slashed, ending, ended, scope_of, with_text, with_aside}
-use Rattle.doc_grammar.proofs.CharacterFacts.{mark_name}
+use Rattle.doc_grammar.proofs.CharacterFacts.{mark_name, slash_name, equals_name, a_starts, a_name, double_quote}
 use Rattle.doc_grammar.proofs.FormLemmas as forms
 use Rattle.doc_grammar.proofs.Residue.{aside_placed}
 use Rattle.doc_grammar.proofs.Rests.{Opening, closes, bare, instruction, in_ending, in_ended, at_quote, Rest}
 use Rattle.doc_grammar.proofs.Live.{IsLive, IsElement}
-use Rattle.doc_grammar.proofs.Completions.{gives, a_name, finishing, completing, then_completes, end_spelled, ref_completes, lex_completes, target_letter, name_completes}
+use Rattle.doc_grammar.proofs.Completions.{gives, finishing, completing, then_completes, end_spelled, ref_completes, lex_completes, target_letter, name_completes}
 
 -- what completes a state
 pub record Completed (s : State) : Type 0 where
   pub ts : List ℕ
   pub w : Tree
   pub rest : Rest anyhow w s ts
-
-slash_name : is_name_char 47 ≡ false
-unfolding is_name_char is_in_ranges
-slash_name = refl
-
-equals_name : is_name_char 61 ≡ false
-unfolding is_name_char is_in_ranges
-equals_name = refl
-
-a_starts : starts_name 97 ≡ true
-unfolding starts_name is_in_ranges
-a_starts = refl
-
-double_quote : is_quote 34 ≡ true
-unfolding is_quote
-double_quote = refl
 
 -- `>` behind a slash
 record CompletesTag (t : RawTag) (st : Stack) : Type 0 where

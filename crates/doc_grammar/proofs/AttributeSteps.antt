@@ -1,5 +1,5 @@
 -- The steps in an attribute.
-use Rattle.std.proofs.Common.{◌≡◌, ℕ, List, [], ◌∷◌, ◌++◌, refl, sym, subst, Bool, true, false, cond, Some, None, ◌==◌, eq-eqb}
+use Rattle.std.proofs.Common.{◌≡◌, ℕ, List, [], ◌∷◌, ◌++◌, refl, sym, subst, Bool, true, false, cond, Some, None, ◌==◌}
 use Rattle.std.proofs.lemmas.Bool.{eqb-true}
 use Rattle.xt_tree.specs.declared.trees.Tree.{Tree}
 use Rattle.doc_grammar.specs.Characters.{is_space, is_value, as_value, is_quote, starts_name}
@@ -11,7 +11,7 @@ use Rattle.doc_grammar.specs.Document as doc
 use Rattle.doc_grammar.specs.Lexing.{Ref, RefStep, ref_step, ampersand}
 use Rattle.doc_grammar.specs.Lexing as lexing
 use Rattle.doc_grammar.specs.Machine.{Stack, NameState, reading, NameStep, on, behind_name, fails, name_step, tagged, assigned, valued, value_refers, behind_spaced, in_attribute, in_equals, in_value_reference}
-use Rattle.doc_grammar.proofs.CharacterFacts.{no, equals_space, space_starts, space_quote, ampersand_quote, quote_value, ampersand_value}
+use Rattle.doc_grammar.proofs.CharacterFacts.{no, equals_space, space_starts, space_quote, ampersand_quote, quote_value, ampersand_value, itself}
 use Rattle.doc_grammar.proofs.ReferenceSteps.{RefGoes, references_go}
 use Rattle.doc_grammar.proofs.Rests.{Opening, InTag, InSpaced, ValueRest, next_char, next_reference, at_quote, InValue, InValueReference, InAssigned, InEquals, InAttribute}
 use Rattle.doc_grammar.proofs.Goes.{Goes, choose, through, at}
@@ -37,9 +37,6 @@ rest_value (next_char p v) = doc.more p (rest_value v)
 rest_value (next_reference q r v) = doc.refers r (rest_value v)
 rest_value at_quote = doc.whole
 
-same : (c : ℕ) → (c == c) ≡ true
-same c = eq-eqb c c refl
-
 value_end : {rules : Rules} {w : Tree} {t : RawTag} {name : RawName} {quote c : ℕ} {read : List ℕ} {st : Stack} {ts : List ℕ} → (c == quote) ≡ true → InValue rules w t name quote read st (c ∷ ts) → InTag rules w (with_attribute t name read) st ts
 value_end {rules = rules} {w = w} {t = t} {name = name} {quote = quote} {c = c} {read = read} {st = st} {ts = ts} e b = go e b.valued b.behind where
   go : {d : ℕ} {value after : List ℕ} → (d == quote) ≡ true → ValueRest quote read (d ∷ ts) value after → InTag rules w (with_attribute t name value) st after → InTag rules w (with_attribute t name read) st ts
@@ -57,7 +54,7 @@ value_reference {rules = rules} {w = w} {t = t} {name = name} {quote = quote} {r
   go : {c : ℕ} {value after : List ℕ} → c ≡ 38 → (c == quote) ≡ false → ValueRest quote read (c ∷ ts) value after → InTag rules w (with_attribute t name value) st after → InValueReference rules w t name quote read ampersand st ts
   go e q (next_char p v) k = let is : is_value quote 38 ≡ true = rw e at p in no is (ampersand_value quote)
   go e q (next_reference x r v) k = record { stands_for = _; mid = _; reference = r; behind = record { value = _; after = _; valued = v; behind = k } }
-  go {c = c} e q at_quote k = no (same c) q
+  go {c = c} e q at_quote k = no (itself c) q
 
 reference_back : {rules : Rules} {w : Tree} {t : RawTag} {name : RawName} {quote : ℕ} {read : List ℕ} {st : Stack} {ts : List ℕ} → (38 == quote) ≡ false → InValueReference rules w t name quote read ampersand st ts → InValue rules w t name quote read st (38 ∷ ts)
 reference_back q b = record { value = b.behind.value; after = b.behind.after; valued = next_reference q b.reference b.behind.valued; behind = b.behind.behind }
@@ -65,7 +62,7 @@ reference_back q b = record { value = b.behind.value; after = b.behind.after; va
 value_on : {quote c : ℕ} {read ts value after : List ℕ} → (c == quote) ≡ false → (c == 38) ≡ false → ValueRest quote read (c ∷ ts) value after → (is_value quote c ≡ true) × ValueRest quote (read ++ as_value c ∷ []) ts value after
 value_on e a (next_char p v) = (p, v)
 value_on e a (next_reference q r v) = absurd (cc)
-value_on {c = c} e a at_quote = no (same c) e
+value_on {c = c} e a at_quote = no (itself c) e
 
 pub valued_steps : (rules : Rules) (w : Tree) (t : RawTag) (name : RawName) (quote : ℕ) (read : List ℕ) (st : Stack) (c : ℕ) (ts : List ℕ) → Goes rules w (InValue rules w t name quote read st (c ∷ ts)) ts (cond (c == quote) (Some (tagged (with_attribute t name read) st)) (cond (c == 38) (Some (value_refers t name quote read ampersand st)) (cond (is_value quote c) (Some (valued t name quote (read ++ as_value c ∷ []) st)) None)))
 valued_steps rules w t name quote read st c ts =

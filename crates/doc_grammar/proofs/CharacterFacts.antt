@@ -1,10 +1,18 @@
 -- Which characters are of which class.
-use Rattle.std.proofs.Common.{◌≡◌, ℕ, ◌≤◌, List, [], ◌∷◌, ◌++◌, arith, Bool, true, false, ◌||◌, ◌&&◌, ◌==◌, None, refl, sym, subst, eq-eqb}
+use Rattle.std.proofs.Common.{◌≡◌, ℕ, ◌≤◌, List, [], ◌∷◌, ◌++◌, arith, Bool, true, false, not, ◌||◌, ◌&&◌, ◌==◌, None, refl, sym, subst, eq-eqb}
 use Rattle.std.proofs.lemmas.Bool.{eqb-true}
 use Rattle.xt_names.specs.Classes.{is_in_ranges, ncname_start_ranges}
 use Rattle.doc_grammar.specs.Characters.{is_space, is_char, is_text, is_value, is_quote, may_stand, starts_name, is_name_char, Base, decimal, hexadecimal, digit, last_char}
 
--- no character is both
+-- a character is itself
+pub itself : (c : ℕ) → (c == c) ≡ true
+itself c = eq-eqb c c refl
+
+pub not_true : {b : Bool} → not b ≡ true → b ≡ false
+not_true {b = true} e = absurd (cc)
+not_true {b = false} e = refl
+
+-- no test holds and fails
 pub no : {b : Bool} {P : Type 0} → b ≡ true → b ≡ false → P
 no a b = cc
 
@@ -44,9 +52,17 @@ pub mark_starts : starts_name 63 ≡ false
 unfolding starts_name is_in_ranges
 mark_starts = refl
 
+pub a_starts : starts_name 97 ≡ true
+unfolding starts_name is_in_ranges
+a_starts = refl
+
 pub x_starts : starts_name 120 ≡ true
 unfolding starts_name is_in_ranges
 x_starts = refl
+
+pub a_name : is_name_char 97 ≡ true
+unfolding is_name_char is_in_ranges
+a_name = refl
 
 pub m_name : is_name_char 109 ≡ true
 unfolding is_name_char is_in_ranges
@@ -80,9 +96,21 @@ pub colon_name : is_name_char 58 ≡ false
 unfolding is_name_char is_in_ranges
 colon_name = refl
 
+pub slash_name : is_name_char 47 ≡ false
+unfolding is_name_char is_in_ranges
+slash_name = refl
+
+pub equals_name : is_name_char 61 ≡ false
+unfolding is_name_char is_in_ranges
+equals_name = refl
+
 pub mark_name : is_name_char 63 ≡ false
 unfolding is_name_char is_in_ranges
 mark_name = refl
+
+pub double_quote : is_quote 34 ≡ true
+unfolding is_quote
+double_quote = refl
 
 pub ampersand_quote : is_quote 38 ≡ false
 unfolding is_quote
@@ -97,7 +125,7 @@ pub x_digit : digit decimal 120 ≡ None
 unfolding digit
 x_digit = refl
 
-and_false : (a : Bool) → (a && false) ≡ false
+pub and_false : (a : Bool) → (a && false) ≡ false
 and_false true = refl
 and_false false = refl
 

@@ -8,7 +8,7 @@ use Rattle.xt_tree.specs.Sound.{is_xml_in_any_case}
 use Rattle.xt_tree.specs.TreeView.{forest_of}
 use Rattle.xt_tree.specs.declared.trees.Tree.{Tree}
 use Rattle.xt_tree.specs.declared.trees.Tree.TheVariants.{Doc, Comment, Pi}
-use Rattle.doc_grammar.specs.Characters.{is_char, starts_name, is_name_char, digit, is_colon}
+use Rattle.doc_grammar.specs.Characters.{is_char, is_name_char, digit, is_colon}
 use Rattle.doc_grammar.specs.RawNames.{RawName, plain_name, prefixed_name, written_name, RawTag, tag_named}
 use Rattle.doc_grammar.specs.Scopes.{Opened, opened, top_scope}
 use Rattle.doc_grammar.specs.Skeleton.{anyhow, or_unbound}
@@ -18,7 +18,7 @@ use Rattle.doc_grammar.specs.Document.{limit, Rules, QName, EndTag, element_of, 
 use Rattle.doc_grammar.specs.Document as doc
 use Rattle.doc_grammar.specs.Lexing.{Ref, ampersand, letter_a, spelling, hash, hash_x, number, Lex, dash, comment, comment_dash, comment_dashes, section_open, section, section_bracket, section_brackets, target_mark, target_space, instruction, instruction_mark}
 use Rattle.doc_grammar.specs.Machine.{Stack, ground, element, NameState, reading, coloned, with_text, with_child, with_aside}
-use Rattle.doc_grammar.proofs.CharacterFacts.{no, mark_space}
+use Rattle.doc_grammar.proofs.CharacterFacts.{no, mark_space, a_starts, slash_name}
 use Rattle.doc_grammar.proofs.Residue.{Inside, top, topped}
 use Rattle.doc_grammar.proofs.Residue as residue
 use Rattle.doc_grammar.proofs.LexRests.{Letters, last_letter, a_letter, RefRest, Made, node, said, Opening, LexRest}
@@ -26,18 +26,6 @@ use Rattle.doc_grammar.proofs.LexRests as lex
 use Rattle.doc_grammar.proofs.Rests.{NameRest, plain, local, colon, Then}
 use Rattle.doc_grammar.proofs.Live.{IsSome, IsLiveRef, IsLiveLex}
 use Rattle.doc_grammar.proofs.NumberLemmas as numbers
-
-a_starts : starts_name 97 ≡ true
-unfolding starts_name is_in_ranges
-a_starts = refl
-
-pub a_name : is_name_char 97 ≡ true
-unfolding is_name_char is_in_ranges
-a_name = refl
-
-slash_name : is_name_char 47 ≡ false
-unfolding is_name_char is_in_ranges
-slash_name = refl
 
 -- what is opened anyhow
 pub gives : (scope : List Binding) (t : RawTag) → anyhow scope t ≡ Some (or_unbound scope t (opened scope t))

@@ -5,7 +5,7 @@ use Rattle.xt_names.specs.Classes.{is_in_ranges}
 use Rattle.doc_grammar.specs.Forms.{Form, Part, Spelled, FormStep, form_step, goes, done, fails, last, one, many, choice}
 use Rattle.doc_grammar.specs.Forms as forms
 use Rattle.doc_grammar.specs.Prolog.{xml_declaration, doctype_declaration}
-use Rattle.doc_grammar.proofs.CharacterFacts.{both}
+use Rattle.doc_grammar.proofs.CharacterFacts.{both, not_true}
 
 -- the first example
 abbrev pub first : Form → ℕ
@@ -28,15 +28,11 @@ is_formed (one p class e f) = class e && is_formed f
 is_formed (many class f) = not (class (first f)) && is_formed f
 is_formed (choice class f g) = class (first f) && (is_formed f && is_formed g)
 
-was_false : {b : Bool} → not b ≡ true → b ≡ false
-was_false {b = true} e = absurd (cc)
-was_false {b = false} e = refl
-
 -- the examples spell the form
 pub completes : (f : Form) (rest : List ℕ) → is_formed f ≡ true → Spelled f (first f ∷ (others f ++ rest)) rest
 completes (last p class e) rest h = forms.last_one h
 completes (one p class e f) rest h = forms.first_one (both h).0 (completes f rest (both h).1)
-completes (many class f) rest h = forms.no_other (was_false (both h).0) (completes f rest (both h).1)
+completes (many class f) rest h = forms.no_other (not_true (both h).0) (completes f rest (both h).1)
 completes (choice class f g) rest h = forms.left (both h).0 (completes f rest (both (both h).1).0)
 
 -- what is left of such a form is one

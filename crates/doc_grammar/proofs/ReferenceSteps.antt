@@ -1,12 +1,12 @@
 -- Each step in a reference keeps what can still complete it.
-use Rattle.std.proofs.Common.{◌≡◌, ℕ, ◌+◌, ◌*◌, ◌≤◌, List, [], ◌∷◌, refl, arith, sym, ◌∙◌, subst, Bool, true, false, cond, Option, Some, None, ◌==◌, nat_le, eq-eqb}
+use Rattle.std.proofs.Common.{◌≡◌, ℕ, ◌+◌, ◌*◌, ◌≤◌, List, [], ◌∷◌, refl, arith, sym, ◌∙◌, subst, Bool, true, false, cond, Option, Some, None, ◌==◌, nat_le}
 use Rattle.std.proofs.lemmas.Option.{none-some, same_Some}
 use Rattle.std.proofs.lemmas.Bool.{leb-false, eqb-true}
 use Rattle.doc_grammar.specs.Characters.{is_char, Base, decimal, hexadecimal, base_of, digit, last_char}
 use Rattle.doc_grammar.specs.Lexemes.{Digits, Reference}
 use Rattle.doc_grammar.specs.Lexemes as lexemes
 use Rattle.doc_grammar.specs.Lexing.{Ref, RefStep, ref_step, on, stands_for, fails, ampersand, letter_a, spelling, spelling_step, hash, hash_x, number, first_digit, with_digit}
-use Rattle.doc_grammar.proofs.CharacterFacts.{no, semicolon_digit, x_digit, char_low}
+use Rattle.doc_grammar.proofs.CharacterFacts.{no, semicolon_digit, x_digit, char_low, itself}
 use Rattle.doc_grammar.proofs.LexRests.{Letters, last_letter, a_letter, RefRest}
 
 -- what a character does to the references that may still come
@@ -22,9 +22,6 @@ choose r c ts false x y f g = g refl
 
 at : (r : Ref) (c d : ℕ) (ts : List ℕ) (o : RefStep) → (c == d) ≡ true → RefGoes r d ts o → RefGoes r c ts o
 at r c d ts o e k = let P : ℕ → Type 0 = λ x. RefGoes r x ts o in subst P (sym (eqb-true c d e)) k
-
-same : (c : ℕ) → (c == c) ≡ true
-same c = eq-eqb c c refl
 
 -- the first letter of an entity's name
 begins_a : {v : ℕ} {ts rest : List ℕ} → Letters 38 (109 ∷ 112 ∷ 59 ∷ []) ts v rest → Reference (97 ∷ ts) v rest
@@ -102,13 +99,13 @@ last_one : {u v c d : ℕ} {ts rest : List ℕ} → Letters u (d ∷ []) (c ∷ 
 last_one last_letter = (refl, refl)
 
 last_same : {u v c d : ℕ} {ts rest : List ℕ} → Letters u (d ∷ []) (c ∷ ts) v rest → (c == d) ≡ true
-last_same {c = c} last_letter = same c
+last_same {c = c} last_letter = itself c
 
 next_one : {u v c d e : ℕ} {left ts rest : List ℕ} → Letters u (d ∷ e ∷ left) (c ∷ ts) v rest → Letters u (e ∷ left) ts v rest
 next_one (a_letter k) = k
 
 next_same : {u v c d e : ℕ} {left ts rest : List ℕ} → Letters u (d ∷ e ∷ left) (c ∷ ts) v rest → (c == d) ≡ true
-next_same {c = c} (a_letter k) = same c
+next_same {c = c} (a_letter k) = itself c
 
 no_letters : {u v : ℕ} {ts rest : List ℕ} → Letters u [] ts v rest → ⊥
 no_letters k = elim k [ ]

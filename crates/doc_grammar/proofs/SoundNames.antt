@@ -15,7 +15,7 @@ use Rattle.doc_grammar.specs.RawNames.{RawName, RawAttribute, RawTag}
 use Rattle.doc_grammar.specs.Scopes.{top_scope, bound_later, bound_uri, declared_prefix, declared_by, declarations, is_binding, are_declarations, or_no_uri, in_namespace, element_named, element_name, attribute_named, attribute_name, with_value, unless_declared, one_named, both_named, named_attributes, Opened, opened_with, opened}
 use Rattle.doc_grammar.specs.Document.{QName, Valued, Attributes, Spaced}
 use Rattle.doc_grammar.specs.Document as doc
-use Rattle.doc_grammar.proofs.CharacterFacts.{both}
+use Rattle.doc_grammar.proofs.CharacterFacts.{both, not_true}
 use Rattle.doc_grammar.proofs.SoundTexts.{ncname_text, xml_push, xml_none, value_char, reference_char}
 
 -- names as they are written
@@ -113,10 +113,6 @@ prefixed_sound prefix uri local n p k =
 no_namespace : (local : List ℕ) → is_ncname_text local ≡ true → is_sound_name (record { prefix = []; uri = []; local = local }) ≡ true
 unfolding keeps_xml keeps_xmlns
 no_namespace local n = plain_sound [] local n refl refl
-
-not_true : {b : Bool} → not b ≡ true → b ≡ false
-not_true {b = true} e = absurd (cc)
-not_true {b = false} e = refl
 
 name_sound : (prefix local : List ℕ) (scope : List Binding) (name : Name) → AreBindings scope → is_ncname_text local ≡ true → is_ncname_text prefix ≡ true → in_namespace prefix local (bound_uri scope prefix) ≡ Some name → (is_sound_name name ≡ true) × (is_empty_text name.uri ≡ false)
 name_sound prefix local scope name all n p e = go (bound_uri scope prefix) refl e

@@ -9,7 +9,7 @@ use Rattle.xt_tree.specs.Sound.{is_sound_comment, is_sound_pi}
 use Rattle.doc_grammar.specs.Characters.{is_space, is_char, is_text, is_value, as_value, starts_name, is_name_char, may_stand}
 use Rattle.doc_grammar.specs.Lexemes.{Ends, Spaces, Named, NCName, Digits, Reference, UpTo, begins_with, section_close, instruction_close, CommentText, is_target, Instruction}
 use Rattle.doc_grammar.specs.Lexemes as lexemes
-use Rattle.doc_grammar.proofs.CharacterFacts.{both, dash_char, name_starts}
+use Rattle.doc_grammar.proofs.CharacterFacts.{both, dash_char, name_starts, and_false}
 
 -- texts of characters
 
@@ -126,10 +126,6 @@ upto_chars {read = read} (lexemes.more {c = c} p b k) a = upto_chars k (xml_push
 upto_chars (lexemes.whole e) a = a
 
 -- instructions
-
-and_false : (a : Bool) → (a && false) ≡ false
-and_false true = refl
-and_false false = refl
 
 and_true : (a b : Bool) → (a && (b && true)) ≡ false → (a && b) ≡ false
 and_true true true e = e
