@@ -6,4 +6,5 @@ mod NameLemmas
 mod ReferenceReads
 mod ReferenceLemmas
 mod ValueLemmas
+mod TagLemmas
 mod ScopeLemmas

@@ -73,7 +73,7 @@ one_of : (P : Type 0) (a b : Bool) → (a ≡ true → P) → (b ≡ true → P)
 one_of P true b f g e = f refl
 one_of P false b f g e = g e
 
-quote_cases : (P : ℕ → Type 0) (q : ℕ) → P 34 → P 39 → is_quote q ≡ true → P q
+pub quote_cases : (P : ℕ → Type 0) (q : ℕ) → P 34 → P 39 → is_quote q ≡ true → P q
 unfolding is_quote
 quote_cases P q a b e = one_of (P q) (q == 34) (q == 39) (λ x. subst P (sym (eqb-true q 34 x)) a) (λ x. subst P (sym (eqb-true q 39 x)) b) e
 
