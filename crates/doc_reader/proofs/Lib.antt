@@ -8,3 +8,8 @@ mod ReferenceLemmas
 mod ValueLemmas
 mod TagLemmas
 mod ScopeLemmas
+mod ContentLemmas
+mod TextReads
+mod AsideReads
+mod FormReads
+mod MarkupReads
