@@ -2,6 +2,7 @@ mod CharacterFacts
 mod ReadLemmas
 mod SourceLemmas
 mod ScanLemmas
+mod SpellLemmas
 mod NameLemmas
 mod ReferenceReads
 mod ReferenceLemmas
