@@ -3,6 +3,7 @@ mod ReadLemmas
 mod SourceLemmas
 mod ScanLemmas
 mod SpellLemmas
+mod AsideLemmas
 mod NameLemmas
 mod ReferenceReads
 mod ReferenceLemmas
