@@ -9,10 +9,10 @@ use Rattle.doc_grammar.specs.Characters.{is_space, is_char}
 use Rattle.doc_grammar.specs.Lexemes.{Ends, Spaces}
 use Rattle.doc_grammar.specs.Lexemes as lexemes
 use Rattle.doc_grammar.specs.Lexing.{Lex, makes, fails, on_char, dash, comment, comment_dash, comment_dashes, section_open, section, section_bracket, section_brackets, target_mark, target_space, instruction, instruction_mark, lex_step}
-use Rattle.doc_reader.specs.Asides.{LexEnd, made, said, stopped, lex_reads, target_reads}
+use Rattle.doc_reader.specs.Asides.{LexEnd, made, stopped, lex_reads, target_reads}
 use Rattle.doc_reader.specs.Classes.{is_char_but}
 use Rattle.doc_reader.specs.Sources.{NotNext, DiffersAt}
-use Rattle.doc_reader.proofs.SpellLemmas.{Spaced, IsPlain, ascii}
+use Rattle.doc_reader.proofs.SpellLemmas.{Spaced, ascii}
 
 -- runs
 
@@ -122,25 +122,6 @@ section_bracket_then read o = rw o refl
 
 pub section_brackets_then : {old new : List ℕ} (read : List ℕ) → old ≡ 93 ∷ new → lex_reads old (section_bracket read) ≡ lex_reads new (section_brackets read)
 section_brackets_then read o = rw o refl
-
-pub another_bracket : {old new : List ℕ} (read : List ℕ) → old ≡ 93 ∷ new → lex_reads old (section_brackets read) ≡ lex_reads new (section_brackets (read ++ 93 ∷ []))
-another_bracket read o = rw o refl
-
-pub section_closes : {old new : List ℕ} (read : List ℕ) → old ≡ 62 ∷ new → lex_reads old (section_brackets read) ≡ said read new
-section_closes read o = rw o refl
-
--- a bracket alone is text
-pub bracket_is_text : (read ts : List ℕ) {new : List ℕ} → (new ≡ ts) × NotNext 93 ts → lex_reads ts (section_bracket read) ≡ lex_reads new (section (read ++ 93 ∷ []))
-bracket_is_text read ts n = rw n.0 (go ts n.1) where
-  go : (ts : List ℕ) → NotNext 93 ts → lex_reads ts (section_bracket read) ≡ lex_reads ts (section (read ++ 93 ∷ []))
-  go [] n = refl
-  go (c ∷ cs) n = rw (ne_eqb c 93 (λ same. n (sym same)), append_assoc read (93 ∷ []) (c ∷ [])) refl
-
--- so are two that `>` is not behind
-pub brackets_are_text : (read ts : List ℕ) → NotNext 62 ts → NotNext 93 ts → lex_reads ts (section_brackets read) ≡ lex_reads ts (section (read ++ 93 ∷ 93 ∷ []))
-brackets_are_text read [] m n = refl
-brackets_are_text read (c ∷ cs) m n =
-    rw (ne_eqb c 62 (λ same. m (sym same)), ne_eqb c 93 (λ same. n (sym same)), append_assoc read (93 ∷ 93 ∷ []) (c ∷ [])) refl
 
 -- instructions
 

@@ -25,7 +25,7 @@ Spaced old new = (c : ℕ) × (ts : List ℕ) × (old ≡ c ∷ ts) × (is_space
 
 -- one character
 
-pub one_then : (p : Part) (class : ℕ → Bool) (e : ℕ) (f : Form) {old mid : List ℕ} {c : ℕ} {end : FormEnd} → old ≡ c ∷ mid → class c ≡ true → spells mid f ≡ end → spells old (one p class e f) ≡ end
+one_then : (p : Part) (class : ℕ → Bool) (e : ℕ) (f : Form) {old mid : List ℕ} {c : ℕ} {end : FormEnd} → old ≡ c ∷ mid → class c ≡ true → spells mid f ≡ end → spells old (one p class e f) ≡ end
 one_then p class e f o h k = rw (o, h) k
 
 none_in : (p : Part) (class : ℕ → Bool) (e : ℕ) (f : Form) (ts : List ℕ) → Ends class ts → spells ts (one p class e f) ≡ stops_in p ts
@@ -36,13 +36,13 @@ none_in encoding class e f (c ∷ cs) n = rw n refl
 none_in doctype_end class e f [] n = refl
 none_in doctype_end class e f (c ∷ cs) n = rw n refl
 
-pub one_stops : (p : Part) (class : ℕ → Bool) (e : ℕ) (f : Form) {old new : List ℕ} → new ≡ old → Ends class old → spells old (one p class e f) ≡ stops_in p new
+one_stops : (p : Part) (class : ℕ → Bool) (e : ℕ) (f : Form) {old new : List ℕ} → new ≡ old → Ends class old → spells old (one p class e f) ≡ stops_in p new
 one_stops p class e f {old = old} o n = rw o (none_in p class e f old n)
 
 same_one : (c : ℕ) → is_one c c ≡ true
 same_one c = eq-eqb c c refl
 
-pub other_one : (c : ℕ) (ts : List ℕ) → NotNext c ts → Ends (is_one c) ts
+other_one : (c : ℕ) (ts : List ℕ) → NotNext c ts → Ends (is_one c) ts
 other_one c [] n = tt
 other_one c (d ∷ ds) n = ne_eqb d c (λ same. n (sym same))
 
@@ -133,10 +133,10 @@ choice_none : (class : ℕ → Bool) (f g : Form) (ts : List ℕ) → Ends class
 choice_none class f g [] n = refl
 choice_none class f g (c ∷ cs) n = rw n refl
 
-pub left_then : (class : ℕ → Bool) (f g : Form) {old ts : List ℕ} {c : ℕ} {end : FormEnd} → old ≡ c ∷ ts → class c ≡ true → spells old f ≡ end → spells old (choice class f g) ≡ end
+left_then : (class : ℕ → Bool) (f g : Form) {old ts : List ℕ} {c : ℕ} {end : FormEnd} → old ≡ c ∷ ts → class c ≡ true → spells old f ≡ end → spells old (choice class f g) ≡ end
 left_then class f g {ts = ts} {c = c} o h k = rw o (choice_some class f g c ts h ∙ (rw o at k))
 
-pub right_then : (class : ℕ → Bool) (f g : Form) (old : List ℕ) {end : FormEnd} → Ends class old → spells old g ≡ end → spells old (choice class f g) ≡ end
+right_then : (class : ℕ → Bool) (f g : Form) (old : List ℕ) {end : FormEnd} → Ends class old → spells old g ≡ end → spells old (choice class f g) ≡ end
 right_then class f g old n k = choice_none class f g old n ∙ k
 
 pub next_then : (c : ℕ) (f g : Form) (old : List ℕ) {end : FormEnd} → NextIs c old → spells old f ≡ end → spells old (choice (is_one c) f g) ≡ end
@@ -193,7 +193,7 @@ or_cases : (a b : Bool) → (a || b) ≡ true → (a ≡ true) ⊎ (b ≡ true)
 or_cases true b h = inl refl
 or_cases false b h = inr h
 
-pub quote_cases : (q : ℕ) → is_quote q ≡ true → (q ≡ 34) ⊎ (q ≡ 39)
+quote_cases : (q : ℕ) → is_quote q ≡ true → (q ≡ 34) ⊎ (q ≡ 39)
 unfolding is_quote
 quote_cases q h = elim (or_cases (q == 34) (q == 39) h) [
   | inl d ↦ inl (eqb-true q 34 d)
@@ -247,9 +247,13 @@ pub letter_takes : (small great : ℕ) (b : Bool) (old mid new : List ℕ) → g
 letter_takes small great true old mid new g s h = λ f. one_then encoding (is_letter small) small f (sym s.0 ∙ h) (great_letter small great g) refl
 letter_takes small great false old mid new g s h = λ f. one_stops encoding (is_letter small) small f (h.0 ∙ s.0) (no_letter small great old g s.1 (rw s.0 at h.1))
 
-pub in_encoding : (ts : List ℕ) → (ts ≡ [] → ⊥) → stops_in encoding ts ≡ stops machine.encoding ts
-in_encoding [] n = absurd (n refl)
-in_encoding (c ∷ cs) n = refl
+pub in_encoding : (c : ℕ) (ts : List ℕ) → Some c ≡ slice_get ts 0 → stops_in encoding ts ≡ stops machine.encoding ts
+in_encoding c [] s = cc
+in_encoding c (d ∷ ds) s = refl
+
+pub encoding_over : (ts : List ℕ) → None ≡ slice_get ts 0 → stops_in encoding ts ≡ stops other ts
+encoding_over [] s = refl
+encoding_over (d ∷ ds) s = cc
 
 -- a quote behind `=`
 pub quote_behind : (r : Option ℕ) (old mid new : List ℕ) → ((inner : ℕ → Form) → spells old (equals (quoted inner)) ≡ spells mid (quoted inner))

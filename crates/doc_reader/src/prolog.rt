@@ -95,10 +95,9 @@ impl<'a> Source<'a> {
     fn stop_in_encoding(&self) -> Step
         ensures { stops_in encoding self.now ≡ end_of result self.now }
     {
-        if self.is_over() {
-            OTHER
-        } else {
-            Step::Stopped(Stop::Encoding)
+        match self.peek() {
+            Some(_) => Step::Stopped(Stop::Encoding),
+            None => OTHER,
         }
     }
 

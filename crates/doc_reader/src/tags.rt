@@ -11,6 +11,7 @@ ghost use Rattle.doc_reader.specs.Reading.{reads, Fails, Ran, OnStep};
 ghost use Rattle.doc_reader.specs.Sources.{NotNext};
 ghost use Rattle.doc_reader.specs.Spelling.{spells, stops};
 ghost use Rattle.doc_reader.specs.View.{tag_of};
+
 use crate::buffers::Buffer;
 use crate::names::RawName;
 use crate::sources::Source;

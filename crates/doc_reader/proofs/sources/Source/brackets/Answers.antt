@@ -1,6 +1,5 @@
-use Rattle.std.proofs.Common.{◌≡◌, ◌++◌, ◌∷◌, [], ◌∙◌, refl, sym, ap, length, arith, append-nil, append_assoc}
-use Rattle.doc_grammar.specs.Lexing.{section_brackets, section}
-use Rattle.doc_reader.proofs.AsideLemmas.{section_brackets_then, another_bracket, section_closes, bracket_is_text, brackets_are_text}
+use Rattle.std.proofs.Common.{[], sym, ap, length, arith, append-nil}
+use Rattle.doc_reader.proofs.AsideLemmas.{section_brackets_then}
 use Rattle.doc_reader.proofs.sources.Source.brackets.Goals as goal
 
 pub brackets-init : goal.brackets-init

@@ -1,4 +1,4 @@
-use Rattle.std.proofs.Common.{◌∙◌, refl, length, ap, arith}
+use Rattle.std.proofs.Common.{◌∙◌, length, ap, arith}
 use Rattle.std.specs.Str.{chars}
 use Rattle.doc_grammar.specs.Lexing.{instruction}
 use Rattle.doc_reader.proofs.AsideLemmas.{instruction_collects, run_then, run_stops, mark_then, instruction_closes, mark_is_text}

@@ -1,9 +1,8 @@
-use Rattle.std.proofs.Common.{refl}
-use Rattle.doc_reader.proofs.SpellLemmas.{in_encoding}
+use Rattle.doc_reader.proofs.SpellLemmas.{in_encoding, encoding_over}
 use Rattle.doc_reader.proofs.sources.Source.stop_in_encoding.Goals as goal
 
-pub returns-then-is_over : goal.returns-then-is_over
-returns-then-is_over c = rw c.if-is_over.ensures refl
+pub returns-in-Some : goal.returns-in-Some
+returns-in-Some c = in_encoding _ _ c.in-Some.ensures
 
-pub returns-else-is_over : goal.returns-else-is_over
-returns-else-is_over c = in_encoding _ c.if-is_over.ensures
+pub returns-in-None : goal.returns-in-None
+returns-in-None c = encoding_over _ c.in-None.ensures

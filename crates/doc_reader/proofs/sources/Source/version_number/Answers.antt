@@ -1,4 +1,4 @@
-use Rattle.std.proofs.Common.{refl, ◌∙◌}
+use Rattle.std.proofs.Common.{refl}
 use Rattle.doc_grammar.specs.Forms.{elsewhere}
 use Rattle.doc_reader.proofs.SpellLemmas.{literal_then, literal_stops, some_then, some_stops, eat_then, eat_stops, unspaced_then, spaced_then, next_then, other_then}
 use Rattle.doc_reader.proofs.sources.Source.version_number.Goals as goal
