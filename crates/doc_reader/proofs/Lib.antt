@@ -2,6 +2,8 @@ mod CharacterFacts
 mod ReadLemmas
 mod SourceLemmas
 mod ScanLemmas
+mod SpellLemmas
+mod AsideLemmas
 mod NameLemmas
 mod ReferenceReads
 mod ReferenceLemmas

@@ -5,5 +5,6 @@ pub mod View
 pub mod References
 pub mod Asides
 pub mod Spelling
+pub mod PrologParts
 pub mod Opening
 pub mod Frames
