@@ -5,4 +5,6 @@ mod ScanLemmas
 mod NameLemmas
 mod ReferenceReads
 mod ReferenceLemmas
+mod FrameLemmas
+mod ElementLemmas
 mod ScopeLemmas
