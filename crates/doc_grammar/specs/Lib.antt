@@ -9,3 +9,4 @@ pub mod Document
 pub mod Lexing
 pub mod Machine
 pub mod Faults
+pub mod Skeleton

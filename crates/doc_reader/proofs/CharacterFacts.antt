@@ -61,7 +61,7 @@ one_of P true b f g e = f refl
 one_of P false b f g e = g e
 
 -- what holds of each white space character
-space_cases : (P : ℕ → Type 0) (c : ℕ) → P 32 → P 9 → P 10 → P 13 → is_space c ≡ true → P c
+pub space_cases : (P : ℕ → Type 0) (c : ℕ) → P 32 → P 9 → P 10 → P 13 → is_space c ≡ true → P c
 unfolding is_space
 space_cases P c a b d e s =
     let is = λ (n : ℕ) (p : P n) (q : (c == n) ≡ true). subst P (sym (eqb-true c n q)) p in
@@ -81,3 +81,19 @@ more_ranges (r ∷ rs) more c h = grind (arith, more_ranges rs more c)
 pub name_starts : (c : ℕ) → starts_name c ≡ true → is_name_char c ≡ true
 unfolding starts_name is_name_char
 name_starts c s = more_ranges ncname_start_ranges _ c s
+
+pub text_32 : is_text 32 ≡ true
+unfolding is_text is_char is_in_ranges
+text_32 = refl
+
+pub text_9 : is_text 9 ≡ true
+unfolding is_text is_char is_in_ranges
+text_9 = refl
+
+pub text_10 : is_text 10 ≡ true
+unfolding is_text is_char is_in_ranges
+text_10 = refl
+
+pub text_13 : is_text 13 ≡ true
+unfolding is_text is_char is_in_ranges
+text_13 = refl

@@ -7,4 +7,6 @@ mod ReferenceReads
 mod ReferenceLemmas
 mod FrameLemmas
 mod ElementLemmas
+mod ValueLemmas
+mod TagLemmas
 mod ScopeLemmas

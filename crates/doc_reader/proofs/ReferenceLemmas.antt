@@ -1,15 +1,16 @@
 -- What the parts of a reference, taken one after another, do to its reading.
-use Rattle.std.proofs.Common.{◌≡◌, ℕ, ◌+◌, ◌*◌, ◌≤◌, ◌<◌, List, [], ◌∷◌, ◌++◌, length, Bool, true, false, ◌&&◌, inl, inr, Option, Some, None, MatchOption, MatchResult, Result, Ok, Err, nat_le, refl, sym, ap, ◌∙◌, arith, eq-eqb}
+use Rattle.std.proofs.Common.{◌≡◌, ℕ, ◌+◌, ◌*◌, ◌≤◌, ◌<◌, List, [], ◌∷◌, ◌++◌, length, Bool, true, false, ◌&&◌, inl, inr, Option, Some, None, MatchOption, MatchResult, Result, Ok, Err, nat_le, refl, sym, ap, ◌∙◌, arith, eq-eqb, codes}
 use Rattle.std.proofs.lemmas.Bool.{ne_eqb, eqb-true, le-leb, lt-leb}
 use Rattle.doc_grammar.specs.Characters.{is_char, Base, decimal, hexadecimal, base_of, digit, last_char, is_name_char, starts_name}
 use Rattle.doc_grammar.specs.Lexing.{Ref, RefStep, on, stands_for, fails, ref_step, ampersand, letter_a, spelling, hash, hash_x, number, entity_step}
 use Rattle.doc_grammar.specs.Machine.{Stop, other, entity, stop_in_ref, stop_in_entity}
 use Rattle.std.specs.Char.{OutOfScalarRange}
+use Rattle.std.specs.Str.{chars}
 use Rattle.xt_names.specs.Classes.{is_in_ranges}
 use Rattle.doc_reader.specs.declared.steps.Stop as code
 use Rattle.doc_reader.specs.Reading.{stop_of}
 use Rattle.doc_reader.specs.Sources.{NotNext, NextIs, DiffersAt}
-use Rattle.doc_reader.specs.References.{RefEnd, finds, stops, ref_reads, next_digit, before_digits, stop_by, is_in_entity}
+use Rattle.doc_reader.specs.References.{RefEnd, finds, stops, ref_reads, next_digit, before_digits, BeginsDigits, stop_by, is_in_entity}
 use Rattle.doc_reader.proofs.ReferenceReads.{ref_on, ref_ends, ref_stuck}
 
 abbrev pub Skips : Option ℕ → List ℕ → List ℕ → Type 0
@@ -25,30 +26,34 @@ shorter_one c old new e = let size = ap length e in omega arith
 
 -- the first digit
 
-first_step : (b : Base) (c d : ℕ) → (c ≡ 120 → ⊥) → digit b c ≡ Some d → ref_step (before_digits b) c ≡ on (number b d)
-first_step decimal c d n e = rw (ne_eqb c 120 n, e) refl
-first_step hexadecimal c d n e = rw e refl
+first_step : (b : Base) (c d : ℕ) (cs : List ℕ) → BeginsDigits b (c ∷ cs) → digit b c ≡ Some d → ref_step (before_digits b) c ≡ on (number b d)
+first_step decimal c d cs n e = rw (ne_eqb c 120 (λ s. n (sym s)), e) refl
+first_step hexadecimal c d cs n e = rw e refl
 
-no_first_step : (b : Base) (c : ℕ) → (c ≡ 120 → ⊥) → digit b c ≡ None → ref_step (before_digits b) c ≡ fails
-no_first_step decimal c n e = rw (ne_eqb c 120 n, e) refl
-no_first_step hexadecimal c n e = rw e refl
+no_first_step : (b : Base) (c : ℕ) (cs : List ℕ) → BeginsDigits b (c ∷ cs) → digit b c ≡ None → ref_step (before_digits b) c ≡ fails
+no_first_step decimal c cs n e = rw (ne_eqb c 120 (λ s. n (sym s)), e) refl
+no_first_step hexadecimal c cs n e = rw e refl
 
 first_why : (b : Base) (c : ℕ) → stop_in_ref (before_digits b) c ≡ other
 first_why decimal c = refl
 first_why hexadecimal c = refl
 
-pub first_some : (b : Base) (d : ℕ) (old new : List ℕ) (o : Option ℕ) → Some d ≡ next_digit b old → Skips o old new → NotNext 120 old → ref_reads old (before_digits b) ≡ ref_reads new (number b d)
+pub first_some : (b : Base) (d : ℕ) (old new : List ℕ) (o : Option ℕ) → Some d ≡ next_digit b old → Skips o old new → BeginsDigits b old → ref_reads old (before_digits b) ≡ ref_reads new (number b d)
 first_some b d old new o e s n = go (skipped b d old new o e s) where
   go : (c : ℕ) × (old ≡ c ∷ new) → ref_reads old (before_digits b) ≡ ref_reads new (number b d)
   go k =
       let is : digit b k.0 ≡ Some d = sym (rw k.1 at e) in
-      let other_one : (120 ≡ k.0 → ⊥) = rw k.1 at n in
-      ap (λ (x : List ℕ). ref_reads x (before_digits b)) k.1 ∙ ref_on (before_digits b) (number b d) k.0 new (first_step b k.0 d (λ same. other_one (sym same)) is)
+      let begins : BeginsDigits b (k.0 ∷ new) = rw k.1 at n in
+      ap (λ (x : List ℕ). ref_reads x (before_digits b)) k.1 ∙ ref_on (before_digits b) (number b d) k.0 new (first_step b k.0 d new begins is)
 
-pub first_none : (b : Base) (old : List ℕ) → None ≡ next_digit b old → NotNext 120 old → ref_reads old (before_digits b) ≡ stops other old
-first_none b [] e n = refl
+no_digits : (b : Base) → ref_reads [] (before_digits b) ≡ stops other []
+no_digits decimal = refl
+no_digits hexadecimal = refl
+
+pub first_none : (b : Base) (old : List ℕ) → None ≡ next_digit b old → BeginsDigits b old → ref_reads old (before_digits b) ≡ stops other old
+first_none b [] e n = no_digits b
 first_none b (c ∷ cs) e n =
-    ref_stuck (before_digits b) c cs (no_first_step b c (λ same. n (sym same)) (sym e)) ∙ ap (λ (w : Stop). stops w (c ∷ cs)) (first_why b c)
+    ref_stuck (before_digits b) c cs (no_first_step b c cs n (sym e)) ∙ ap (λ (w : Stop). stops w (c ∷ cs)) (first_why b c)
 
 -- another digit
 
@@ -134,10 +139,6 @@ hash_x_next old new e = ap (λ (x : List ℕ). ref_reads x hash) e ∙ ref_on ha
 pub begins_a : (old new : List ℕ) → old ≡ 97 ∷ new → ref_reads old ampersand ≡ ref_reads new letter_a
 begins_a old new e = ap (λ (x : List ℕ). ref_reads x ampersand) e ∙ ref_on ampersand letter_a 97 new refl
 
--- the rest of a name, and what it stands for
-pub begins : (r : Ref) (d v : ℕ) (left old now new : List ℕ) → ref_step r d ≡ on (spelling left v) → old ≡ now → now ≡ d ∷ new → ref_reads old r ≡ ref_reads new (spelling left v)
-begins r d v left old now new s o e = ap (λ (x : List ℕ). ref_reads x r) (o ∙ e) ∙ ref_on r (spelling left v) d new s
-
 no_entity_step : (c : ℕ) → (c ≡ 35 → ⊥) → (c ≡ 97 → ⊥) → (c ≡ 108 → ⊥) → (c ≡ 103 → ⊥) → (c ≡ 113 → ⊥) → ref_step ampersand c ≡ fails
 no_entity_step c n a l g q = rw (ne_eqb c 35 n, ne_eqb c 97 a, ne_eqb c 108 l, ne_eqb c 103 g, ne_eqb c 113 q) refl
 
@@ -192,3 +193,43 @@ differs (e ∷ f ∷ read) d v more rest why w n =
 pub spelled_not : (whole old new : List ℕ) (v : ℕ) (why : Stop) → DiffersAt whole old new → why ≡ stop_by is_in_entity new → ref_reads old (spelling whole v) ≡ stops why new
 spelled_not whole old new v why d w =
     ap (λ (x : List ℕ). ref_reads x (spelling whole v)) d.is_old ∙ ap (λ (x : List ℕ). ref_reads (d.read ++ new) (spelling x v)) d.is_whole ∙ differs d.read d.next v d.more new why w d.not_next
+
+-- the rests of the names, as they stand in the code
+
+pub rest_t : chars (codes "t;") ≡ 116 ∷ 59 ∷ []
+unfolding chars
+rest_t = refl
+
+pub rest_uot : chars (codes "uot;") ≡ 117 ∷ 111 ∷ 116 ∷ 59 ∷ []
+unfolding chars
+rest_uot = refl
+
+pub rest_p : chars (codes "p;") ≡ 112 ∷ 59 ∷ []
+unfolding chars
+rest_p = refl
+
+pub rest_os : chars (codes "os;") ≡ 111 ∷ 115 ∷ 59 ∷ []
+unfolding chars
+rest_os = refl
+
+pub some_left : (text : List ℕ) (c : ℕ) (left : List ℕ) → text ≡ c ∷ left → 0 < length text
+some_left text c left e = let size = ap length e in omega arith
+
+-- the first letter of a name, and the rest of it
+pub begins_name : (r : Ref) (d v c : ℕ) (left text old now new : List ℕ) (s : Result ℕ code.Stop) → ref_step r d ≡ on (spelling (c ∷ left) v) → text ≡ c ∷ left → now ≡ old → now ≡ d ∷ new → (last : List ℕ)
+    → MatchResult s (λ x. ref_reads new (spelling text v) ≡ finds x last) (λ why. ref_reads new (spelling text v) ≡ stops (stop_of why) last) → MatchResult s (λ x. ref_reads old r ≡ finds x last) (λ why. ref_reads old r ≡ stops (stop_of why) last)
+begins_name r d v c left text old now new s st t o e last m =
+    result_from (ref_reads old r) (ref_reads new (spelling text v)) last s (ap (λ (x : List ℕ). ref_reads x r) (sym o ∙ e) ∙ ref_on r (spelling (c ∷ left) v) d new st ∙ ap (λ (x : List ℕ). ref_reads new (spelling x v)) (sym t)) m
+
+-- where no first letter is taken
+pub entity_stops : (old a b c d : List ℕ) (why : Stop) → NotNext 35 old → (a ≡ old) × NotNext 97 old → (b ≡ a) × NotNext 108 a → (c ≡ b) × NotNext 103 b → (d ≡ c) × NotNext 113 c → why ≡ stop_by starts_name d → ref_reads old ampersand ≡ stops why d
+entity_stops old a b c d why n p q r s w =
+    let b_old : b ≡ old = q.0 ∙ p.0 in
+    let c_old : c ≡ old = r.0 ∙ b_old in
+    let d_old : d ≡ old = s.0 ∙ c_old in
+    rw d_old (no_entity old why (rw d_old at w) n p.1 (rw p.0 at q.1) (rw b_old at r.1) (rw c_old at s.1))
+
+pub letter_stops : (old a b : List ℕ) (why : Stop) → (a ≡ old) × NotNext 109 old → (b ≡ a) × NotNext 112 a → why ≡ stop_by is_in_entity b → ref_reads old letter_a ≡ stops why b
+letter_stops old a b why p q w =
+    let b_old : b ≡ old = q.0 ∙ p.0 in
+    rw b_old (no_letter old why (rw b_old at w) p.1 (rw p.0 at q.1))

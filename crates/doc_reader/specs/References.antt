@@ -1,8 +1,9 @@
 -- A reading of a reference alone.
-use Rattle.std.specs.Prelude.{ℕ, Option, None, List, [], ◌∷◌, Bool, ◌||◌, ◌==◌, if◌then◌else◌}
+use Rattle.std.specs.Prelude.{⊤, ℕ, Option, None, List, [], ◌∷◌, Bool, ◌||◌, ◌==◌, if◌then◌else◌}
 use Rattle.doc_grammar.specs.Characters.{is_name_char, Base, decimal, hexadecimal, digit}
 use Rattle.doc_grammar.specs.Lexing.{Ref, RefStep, on, stands_for, fails, hash, hash_x, ref_step}
 use Rattle.doc_grammar.specs.Machine.{Stop, entity, other, stop_in_ref}
+use Rattle.doc_reader.specs.Sources.{NotNext}
 use Rattle.doc_reader.specs.declared.references.Base as code
 use Rattle.doc_reader.specs.declared.references.Base.TheVariants.{Decimal, Hexadecimal}
 
@@ -42,3 +43,8 @@ before_digits hexadecimal = hash_x
 abbrev pub next_digit : Base → List ℕ → Option ℕ
 next_digit b [] = None
 next_digit b (c ∷ cs) = digit b c
+
+-- digits of the base begin here: behind `&#` an `x` would make them hexadecimal
+abbrev pub BeginsDigits : Base → List ℕ → Type 0
+BeginsDigits decimal ts = NotNext 120 ts
+BeginsDigits hexadecimal ts = ⊤

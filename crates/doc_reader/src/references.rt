@@ -5,7 +5,7 @@ ghost use Rattle.doc_grammar.specs.Characters.{digit, base_of, starts_name};
 ghost use Rattle.doc_grammar.specs.Lexing.{ampersand, letter_a, spelling, hash, number};
 ghost use Rattle.doc_grammar.specs.Machine.{other};
 ghost use Rattle.doc_reader.specs.Reading.{stop_of};
-ghost use Rattle.doc_reader.specs.References.{ref_reads, finds, stops, stop_by, is_in_entity, base_view, before_digits, next_digit};
+ghost use Rattle.doc_reader.specs.References.{ref_reads, finds, stops, stop_by, is_in_entity, base_view, before_digits, next_digit, BeginsDigits};
 ghost use Rattle.doc_reader.specs.Sources.{NotNext, NextIs};
 
 use crate::classes::{is_char, is_name_char, starts_name};
@@ -144,7 +144,7 @@ impl<'a> Source<'a> {
 
     /// Takes digits, of which there is one at least, and the `;` behind them.
     fn digits(&mut self, base: Base) -> Result<char, Stop>
-        requires { NotNext 120 self.old }
+        requires { BeginsDigits (base_view base) self.old }
         ensures reads { MatchResult result (λ c. ref_reads self.old (before_digits (base_view base)) ≡ finds c self.new) (λ why. ref_reads self.old (before_digits (base_view base)) ≡ stops (stop_of why) self.new) }
         ensures shorter { length self.new ≤ length self.old }
     {
@@ -184,7 +184,7 @@ impl<'a> Source<'a> {
 
     /// Takes the first digit of a number.
     fn first_digit(&mut self, base: Base) -> Option<u32>
-        requires { NotNext 120 self.old }
+        requires { BeginsDigits (base_view base) self.old }
         ensures reads { MatchOption result (ref_reads self.old (before_digits (base_view base)) ≡ stops other self.new) (λ d. ref_reads self.old (before_digits (base_view base)) ≡ ref_reads self.new (number (base_view base) d)) }
         ensures small { IfSome result (λ d. d ≤ 0x10_FFFF) }
         ensures shorter { length self.new ≤ length self.old }

@@ -1,4 +1,13 @@
 // Start tags, as they are written.
+ghost use Rattle.std.specs.Prelude.{◌≡◌, ◌≤◌, ◌<◌, ◌∷◌, [], true, length, IfOk, IfSome, OnSome, MatchOption, MatchBool};
+ghost use Rattle.doc_grammar.specs.Characters.{is_space, is_quote};
+ghost use Rattle.doc_grammar.specs.Lexemes.{Ends};
+ghost use Rattle.doc_grammar.specs.RawNames.{RawName as Name, RawTag as Tag};
+ghost use Rattle.doc_grammar.specs.Document.{AtEnd};
+ghost use Rattle.doc_grammar.specs.Machine.{Stack, tagged, spaced, equals, valued};
+ghost use Rattle.doc_reader.specs.Reading.{reads, Fails, Ran, OnStep};
+ghost use Rattle.doc_reader.specs.Sources.{NotNext};
+ghost use Rattle.doc_reader.specs.View.{tag_of};
 use crate::buffers::Buffer;
 use crate::names::RawName;
 use crate::sources::Source;
@@ -22,7 +31,9 @@ pub(crate) struct RawTag<'a> {
 
 impl<'a> Source<'a> {
     /// Whether the end of a start tag comes next.
-    fn is_at_end(&self) -> bool {
+    fn is_at_end(&self) -> bool
+        ensures { MatchBool result (AtEnd self.now) (NotNext 62 self.now × NotNext 47 self.now) }
+    {
         matches!(self.peek(), Some('>' | '/'))
     }
 
@@ -32,7 +43,12 @@ impl<'a> Source<'a> {
         alloc: Global,
         value: &mut Buffer,
         tag: &mut RawTag<'a>,
-    ) -> Result<Step, AllocError> {
+    ) -> Result<Step, AllocError>
+        ensures ran { IfOk result (λ s. (st : Stack) → Ran (reads self.old (tagged (tag_of tag.old) st)) self.new (tagged (tag_of tag.new) st) s) }
+        ensures ends { IfOk result (λ s. OnStep s (AtEnd self.new)) }
+        ensures name { tag.new.name ≡ tag.old.name }
+        ensures shorter { length self.new ≤ length self.old }
+    {
         'attributes: loop {
             let spaced = self.spaces();
             if self.is_at_end() {
@@ -41,8 +57,9 @@ impl<'a> Source<'a> {
             if !spaced {
                 return Ok(Step::Stopped(Stop::Other));
             }
-            if let Step::Stopped(stop) = self.attribute(alloc, value, tag)? {
-                return Ok(Step::Stopped(stop));
+            match self.attribute(alloc, value, tag)? {
+                Step::On => {}
+                Step::Stopped(stop) => return Ok(Step::Stopped(stop)),
             }
         }
     }
@@ -53,7 +70,15 @@ impl<'a> Source<'a> {
         alloc: Global,
         value: &mut Buffer,
         tag: &mut RawTag<'a>,
-    ) -> Result<Step, AllocError> {
+    ) -> Result<Step, AllocError>
+        requires no_space { Ends is_space self.old }
+        requires no_close { NotNext 62 self.old }
+        requires no_slash { NotNext 47 self.old }
+        ensures ran { IfOk result (λ s. (st : Stack) → Ran (reads self.old (spaced (tag_of tag.old) st)) self.new (tagged (tag_of tag.new) st) s) }
+        ensures falls { IfOk result (λ s. OnStep s (length self.new < length self.old)) }
+        ensures name { tag.new.name ≡ tag.old.name }
+        ensures shorter { length self.new ≤ length self.old }
+    {
         let Some(name) = self.name() else {
             return Ok(Step::Stopped(Stop::Other));
         };
@@ -67,12 +92,18 @@ impl<'a> Source<'a> {
                 tag.attributes.push(RawAttribute { name, value })?;
                 Ok(Step::On)
             }
-            stopped => Ok(stopped),
+            Step::Stopped(stop) => Ok(Step::Stopped(stop)),
         }
     }
 
     /// Takes `=` with the white space around it, and the quote behind it.
-    pub(crate) fn equals(&mut self) -> Option<char> {
+    pub(crate) fn equals(&mut self) -> Option<char>
+        ensures assigns { (t : Tag) (name : Name) (st : Stack) → MatchOption result (Fails (reads self.old (equals t name st)) self.new)
+            (λ q. (is_quote q ≡ true) × (reads self.old (equals t name st) ≡ reads self.new (valued t name q [] st))) }
+        ensures quotes { IfSome result (λ q. is_quote q ≡ true) }
+        ensures falls { OnSome result (length self.new < length self.old) }
+        ensures shorter { length self.new ≤ length self.old }
+    {
         let _before = self.spaces();
         if !self.eat('=') {
             return None;
@@ -81,7 +112,12 @@ impl<'a> Source<'a> {
         self.quote()
     }
 
-    pub(crate) fn quote(&mut self) -> Option<char> {
+    #[tactic(auto, unfolding(doc_grammar::specs::Characters::is_quote))]
+    pub(crate) fn quote(&mut self) -> Option<char>
+        ensures quotes { MatchOption result ((self.new ≡ self.old) × NotNext 34 self.old × NotNext 39 self.old) (λ q. (self.old ≡ q ∷ self.new) × (is_quote q ≡ true)) }
+        ensures falls { OnSome result (length self.new < length self.old) }
+        ensures shorter { length self.new ≤ length self.old }
+    {
         if self.eat('"') {
             return Some('"');
         }

@@ -1,0 +1,9 @@
+use Rattle.doc_reader.proofs.TagLemmas.{equals_stops, assigns}
+use Rattle.doc_reader.proofs.sources.Source.equals.Goals as goal
+
+pub returns-then-not-eat-clause-assigns : goal.returns-then-not-eat-clause-assigns
+returns-then-not-eat-clause-assigns c = λ t name st. equals_stops c.spaces-before.result _ _ _ t name st c.spaces-before.ensures.spaces c.spaces-before.ensures.ends c.if-not-eat.ensures
+
+pub returns-clause-assigns : goal.returns-clause-assigns
+returns-clause-assigns c = λ t name st.
+    assigns c.spaces-before.result c.spaces-behind.result _ _ _ _ _ c.quote.result t name st c.spaces-before.ensures.spaces c.if-not-eat.ensures c.spaces-behind.ensures.spaces c.spaces-behind.ensures.ends c.quote.ensures.quotes
