@@ -6,7 +6,7 @@ use Rattle.xt_names.specs.Allowed.{xml_uri}
 use Rattle.xt_names.specs.declared.names.Binding.{Binding}
 use Rattle.xt_tree.specs.declared.trees.Tree.{Tree}
 use Rattle.doc_grammar.specs.Characters.{is_space, starts_name, is_name_char, is_colon}
-use Rattle.doc_grammar.specs.RawNames.{RawName, RawTag, plain_name, prefixed_name, written_name, tag_named}
+use Rattle.doc_grammar.specs.RawNames.{RawName, RawAttribute, RawTag, plain_name, prefixed_name, written_name, tag_named}
 use Rattle.doc_grammar.specs.Scopes.{Opened, opened, declarations, top_scope}
 use Rattle.doc_grammar.specs.Lexemes.{Ends, Spaces, Named, NCName}
 use Rattle.doc_grammar.specs.Lexemes as lexemes
@@ -17,7 +17,9 @@ use Rattle.doc_reader.specs.declared.readers.Frame as code
 use Rattle.doc_reader.specs.declared.scopes.OpenedTag.{OpenedTag}
 use Rattle.doc_reader.specs.Sources.{NotNext, NextIs, NoName, DiffersAt}
 use Rattle.doc_reader.specs.Opening.{OpensTag}
-use Rattle.doc_reader.specs.Reading.{reads, Fails}
+use Rattle.doc_reader.specs.Reading.{reads, Fails, Ran}
+use Rattle.doc_reader.specs.declared.steps.Step.{Step}
+use Rattle.doc_reader.specs.declared.steps.Step.TheVariants.{On, Stopped}
 use Rattle.doc_reader.specs.View.{name_of}
 use Rattle.doc_reader.specs.Frames.{with_frame, outside, stack_of, Pushes, stop_before}
 use Rattle.doc_reader.proofs.CharacterFacts.{close_space, close_starts, slash_space, slash_starts, bang_starts, question_starts, colon_name}
@@ -341,3 +343,14 @@ cannot_open (c ∷ cs) new text st flushed why e n h slash bang question w =
     rw (n, w)
     (stuck (tag text st) c cs (cannot_open_step text st c (λ same. slash (sym same)) (λ same. bang (sym same)) (λ same. question (sym same)) closed)
     ∙ ap (λ x. stops (cond (starts_name c) x other) (c ∷ cs)) stop)
+
+-- a start tag behind its name
+
+pub named_on : (source mid : List ℕ) (name : RawName) (attributes : List RawAttribute) (t : RawTag) (st : Stack) → attributes ≡ [] → reads source (tagged (record { name = name; attributes = attributes }) st) ≡ reads mid (tagged t st)
+    → reads source (tagged (tag_named name) st) ≡ reads mid (tagged t st)
+named_on source mid name attributes t st e r = rw e at r
+
+pub named_stopped : (source new : List ℕ) (name : RawName) (attributes : List RawAttribute) (st : Stack) (s s' : State) (stopped : Step) → attributes ≡ [] → (stopped ≡ On → ⊥) → Ran (reads source (tagged (record { name = name; attributes = attributes }) st)) new s stopped
+    → Ran (reads source (tagged (tag_named name) st)) new s' stopped
+named_stopped source new name attributes st s s' On e n r = absurd (n refl)
+named_stopped source new name attributes st s s' (Stopped why) e n r = rw e at r
