@@ -7,6 +7,8 @@ mod AsideLemmas
 mod NameLemmas
 mod ReferenceReads
 mod ReferenceLemmas
+mod FrameLemmas
+mod ElementLemmas
 mod ValueLemmas
 mod TagLemmas
 mod ScopeLemmas

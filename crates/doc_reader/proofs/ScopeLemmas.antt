@@ -157,3 +157,16 @@ named_all view scope xs i old all h inv =
 pub behind_none : (xs : List Attribute) (o : Option (List Attribute)) → behind_named [] o ≡ o
 behind_none xs None = refl
 behind_none xs (Some ys) = refl
+
+-- one item more of a copy
+pub copied_preserved : {A : Type 0} (xs : List A) (i : ℕ) (x y : A) (old new all : List A) → i < length xs → x ≡ get_or xs i x → old ++ drop i xs ≡ all → y ≡ x → new ≡ old ++ (y ∷ []) → new ++ drop (i + 1) xs ≡ all
+copied_preserved {A = A} xs i x y old new all h e inv m n =
+    let rest = drop (i + 1) xs in
+    let step : drop i xs ≡ x ∷ rest = drop_at xs i x h e in
+    ap (λ (b : List A). b ++ rest) (n ∙ ap (λ (z : A). old ++ (z ∷ [])) m) ∙ append_assoc old (x ∷ []) rest ∙ ap (λ (b : List A). old ++ b) (sym step) ∙ inv
+
+pub copied_all : {A : Type 0} (xs : List A) (i : ℕ) (old all : List A) → length xs ≤ i → old ++ drop i xs ≡ all → old ≡ all
+copied_all xs i old all h inv =
+    let none : drop i xs ≡ [] = drop_past xs i h in
+    let e : old ++ [] ≡ all = rw none at inv in
+    sym (append-nil old) ∙ e

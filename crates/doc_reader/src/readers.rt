@@ -13,6 +13,7 @@ ghost use Rattle.doc_reader.specs.Frames.{level_of, open_in, here};
 use crate::buffers::Buffer;
 use crate::classes::{Bracket, PlainText};
 use crate::names::RawName;
+use crate::scopes::EmptyText;
 use crate::sources::Source;
 use crate::steps::{Step, Stop};
 use std::alloc::{AllocError, Global};
@@ -63,7 +64,7 @@ pub(crate) struct Reader<'a> {
     /// The declarations of each element so far.
     pub(crate) declared: List<List<Binding>>,
     /// The empty text, which names share.
-    pub(crate) empty: Text,
+    pub(crate) empty: EmptyText,
 }
 
 impl<'a> Reader<'a> {
@@ -80,7 +81,7 @@ impl<'a> Reader<'a> {
             level: Level::Blank,
             kids: List::new(alloc),
             declared: List::new(alloc),
-            empty: Text::make(alloc, "")?,
+            empty: EmptyText::new(alloc)?,
         })
     }
 

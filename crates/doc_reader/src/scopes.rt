@@ -10,8 +10,39 @@ ghost use Rattle.doc_reader.specs.Opening.{OpensTag, uri_of};
 use crate::names::RawName;
 use crate::tags::{RawAttribute, RawTag};
 use std::alloc::{AllocError, Global};
+use std::marker::Model;
 use xt_names::{Binding, List, Name, Text, is_ascii_text, keeps_xml, keeps_xmlns};
 use xt_tree::{Attribute, Attrs, names_differ};
+
+/// The empty text, which names share.
+#[derive(Drop)]
+pub(crate) struct EmptyText {
+    text: Text,
+}
+
+impl Model for EmptyText {
+    ghost use Rattle.std.specs.Prelude.{◌≡◌, List, ℕ, []};
+
+    ghost Value = { List ℕ };
+
+    ghost view = { λ e. e.text };
+
+    ghost invariant = { λ e. e.text ≡ [] };
+}
+
+impl EmptyText {
+    #[tactic(auto, using(crate::proofs::ScopeLemmas::chars_empty))]
+    pub(crate) fn new(alloc: Global) -> Result<EmptyText, AllocError> {
+        let text = Text::make(alloc, "")?;
+        Ok(EmptyText { text })
+    }
+
+    fn copy(&self) -> Result<Text, AllocError>
+        ensures { IfOk result (λ t. t ≡ []) }
+    {
+        self.text.copy()
+    }
+}
 
 /// The last binding of the prefix.
 fn bound<'b>(scope: &'b [Binding], prefix: &str) -> Option<&'b Binding>
@@ -51,11 +82,10 @@ pub(crate) struct OpenedTag {
 #[tactic(auto, unfolding(doc_grammar::specs::Scopes::opened))]
 pub(crate) fn open_tag(
     alloc: Global,
-    empty: &Text,
+    empty: &EmptyText,
     scope: &mut Vec<Binding>,
     tag: &RawTag<'_>,
 ) -> Result<Option<OpenedTag>, AllocError>
-    requires { empty.now ≡ [] }
     ensures { IfOk result (λ o. MatchOption o (opened scope.old.items (tag_of tag.now) ≡ None) (λ t. OpensTag scope.old.items (tag_of tag.now) t scope.new.items)) }
 {
     let outer = scope.len();
@@ -126,8 +156,7 @@ fn declare_one(
 
 /// Whether the declarations of one start tag are allowed.
 #[tactic(auto, unfolding(doc_grammar::specs::Scopes::are_declarations))]
-fn are_declarations(alloc: Global, empty: &Text, bindings: &[Binding]) -> Result<bool, AllocError>
-    requires { empty.now ≡ [] }
+fn are_declarations(alloc: Global, empty: &EmptyText, bindings: &[Binding]) -> Result<bool, AllocError>
     ensures { IfOk result (λ allowed. allowed ≡ are_declarations bindings.now) }
 {
     Ok(are_all_bindings(bindings) && prefixes_differ(alloc, empty, bindings)?)
@@ -150,8 +179,7 @@ fn is_binding(binding: &Binding) -> bool
 
 /// Whether no prefix is declared twice. Prefixes are looked up as names without uri, so that many take no scan.
 #[tactic(auto, using(crate::proofs::ScopeLemmas::differ_as_names))]
-fn prefixes_differ(alloc: Global, empty: &Text, bindings: &[Binding]) -> Result<bool, AllocError>
-    requires { empty.now ≡ [] }
+fn prefixes_differ(alloc: Global, empty: &EmptyText, bindings: &[Binding]) -> Result<bool, AllocError>
     ensures { IfOk result (λ differ. differ ≡ prefixes_differ bindings.now) }
 {
     let names = prefix_names(alloc, empty, bindings)?;
@@ -161,10 +189,9 @@ fn prefixes_differ(alloc: Global, empty: &Text, bindings: &[Binding]) -> Result<
 #[tactic(auto, using(crate::proofs::ScopeLemmas::chars_empty))]
 fn prefix_names(
     alloc: Global,
-    empty: &Text,
+    empty: &EmptyText,
     bindings: &[Binding],
 ) -> Result<List<Attribute>, AllocError>
-    requires { empty.now ≡ [] }
     ensures { IfOk result (λ names. names ≡ map prefix_name bindings.now) }
 {
     let mut names = List::new(alloc);
@@ -176,8 +203,7 @@ fn prefix_names(
 
 // The prefix as the name of an attribute.
 #[tactic(auto, unfolding(doc_grammar::specs::Scopes::prefix_name))]
-fn prefix_name(empty: &Text, binding: &Binding) -> Result<Attribute, AllocError>
-    requires { empty.now ≡ [] }
+fn prefix_name(empty: &EmptyText, binding: &Binding) -> Result<Attribute, AllocError>
     ensures { IfOk result (λ made. made ≡ prefix_name binding.now) }
 {
     Ok(Attribute {
@@ -194,11 +220,10 @@ fn prefix_name(empty: &Text, binding: &Binding) -> Result<Attribute, AllocError>
 #[tactic(auto, using(crate::proofs::ScopeLemmas::chars_empty), unfolding(doc_grammar::specs::Scopes::element_name))]
 fn element_name(
     alloc: Global,
-    empty: &Text,
+    empty: &EmptyText,
     scope: &[Binding],
     name: RawName<'_>,
 ) -> Result<Option<Name>, AllocError>
-    requires { empty.now ≡ [] }
     ensures { IfOk result (λ made. made ≡ element_name scope.now (name_of name.entry)) }
 {
     match name.prefix {
@@ -221,11 +246,10 @@ fn element_name(
 #[tactic(auto, using(crate::proofs::ScopeLemmas::chars_empty), unfolding(doc_grammar::specs::Scopes::attribute_name))]
 fn attribute_name(
     alloc: Global,
-    empty: &Text,
+    empty: &EmptyText,
     scope: &[Binding],
     name: RawName<'_>,
 ) -> Result<Option<Name>, AllocError>
-    requires { empty.now ≡ [] }
     ensures { IfOk result (λ made. made ≡ attribute_name scope.now (name_of name.entry)) }
 {
     match name.prefix {
@@ -261,11 +285,10 @@ fn prefixed_name(
 /// The attributes that are no declarations, if all their prefixes are declared.
 fn named_attributes(
     alloc: Global,
-    empty: &Text,
+    empty: &EmptyText,
     scope: &[Binding],
     attributes: &[RawAttribute<'_>],
 ) -> Result<Option<List<Attribute>>, AllocError>
-    requires { empty.now ≡ [] }
     ensures { IfOk result (λ made. made ≡ named_attributes scope.now (map attribute_of attributes.now)) }
 {
     let mut named = List::new(alloc);
@@ -280,12 +303,11 @@ fn named_attributes(
 // Names one attribute, if it is no declaration, or says that its prefix is not declared.
 fn name_one(
     alloc: Global,
-    empty: &Text,
+    empty: &EmptyText,
     scope: &[Binding],
     attribute: &RawAttribute<'_>,
     named: &mut List<Attribute>,
 ) -> Result<bool, AllocError>
-    requires { empty.now ≡ [] }
     ensures { IfOk result (λ went. MatchBool went
         (behind_named named.old (one_named scope.now (attribute_of attribute.now)) ≡ Some named.new)
         (one_named scope.now (attribute_of attribute.now) ≡ None)) }
