@@ -17,3 +17,4 @@ mod TextReads
 mod AsideReads
 mod FormReads
 mod MarkupReads
+mod GroundReads
