@@ -10,3 +10,4 @@ mod ElementLemmas
 mod ValueLemmas
 mod TagLemmas
 mod ScopeLemmas
+mod LineLemmas

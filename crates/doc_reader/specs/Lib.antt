@@ -7,3 +7,5 @@ pub mod Asides
 pub mod Spelling
 pub mod Opening
 pub mod Frames
+pub mod LineEnds
+pub mod Fault
