@@ -329,6 +329,7 @@ unfolding step
 cannot_open_step text st c slash bang question h = rw (ne_eqb c 47 slash, ne_eqb c 33 bang, ne_eqb c 63 question, h) (inside (starts_name c)) where
   nothing : Option State
   nothing = None
+
   inside : (b : Bool) → cond b nothing nothing ≡ nothing
   inside true = refl
   inside false = refl

@@ -10,4 +10,5 @@ mod ElementLemmas
 mod ValueLemmas
 mod TagLemmas
 mod ScopeLemmas
+mod TextLemmas
 mod LineLemmas
