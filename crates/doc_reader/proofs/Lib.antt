@@ -2,6 +2,8 @@ mod CharacterFacts
 mod ReadLemmas
 mod SourceLemmas
 mod ScanLemmas
+mod SpellLemmas
+mod AsideLemmas
 mod NameLemmas
 mod ReferenceReads
 mod ReferenceLemmas
@@ -12,3 +14,8 @@ mod TagLemmas
 mod ScopeLemmas
 mod TextLemmas
 mod LineLemmas
+mod ContentLemmas
+mod TextReads
+mod AsideReads
+mod FormReads
+mod MarkupReads

@@ -1,9 +1,10 @@
 -- A reading, one character at a time.
-use Rattle.std.proofs.Common.{◌≡◌, ℕ, List, [], ◌∷◌, Bool, true, false, Option, Some, None, ◌==◌, refl, ap, ◌∙◌, sym}
+use Rattle.std.proofs.Common.{◌≡◌, ℕ, List, [], ◌∷◌, Bool, true, false, Option, Some, None, ◌==◌, MatchBool, refl, ap, ◌∙◌, sym}
 use Rattle.std.proofs.lemmas.Bool.{eqb-true}
 use Rattle.doc_grammar.specs.Scopes.{opened}
 use Rattle.doc_grammar.specs.Machine.{State, End, stops, other, step, stop_at, or_stop, run}
-use Rattle.doc_reader.specs.Reading.{reads, Fails, Ran}
+use Rattle.doc_reader.specs.Reading.{reads, Ran}
+use Rattle.doc_reader.specs.Sources.{NextIs, NotNext}
 use Rattle.doc_reader.specs.declared.steps.Step.{Step}
 use Rattle.doc_reader.specs.declared.steps.Step.TheVariants.{On, Stopped}
 
@@ -32,3 +33,9 @@ ran_from e e' source s (Stopped why) same r = same ∙ r
 pub ran_to : (e : End) (source : List ℕ) (s s' : State) (st : Step) → s ≡ s' → Ran e source s st → Ran e source s' st
 ran_to e source s s' On same r = r ∙ ap (reads source) same
 ran_to e source s s' (Stopped why) same r = r
+
+-- a character that comes next is taken
+pub takes_next : (c : ℕ) (b : Bool) (old new : List ℕ) → NextIs c old → MatchBool b (old ≡ c ∷ new) ((new ≡ old) × NotNext c old) → old ≡ c ∷ new
+takes_next c true old new n e = e
+takes_next c false [] new n e = absurd n
+takes_next c false (d ∷ ts) new n e = absurd (e.1 (sym n))

@@ -24,7 +24,7 @@ abbrev pub TakesSpaces : Bool → List ℕ → List ℕ → Type 0
 TakesSpaces b old new = MatchBool b ((c : ℕ) × (ts : List ℕ) × (old ≡ c ∷ ts) × (is_space c ≡ true) × Spaces ts new) (new ≡ old)
 
 -- a state in which white space changes nothing
-spaces_in : (s : State) → ((c : ℕ) → is_space c ≡ true → step opened s c ≡ Some s) → {ts rest : List ℕ} → Spaces ts rest → reads ts s ≡ reads rest s
+pub spaces_in : (s : State) → ((c : ℕ) → is_space c ≡ true → step opened s c ≡ Some s) → {ts rest : List ℕ} → Spaces ts rest → reads ts s ≡ reads rest s
 spaces_in s k lexemes.no_space = refl
 spaces_in s k (lexemes.a_space {c = c} {ts = ts} p r) = goes s s c ts (k c p) ∙ spaces_in s k r
 

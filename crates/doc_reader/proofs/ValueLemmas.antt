@@ -20,7 +20,7 @@ use Rattle.doc_reader.proofs.ReadLemmas.{goes, stuck, no}
 use Rattle.doc_reader.proofs.ReferenceReads.{found_in_value, stops_in_value}
 use Rattle.doc_reader.proofs.ReferenceLemmas.{Skips}
 
-not_true : (b : Bool) → not b ≡ true → b ≡ false
+pub not_true : (b : Bool) → not b ≡ true → b ≡ false
 not_true true e = cc
 not_true false e = refl
 

@@ -1,7 +1,7 @@
 // Comments, processing instructions and CDATA sections.
 ghost use Rattle.std.specs.Prelude.{◌≡◌, ◌≤◌, ◌++◌, [], length, List, ℕ, MatchBool, IfOk, codes};
 ghost use Rattle.xt_tree.specs.declared.trees.Tree.TheVariants.{Comment, Pi};
-ghost use Rattle.doc_grammar.specs.Lexing.{dash, section_open};
+ghost use Rattle.doc_grammar.specs.Lexing.{dash, instruction, section, section_bracket, section_open};
 ghost use Rattle.doc_reader.specs.Asides.{lex_reads, made, said, stopped, target_reads};
 
 use crate::buffers::Buffer;
@@ -55,7 +55,12 @@ impl<'a> Source<'a> {
     }
 
     /// Takes more brackets behind one, and says whether they close a section.
-    fn brackets(&mut self, text: &mut Buffer) -> Result<bool, AllocError> {
+    fn brackets(&mut self, text: &mut Buffer) -> Result<bool, AllocError>
+        ensures reads { IfOk result (λ b. (more : List ℕ) × (text.new ≡ text.old ++ more) × MatchBool b
+            ((read : List ℕ) → lex_reads self.old (section_bracket read) ≡ said (read ++ more) self.new)
+            ((read : List ℕ) → lex_reads self.old (section_bracket read) ≡ lex_reads self.new (section (read ++ more)))) }
+        ensures shorter { length self.new ≤ length self.old }
+    {
         if !self.eat(']') {
             text.push(']')?;
             return Ok(false);
@@ -88,7 +93,12 @@ impl<'a> Source<'a> {
     }
 
     /// Takes the text of an instruction behind white space.
-    fn instruction_text(&mut self, text: &mut Buffer) -> Result<bool, AllocError> {
+    fn instruction_text(&mut self, text: &mut Buffer) -> Result<bool, AllocError>
+        ensures reads { IfOk result (λ b. (target : List ℕ) → MatchBool b
+            (lex_reads self.old (instruction target text.old) ≡ made (Pi target text.new) self.new)
+            (lex_reads self.old (instruction target text.old) ≡ stopped self.new)) }
+        ensures shorter { length self.new ≤ length self.old }
+    {
         'marks: loop {
             let run = self.take_run::<NotQuestion>();
             text.push_str(run)?;

@@ -50,10 +50,14 @@ impl Buffer {
         self.text.push(c)
     }
 
+    #[tactic(auto, unfolding(xt_names::specs::Allowed::is_empty_text))]
     pub(crate) fn is_empty(&self) -> bool
         ensures { result ≡ is_empty_text self.now }
     {
-        self.text.as_str().is_empty()
+        match self.text.as_str().chars().next() {
+            Some(_) => false,
+            None => true,
+        }
     }
 
     /// The characters as a text.

@@ -1,7 +1,10 @@
 // The XML declaration and the document type declaration (XML 1.0, 2.8 and 4.3.3).
-ghost use Rattle.std.specs.Prelude.{◌≡◌, ◌≤◌, length};
+ghost use Rattle.std.specs.Prelude.{◌≡◌, ◌≤◌, ◌-◌, length, true};
+ghost use Rattle.doc_grammar.specs.Characters.{is_quote};
+ghost use Rattle.doc_grammar.specs.Forms.{Form, elsewhere, encoding, many};
 ghost use Rattle.doc_grammar.specs.Prolog as prolog;
-ghost use Rattle.doc_reader.specs.Spelling.{spells, Spells};
+ghost use Rattle.doc_reader.specs.PrologParts as parts;
+ghost use Rattle.doc_reader.specs.Spelling.{spells, end_of, stops_in, Spells, Takes};
 
 use crate::classes::{
     ColonNameChar, Digit, NotDoubleQuote, NotSingleQuote, PublicInDouble, PublicInSingle,
@@ -15,6 +18,7 @@ const OTHER: Step = Step::Stopped(Stop::Other);
 
 impl<'a> Source<'a> {
     /// Takes an XML declaration behind its `<?xml`.
+    #[tactic(auto, unfolding(doc_grammar::specs::Prolog::xml_declaration))]
     pub(crate) fn xml_declaration(&mut self) -> Step
         ensures reads { Spells self.old (prolog.xml_declaration) result self.new }
         ensures shorter { length self.new ≤ length self.old }
@@ -88,16 +92,20 @@ impl<'a> Source<'a> {
     }
 
     /// Why the name of the encoding does not go on so: another is named, or the text is over.
-    fn stop_in_encoding(&self) -> Step {
-        if self.is_over() {
-            OTHER
-        } else {
-            Step::Stopped(Stop::Encoding)
+    fn stop_in_encoding(&self) -> Step
+        ensures { stops_in encoding self.now ≡ end_of result self.now }
+    {
+        match self.peek() {
+            Some(_) => Step::Stopped(Stop::Encoding),
+            None => OTHER,
         }
     }
 
     /// Takes the name of UTF-8 and the quote behind it.
-    fn is_utf8_named(&mut self, quote: char) -> bool {
+    fn is_utf8_named(&mut self, quote: char) -> bool
+        ensures reads { Takes self.old (parts.utf8_name quote) encoding result self.new }
+        ensures shorter { length self.new ≤ length self.old }
+    {
         if !self.letter('u', 'U') {
             return false;
         }
@@ -113,8 +121,15 @@ impl<'a> Source<'a> {
         self.eat(quote)
     }
 
-    fn letter(&mut self, small: char, great: char) -> bool {
-        self.eat(small) || self.eat(great)
+    fn letter(&mut self, small: char, great: char) -> bool
+        requires { great ≡ small - 32 }
+        ensures reads { Takes self.old (parts.letter small) encoding result self.new }
+        ensures shorter { length self.new ≤ length self.old }
+    {
+        if self.eat(small) {
+            return true;
+        }
+        self.eat(great)
     }
 
     fn standalone(&mut self) -> Step
@@ -136,7 +151,10 @@ impl<'a> Source<'a> {
         self.declaration_end()
     }
 
-    fn yes_or_no(&mut self) -> bool {
+    fn yes_or_no(&mut self) -> bool
+        ensures reads { Takes self.old parts.yes_or_no elsewhere result self.new }
+        ensures shorter { length self.new ≤ length self.old }
+    {
         if self.is_next('y') {
             self.eat_text("yes")
         } else {
@@ -159,6 +177,7 @@ impl<'a> Source<'a> {
     }
 
     /// Takes a document type declaration behind its `<!`.
+    #[tactic(auto, unfolding(doc_grammar::specs::Prolog::doctype_declaration))]
     pub(crate) fn doctype(&mut self) -> Step
         ensures reads { Spells self.old (prolog.doctype_declaration) result self.new }
         ensures shorter { length self.new ≤ length self.old }
@@ -185,7 +204,10 @@ impl<'a> Source<'a> {
     }
 
     /// Takes a name that may have colons.
-    fn colon_name(&mut self) -> bool {
+    fn colon_name(&mut self) -> bool
+        ensures reads { Takes self.old parts.colon_name elsewhere result self.new }
+        ensures shorter { length self.new ≤ length self.old }
+    {
         match self.peek() {
             Some(c) if starts_colon_name(c) => {
                 let _name = self.take_run::<ColonNameChar>();
@@ -235,28 +257,49 @@ impl<'a> Source<'a> {
         let Some(quote) = self.quote() else {
             return OTHER;
         };
-        if quote == '"' {
-            let _identifier = self.take_run::<NotDoubleQuote>();
-        } else {
-            let _identifier = self.take_run::<NotSingleQuote>();
-        }
+        self.identifier(quote);
         if !self.eat(quote) {
             return OTHER;
         }
         self.doctype_end()
     }
 
+    /// Takes the characters of a system identifier between such quotes.
+    fn identifier(&mut self, quote: char)
+        requires { is_quote quote ≡ true }
+        ensures reads { (f : Form) → spells self.old (many (prolog.is_in_system quote) f) ≡ spells self.new f }
+        ensures shorter { length self.new ≤ length self.old }
+    {
+        if quote == '"' {
+            let _identifier = self.take_run::<NotDoubleQuote>();
+        } else {
+            let _identifier = self.take_run::<NotSingleQuote>();
+        }
+    }
+
     /// Takes a public identifier in its quotes.
-    fn public_literal(&mut self) -> bool {
+    fn public_literal(&mut self) -> bool
+        ensures reads { Takes self.old parts.public_literal elsewhere result self.new }
+        ensures shorter { length self.new ≤ length self.old }
+    {
         let Some(quote) = self.quote() else {
             return false;
         };
+        self.public_identifier(quote);
+        self.eat(quote)
+    }
+
+    /// Takes the characters of a public identifier between such quotes.
+    fn public_identifier(&mut self, quote: char)
+        requires { is_quote quote ≡ true }
+        ensures reads { (f : Form) → spells self.old (many (prolog.is_in_public quote) f) ≡ spells self.new f }
+        ensures shorter { length self.new ≤ length self.old }
+    {
         if quote == '"' {
             let _identifier = self.take_run::<PublicInDouble>();
         } else {
             let _identifier = self.take_run::<PublicInSingle>();
         }
-        self.eat(quote)
     }
 
     fn doctype_end(&mut self) -> Step

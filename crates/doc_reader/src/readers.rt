@@ -183,9 +183,15 @@ impl<'a> Reader<'a> {
         ensures ran { IfOk result (λ s. Ran (reads self.old.source (here self.old)) self.new.source (here self.new) s) }
         ensures falls { IfOk result (λ s. OnStep s (length self.new.source < length self.old.source)) }
     {
+        let _first = self.source.eat(']');
+        self.text.push(']')?;
+        if !self.source.eat(']') {
+            return Ok(Step::On);
+        }
+        self.text.push(']')?;
         let run = self.source.take_run::<Bracket>();
         self.text.push_str(run)?;
-        if run.len() >= 2 && self.source.is_next('>') {
+        if self.source.is_next('>') {
             return Ok(Step::Stopped(Stop::Other));
         }
         Ok(Step::On)
@@ -334,14 +340,18 @@ impl<'a> Reader<'a> {
             return Ok(());
         }
         match self.frames.pop() {
-            None => {}
+            None => {
+                self.text.clear();
+                Ok(())
+            }
             Some(mut frame) => {
-                frame.kids.push(Tree::Text(self.text.to_text(alloc)?))?;
+                let text = self.text.to_text(alloc)?;
+                frame.kids.push(Tree::Text(text))?;
                 self.frames.push(frame)?;
+                self.text.clear();
+                Ok(())
             }
         }
-        self.text.clear();
-        Ok(())
     }
 }
 

@@ -1,13 +1,17 @@
 // Start tags, as they are written.
-ghost use Rattle.std.specs.Prelude.{◌≡◌, ◌≤◌, ◌<◌, ◌∷◌, [], true, length, IfOk, IfSome, OnSome, MatchOption, MatchBool};
+ghost use Rattle.std.specs.Prelude.{◌≡◌, ◌≤◌, ◌<◌, ◌∷◌, [], ℕ, true, length, IfOk, IfSome, OnSome, MatchOption, MatchBool};
 ghost use Rattle.doc_grammar.specs.Characters.{is_space, is_quote};
 ghost use Rattle.doc_grammar.specs.Lexemes.{Ends};
 ghost use Rattle.doc_grammar.specs.RawNames.{RawName as Name, RawTag as Tag};
 ghost use Rattle.doc_grammar.specs.Document.{AtEnd};
-ghost use Rattle.doc_grammar.specs.Machine.{Stack, tagged, spaced, equals, valued};
+ghost use Rattle.doc_grammar.specs.Forms.{Form};
+ghost use Rattle.doc_grammar.specs.Prolog as prolog;
+ghost use Rattle.doc_grammar.specs.Machine.{Stack, tagged, spaced, equals, valued, other};
 ghost use Rattle.doc_reader.specs.Reading.{reads, Fails, Ran, OnStep};
 ghost use Rattle.doc_reader.specs.Sources.{NotNext};
+ghost use Rattle.doc_reader.specs.Spelling.{spells, stops};
 ghost use Rattle.doc_reader.specs.View.{tag_of};
+
 use crate::buffers::Buffer;
 use crate::names::RawName;
 use crate::sources::Source;
@@ -100,6 +104,9 @@ impl<'a> Source<'a> {
     pub(crate) fn equals(&mut self) -> Option<char>
         ensures assigns { (t : Tag) (name : Name) (st : Stack) → MatchOption result (Fails (reads self.old (equals t name st)) self.new)
             (λ q. (is_quote q ≡ true) × (reads self.old (equals t name st) ≡ reads self.new (valued t name q [] st))) }
+        ensures spelled { MatchOption result
+            ((inner : ℕ → Form) → spells self.old (prolog.equals (prolog.quoted inner)) ≡ stops other self.new)
+            (λ q. (inner : ℕ → Form) → spells self.old (prolog.equals (prolog.quoted inner)) ≡ spells self.new (inner q)) }
         ensures quotes { IfSome result (λ q. is_quote q ≡ true) }
         ensures falls { OnSome result (length self.new < length self.old) }
         ensures shorter { length self.new ≤ length self.old }
