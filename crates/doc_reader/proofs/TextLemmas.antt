@@ -1,7 +1,7 @@
 -- What a reading of bytes comes to.
-use Rattle.std.proofs.Common.{◌≡◌, ℕ, ◌+◌, ◌-◌, ◌≤◌, List, [], ◌∷◌, ◌++◌, length, length-append, take, refl, sym, ap, subst, ◌∙◌, arith}
-use Rattle.std.proofs.lemmas.List.{take_all, length-take-le}
-use Rattle.std.proofs.lemmas.Str.{chars_past_char, utf8_valid_len-IsUtf8, utf8_valid_len_le}
+use Rattle.std.proofs.Common.{◌≡◌, ℕ, ◌+◌, ◌-◌, ◌≤◌, List, [], ◌∷◌, ◌++◌, length, length-append, take, refl, sym, ap, ◌∙◌, arith}
+use Rattle.std.proofs.lemmas.List.{take_all}
+use Rattle.std.proofs.lemmas.Str.{chars_past_char, utf8_valid_len-IsUtf8}
 use Rattle.std.specs.Char.{encode_utf8}
 use Rattle.std.specs.Str.{chars, IsUtf8}
 use Rattle.std.specs.Str.Lossy.{utf8_valid_len}
@@ -13,7 +13,6 @@ use Rattle.doc_grammar.specs.Document.{IsDocument}
 use Rattle.doc_grammar.specs.Machine.{Stop, End, whole, stops, run, start}
 use Rattle.doc_grammar.specs.Faults.{spot_at, spot_of, valid_front, first_fault}
 use Rattle.doc_grammar.specs.declared.spots.Spot.{Spot}
-use Rattle.doc_grammar.specs.declared.spots.Spot.TheVariants.{At}
 use Rattle.doc_grammar.proofs.Runs.{runs_document, run_refuses}
 use Rattle.doc_grammar.proofs.FirstFaults.{left_over}
 use Rattle.doc_reader.specs.Fault.{Refused}
@@ -44,9 +43,6 @@ mark_counts text before after new c b u e n m =
 pub as_document : (text bytes : List ℕ) (tree : Tree) (ds : List (List Binding)) → text ≡ bytes → IsUtf8 bytes → run opened (text_of (chars text)) start ≡ whole tree ds → IsDocument bytes tree
 as_document text bytes tree ds e u r = (u, runs_document opened (text_of (chars bytes)) tree ds (rw e at r))
 
-pub not_utf8 : (bytes : List ℕ) → (IsUtf8 bytes → ⊥) → (tree : Tree) → IsDocument bytes tree → ⊥
-not_utf8 bytes n tree d = n d.0
-
 whole_front : (bytes : List ℕ) → IsUtf8 bytes → valid_front bytes ≡ bytes
 whole_front bytes u = ap (λ (n : ℕ). take n bytes) (utf8_valid_len-IsUtf8 bytes u) ∙ take_all (length bytes) bytes (omega arith)
 
@@ -62,22 +58,10 @@ as_fault text bytes spot e u r =
     let here : Refused (run opened (text_of (chars bytes)) start) (offset (chars bytes)) spot = rw e at r in
     (λ tree d. run_refuses opened (text_of (chars bytes)) here.rest here.why here.is_stopped tree d.1, refused_at bytes spot here ∙ ap f (sym (whole_front bytes u)))
 
--- bytes of which a front is UTF-8
-
-pub front_fault : (text bytes : List ℕ) (n : ℕ) (spot : Spot) → text ≡ take n bytes → n ≡ utf8_valid_len bytes → Refused (run opened (text_of (chars text)) start) (offset (chars text)) spot → spot ≡ first_fault bytes
-front_fault text bytes n spot t e r =
-    let f : List ℕ → Spot = λ front. spot_of front (chars front) (run opened (text_of (chars front)) start) in
-    refused_at text spot r ∙ ap f (t ∙ ap (λ (k : ℕ). take k bytes) e)
-
-pub front_whole : (text bytes : List ℕ) (n : ℕ) (tree : Tree) (ds : List (List Binding)) → text ≡ take n bytes → n ≡ utf8_valid_len bytes → length (take n bytes) ≡ n → run opened (text_of (chars text)) start ≡ whole tree ds → At n ≡ first_fault bytes
-front_whole text bytes n tree ds t e size r =
-    let f : List ℕ → Spot = λ front. spot_of front (chars front) (run opened (text_of (chars front)) start) in
-    let at_text : At (length text) ≡ f text = ap (spot_of text (chars text)) (sym r) in
-    ap At (sym size ∙ ap length (sym t)) ∙ at_text ∙ ap f (t ∙ ap (λ (k : ℕ). take k bytes) e)
-
 -- characters of which a rest is left
 
-pub left_fits : (fed cs rest : List ℕ) (why : Stop) → run opened fed start ≡ stops why rest → length rest ≤ length fed
-left_fits fed cs rest why e =
+pub left_fits : (source fed rest : List ℕ) (why : Stop) (left total : ℕ) → source ≡ fed → total ≡ length source → run opened fed start ≡ stops why rest → length rest ≡ left → left ≤ total
+left_fits source fed rest why left total s t e l =
     let front = left_over fed rest why start e in
-    let size = ap length front.1 ∙ length-append front.0 rest in omega arith
+    let size = ap length front.1 ∙ length-append front.0 rest in
+    let same = ap length s in omega arith
