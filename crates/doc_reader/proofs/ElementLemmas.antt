@@ -1,5 +1,5 @@
 -- What the parts of a start tag or an end tag, taken one after another, do to a reading.
-use Rattle.std.proofs.Common.{◌≡◌, ℕ, List, [], ◌∷◌, ◌++◌, length, Bool, true, false, Option, Some, None, cond, MatchBool, MatchOption, ◌==◌, refl, sym, ap, subst, ◌∙◌, inl, inr, eq-eqb, codes, Result, Ok, Err, IfOk}
+use Rattle.std.proofs.Common.{◌≡◌, ℕ, List, [], ◌∷◌, ◌++◌, length, Bool, true, false, Option, Some, None, cond, MatchBool, ◌==◌, refl, sym, ap, ◌∙◌, inl, inr, eq-eqb, codes, Result, Ok, Err, IfOk}
 use Rattle.std.proofs.lemmas.Bool.{ne_eqb}
 use Rattle.std.specs.Str.{chars}
 use Rattle.xt_names.specs.Allowed.{xml_uri}
@@ -12,7 +12,7 @@ use Rattle.doc_grammar.specs.Lexemes.{Ends, Spaces, Named, NCName}
 use Rattle.doc_grammar.specs.Lexemes as lexemes
 use Rattle.doc_grammar.specs.Document.{Level, QName, element_of}
 use Rattle.doc_grammar.specs.Document as doc
-use Rattle.doc_grammar.specs.Machine.{Stack, ground, element, reading, coloned, State, content, tag, naming, tagged, slashed, ending, ended, step, stop_at, Stop, stop_before_name, names, other, End, stops, or_stop, run, behind, opens, closes, scope_of, may_open, with_text, with_child, with_declared}
+use Rattle.doc_grammar.specs.Machine.{Stack, ground, element, reading, coloned, State, content, tag, naming, tagged, slashed, ending, ended, step, stop_at, Stop, stop_before_name, names, other, stops, behind, opens, closes, scope_of, may_open, with_text, with_child, with_declared}
 use Rattle.doc_reader.specs.declared.readers.Frame as code
 use Rattle.doc_reader.specs.declared.scopes.OpenedTag.{OpenedTag}
 use Rattle.doc_reader.specs.Sources.{NotNext, NextIs, NoName, DiffersAt}
@@ -22,9 +22,9 @@ use Rattle.doc_reader.specs.declared.steps.Step.{Step}
 use Rattle.doc_reader.specs.declared.steps.Step.TheVariants.{On, Stopped}
 use Rattle.doc_reader.specs.View.{name_of}
 use Rattle.doc_reader.specs.Frames.{with_frame, outside, stack_of, Pushes, stop_before}
-use Rattle.doc_reader.proofs.CharacterFacts.{close_space, close_starts, slash_space, slash_starts, bang_starts, question_starts, colon_name}
-use Rattle.doc_reader.proofs.ReadLemmas.{no, goes, stuck, is_other}
-use Rattle.doc_reader.proofs.FrameLemmas.{stack_of-push, popped, no_frames, declared_of, text_may_open, text_stop}
+use Rattle.doc_reader.proofs.CharacterFacts.{close_space, slash_space, slash_starts, bang_starts, question_starts, colon_name}
+use Rattle.doc_reader.proofs.ReadLemmas.{goes, stuck, is_other}
+use Rattle.doc_reader.proofs.FrameLemmas.{popped, no_frames, declared_of, text_may_open, text_stop}
 
 -- end tags
 
@@ -329,6 +329,7 @@ unfolding step
 cannot_open_step text st c slash bang question h = rw (ne_eqb c 47 slash, ne_eqb c 33 bang, ne_eqb c 63 question, h) (inside (starts_name c)) where
   nothing : Option State
   nothing = None
+
   inside : (b : Bool) → cond b nothing nothing ≡ nothing
   inside true = refl
   inside false = refl

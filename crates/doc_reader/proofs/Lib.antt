@@ -12,6 +12,8 @@ mod ElementLemmas
 mod ValueLemmas
 mod TagLemmas
 mod ScopeLemmas
+mod TextLemmas
+mod LineLemmas
 mod ContentLemmas
 mod TextReads
 mod AsideReads

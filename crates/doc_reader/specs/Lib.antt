@@ -8,3 +8,5 @@ pub mod Spelling
 pub mod PrologParts
 pub mod Opening
 pub mod Frames
+pub mod LineEnds
+pub mod Fault

@@ -1,6 +1,17 @@
 //! Reads the text of a document as a tree.
 #![tactic(auto)]
 
+ghost use Rattle.std.specs.Prelude.{◌≡◌, ◌≤◌, ◌<◌, ◌+◌, ◌-◌, false, length, take, IfOk, IfErr, MatchResult};
+ghost use Rattle.std.specs.Str.{chars, IsUtf8};
+ghost use Rattle.std.specs.Str.Lossy.{utf8_valid_len};
+ghost use Rattle.doc_grammar.specs.Scopes.{opened};
+ghost use Rattle.doc_grammar.specs.Lines.{lines, text_of, without_mark, mark_bytes, bytes_before, offset};
+ghost use Rattle.doc_grammar.specs.Document.{IsDocument};
+ghost use Rattle.doc_grammar.specs.Machine.{run, start, whole};
+ghost use Rattle.doc_grammar.specs.Faults.{first_fault, spot_at};
+ghost use Rattle.doc_reader.specs.Reading.{stop_of};
+ghost use Rattle.doc_reader.specs.Fault.{HasReadCause, Refused};
+
 mod asides;
 mod buffers;
 mod classes;
@@ -19,8 +30,9 @@ mod values;
 
 pub use doc_grammar::Spot;
 pub use faults::ReadFault;
-use lines::{offset, with_line_feeds};
-use readers::{Reader, Refusal, Whole};
+use lines::{has_return, with_line_feeds};
+use readers::{Reader, Whole};
+use sources::Source;
 use std::alloc::{AllocError, Global};
 use steps::Stop;
 use xt_names::{Binding, List};
@@ -35,13 +47,20 @@ pub struct Scoped {
 
 /// The tree of a text (XML 1.0; Namespaces in XML 1.0). `ReadFault::Bad` comes exactly where no tree stands for the
 /// bytes, with the first spot where they fail.
-pub fn read(alloc: Global, bytes: &[u8]) -> Result<Tree, ReadFault> {
+pub fn read(alloc: Global, bytes: &[u8]) -> Result<Tree, ReadFault>
+    ensures found { IfOk result (λ tree. IsDocument bytes.now tree) }
+    ensures refused { IfErr result (HasReadCause bytes.now) }
+{
     let scoped = read_scoped(alloc, bytes)?;
     Ok(scoped.tree)
 }
 
 /// The tree of a text, and the namespace declarations of each of its elements. It refuses what `read` refuses.
-pub fn read_scoped(alloc: Global, bytes: &[u8]) -> Result<Scoped, ReadFault> {
+pub fn read_scoped(alloc: Global, bytes: &[u8]) -> Result<Scoped, ReadFault>
+    ensures found { IfOk result (λ scoped. IsDocument bytes.now scoped.tree) }
+    ensures declared { IfOk result (λ scoped. run opened (text_of (chars bytes.now)) start ≡ whole scoped.tree scoped.declared) }
+    ensures refused { IfErr result (HasReadCause bytes.now) }
+{
     match str::from_utf8(bytes) {
         Ok(text) => match read_text(alloc, text)? {
             Ok(whole) => Ok(Scoped {
@@ -57,8 +76,13 @@ pub fn read_scoped(alloc: Global, bytes: &[u8]) -> Result<Scoped, ReadFault> {
     }
 }
 
-/// The spot of bytes of which no more than this front is UTF-8.
-fn spot_before(alloc: Global, bytes: &[u8], valid: usize) -> Result<Spot, AllocError> {
+/// The first fault of bytes of which no more than this front is UTF-8.
+fn spot_before(alloc: Global, bytes: &[u8], valid: usize) -> Result<Spot, AllocError>
+    requires longest { valid ≡ utf8_valid_len bytes.now }
+    requires inside { valid ≤ length bytes.now }
+    requires front { IsUtf8 (take valid bytes.now) }
+    ensures { IfOk result (λ spot. spot ≡ first_fault bytes.now) }
+{
     match str::from_utf8(&bytes[..valid]) {
         Ok(text) => match read_text(alloc, text)? {
             Ok(_) => Ok(Spot::At(valid as u64)),
@@ -69,40 +93,63 @@ fn spot_before(alloc: Global, bytes: &[u8], valid: usize) -> Result<Spot, AllocE
 }
 
 /// Reads a text without its byte order mark, with a line feed at the end of each line.
-fn read_text(alloc: Global, text: &str) -> Result<Result<Whole, Spot>, AllocError> {
-    let marked = text.strip_prefix('\u{FEFF}');
-    let unmarked = match marked {
-        Some(rest) => rest,
-        None => text,
-    };
-    let before = text.len() - unmarked.len();
-    if unmarked.chars().any(|c| c == '\r') {
-        let lines = with_line_feeds(alloc, unmarked)?;
-        read_lines(alloc, before, unmarked, lines.as_str())
+fn read_text(alloc: Global, text: &str) -> Result<Result<Whole, Spot>, AllocError>
+    ensures { IfOk result (λ r. MatchResult r (λ w. run opened (text_of (chars text.now)) start ≡ whole w.tree w.declared)
+        (Refused (run opened (text_of (chars text.now)) start) (offset (chars text.now)))) }
+{
+    let rest = unmarked(text);
+    let before = text.len() - rest.len();
+    if has_return(rest) {
+        let lines = with_line_feeds(alloc, rest)?;
+        read_lines(alloc, before, rest, lines.as_str())
     } else {
-        read_lines(alloc, before, unmarked, unmarked)
+        read_lines(alloc, before, rest, rest)
     }
 }
 
+/// Reads a text whose line ends have become line feeds; so many bytes stand before it.
 fn read_lines(
     alloc: Global,
     before: usize,
     text: &str,
-    lines: &str,
-) -> Result<Result<Whole, Spot>, AllocError> {
-    match Reader::read(alloc, lines)? {
+    fed: &str,
+) -> Result<Result<Whole, Spot>, AllocError>
+    requires fed { chars fed.now ≡ lines (chars text.now) }
+    requires small { before + length text.now ≤ 0x7FFF_FFFF_FFFF_FFFF }
+    ensures { IfOk result (λ r. MatchResult r (λ w. run opened (lines (chars text.now)) start ≡ whole w.tree w.declared)
+        (Refused (run opened (lines (chars text.now)) start)
+        (λ rest. before + bytes_before false (chars text.now) (length (lines (chars text.now)) - length rest)))) }
+{
+    match Reader::read(alloc, fed)? {
         Ok(whole) => Ok(Ok(whole)),
         Err(refusal) => {
-            let taken = lines.chars().count() - refusal.left;
-            Ok(Err(spot(refusal.stop, before as u64 + offset(text, taken))))
+            let taken = Source::new(fed).left() - refusal.left;
+            let at = before as u64 + lines::offset(text, taken);
+            Ok(Err(spot(refusal.stop, at)))
         }
     }
 }
 
+/// The text behind its byte order mark, if it has one.
+fn unmarked(text: &str) -> &str
+    ensures text { chars result.now ≡ without_mark (chars text.now) }
+    ensures size { length text.now ≡ mark_bytes (chars text.now) + length result.now }
+{
+    let mut chars = text.chars();
+    let _text = chars.as_str();
+    match chars.next() {
+        Some('\u{FEFF}') => chars.as_str(),
+        _ => text,
+    }
+}
+
 /// The spot where a reading stops before this byte.
-fn spot(stop: Stop, at: u64) -> Spot {
+fn spot(stop: Stop, at: u64) -> Spot
+    requires { at < 0xFFFF_FFFF_FFFF_FFFF }
+    ensures { result ≡ spot_at (stop_of stop) at }
+{
     match stop {
-        Stop::Names => Spot::At(at.saturating_add(1)),
+        Stop::Names => Spot::At(at + 1),
         Stop::Deep => Spot::Deep,
         Stop::Entity => Spot::Entity,
         Stop::Subset => Spot::Subset,

@@ -156,7 +156,11 @@ fn declare_one(
 
 /// Whether the declarations of one start tag are allowed.
 #[tactic(auto, unfolding(doc_grammar::specs::Scopes::are_declarations))]
-fn are_declarations(alloc: Global, empty: &EmptyText, bindings: &[Binding]) -> Result<bool, AllocError>
+fn are_declarations(
+    alloc: Global,
+    empty: &EmptyText,
+    bindings: &[Binding],
+) -> Result<bool, AllocError>
     ensures { IfOk result (λ allowed. allowed ≡ are_declarations bindings.now) }
 {
     Ok(are_all_bindings(bindings) && prefixes_differ(alloc, empty, bindings)?)
@@ -179,7 +183,11 @@ fn is_binding(binding: &Binding) -> bool
 
 /// Whether no prefix is declared twice. Prefixes are looked up as names without uri, so that many take no scan.
 #[tactic(auto, using(crate::proofs::ScopeLemmas::differ_as_names))]
-fn prefixes_differ(alloc: Global, empty: &EmptyText, bindings: &[Binding]) -> Result<bool, AllocError>
+fn prefixes_differ(
+    alloc: Global,
+    empty: &EmptyText,
+    bindings: &[Binding],
+) -> Result<bool, AllocError>
     ensures { IfOk result (λ differ. differ ≡ prefixes_differ bindings.now) }
 {
     let names = prefix_names(alloc, empty, bindings)?;

@@ -1,5 +1,3 @@
-use Rattle.doc_grammar.specs.RawNames.{written_name}
-use Rattle.doc_reader.specs.View.{name_of}
 use Rattle.doc_reader.proofs.ElementLemmas.{end_differs, end_of_tag}
 use Rattle.doc_reader.proofs.sources.Source.end_tag.Goals as goal
 
