@@ -1,9 +1,9 @@
 -- A reading of a comment, an instruction or a section, in a state.
-use Rattle.std.proofs.Common.{◌≡◌, ℕ, List, [], ◌∷◌, ◌++◌, Option, Some, None, refl, ap, ◌∙◌, sym}
+use Rattle.std.proofs.Common.{◌≡◌, ℕ, List, [], ◌∷◌, ◌++◌, refl, ap, ◌∙◌}
 use Rattle.xt_tree.specs.declared.trees.Tree.{Tree}
 use Rattle.doc_grammar.specs.Scopes.{opened}
 use Rattle.doc_grammar.specs.Lexing.{Lex, LexStep, on, makes, says, fails, lex_step}
-use Rattle.doc_grammar.specs.Machine.{Stack, State, content, marked, with_aside, with_text, in_marked, step, stops, other}
+use Rattle.doc_grammar.specs.Machine.{Stack, State, content, marked, with_aside, with_text, in_marked, step}
 use Rattle.doc_reader.specs.Reading.{reads, Fails}
 use Rattle.doc_reader.specs.Asides.{LexEnd, made, said, stopped, lex_goes, lex_reads}
 use Rattle.doc_reader.proofs.ReadLemmas.{goes, stuck}

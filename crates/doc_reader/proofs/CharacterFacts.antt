@@ -2,7 +2,7 @@
 use Rattle.std.proofs.Common.{◌≡◌, ℕ, List, [], ◌∷◌, ◌++◌, arith, Bool, true, false, ◌||◌, ◌==◌, refl, sym, subst}
 use Rattle.std.proofs.lemmas.Bool.{eqb-true}
 use Rattle.xt_names.specs.Classes.{is_in_ranges, ncname_start_ranges}
-use Rattle.doc_grammar.specs.Characters.{is_space, is_char, is_text, is_value, starts_name, is_name_char}
+use Rattle.doc_grammar.specs.Characters.{is_space, is_char, is_text, starts_name, is_name_char}
 
 pub slash_starts : starts_name 47 ≡ false
 unfolding starts_name is_in_ranges

@@ -1,8 +1,8 @@
 -- A reading of a form, in a state.
-use Rattle.std.proofs.Common.{◌≡◌, ℕ, List, [], ◌∷◌, Option, Some, None, refl, ap, ◌∙◌, sym}
+use Rattle.std.proofs.Common.{◌≡◌, ℕ, List, [], ◌∷◌, refl, ap, ◌∙◌}
 use Rattle.doc_grammar.specs.Scopes.{opened}
 use Rattle.doc_grammar.specs.Forms.{Form, FormStep, goes as goes_on, done, fails, form_step, form_part}
-use Rattle.doc_grammar.specs.Machine.{Stack, State, content, forming, in_forming, step, stop_in_form, stops, other}
+use Rattle.doc_grammar.specs.Machine.{Stack, State, content, forming, in_forming, step, stop_in_form, stops}
 use Rattle.doc_reader.specs.Reading.{reads}
 use Rattle.doc_reader.specs.Spelling.{FormEnd, stands, form_goes, spells}
 use Rattle.doc_reader.specs.Spelling as spelling

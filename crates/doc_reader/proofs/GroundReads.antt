@@ -1,5 +1,5 @@
 -- What is read around the root.
-use Rattle.std.proofs.Common.{◌≡◌, ℕ, ◌<◌, ◌≤◌, List, [], ◌∷◌, length, reverse, true, false, ◌⊎◌, inl, inr, refl, ap, ◌∙◌, arith}
+use Rattle.std.proofs.Common.{◌≡◌, ℕ, ◌<◌, ◌≤◌, List, [], ◌∷◌, length, reverse, true, false, ◌⊎◌, inl, inr, refl, ap, arith}
 use Rattle.std.proofs.lemmas.List.{length-reverse}
 use Rattle.xt_names.specs.declared.names.Binding.{Binding}
 use Rattle.xt_tree.specs.Forest.{Forest}

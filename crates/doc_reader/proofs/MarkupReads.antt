@@ -1,7 +1,6 @@
 -- What stands behind `<`, and what it does to a reading.
-use Rattle.std.proofs.Common.{◌≡◌, ℕ, List, [], ◌∷◌, ◌++◌, length, Bool, true, false, not, ◌&&◌, cond, Option, Some, None, MatchBool, ◌==◌, refl, sym, ap, subst, ◌∙◌, codes}
+use Rattle.std.proofs.Common.{◌≡◌, ℕ, List, [], ◌∷◌, ◌++◌, Bool, true, false, cond, Some, None, ◌==◌, refl, sym, ap, ◌∙◌, codes}
 use Rattle.std.proofs.lemmas.Bool.{ne_eqb}
-use Rattle.std.specs.Str.{bytes_eq}
 use Rattle.xt_names.specs.declared.names.Binding.{Binding}
 use Rattle.xt_tree.specs.declared.trees.Tree.{Tree}
 use Rattle.xt_tree.specs.declared.trees.Tree.TheVariants.{Comment, Pi}
@@ -13,16 +12,16 @@ use Rattle.doc_grammar.specs.Lexemes.{Ends, Named, NCName, is_target}
 use Rattle.doc_grammar.specs.Lexemes as lexemes
 use Rattle.doc_grammar.specs.Lexing.{dash, section_open, target_space, target_mark}
 use Rattle.doc_grammar.specs.Scopes.{opened}
-use Rattle.doc_grammar.specs.Document.{Level, blank, fresh, typed, rooted, may_type}
-use Rattle.doc_grammar.specs.Machine.{Stack, ground, element, State, content, tag, bang, question, targeting, marked, forming, declares, with_begun, with_aside, with_text, in_forming, behind_target, behind_plain_target, Stop, stop_in_form, stops, other, step, stop_at, or_stop, run, End}
-use Rattle.doc_reader.specs.Reading.{reads, Fails, Ran, stop_of}
+use Rattle.doc_grammar.specs.Document.{Level, typed, may_type}
+use Rattle.doc_grammar.specs.Machine.{Stack, ground, element, State, content, tag, bang, question, targeting, marked, forming, declares, with_begun, with_aside, with_text, in_forming, stop_in_form, stops, other, step, stop_at}
+use Rattle.doc_reader.specs.Reading.{reads, Fails, Ran}
 use Rattle.doc_reader.specs.Sources.{NotNext}
 use Rattle.doc_reader.specs.Asides.{LexEnd, made, said, stopped, lex_reads, target_reads}
 use Rattle.doc_reader.specs.Spelling.{FormEnd, form_goes, stands, spells, Spells}
 use Rattle.doc_reader.specs.Spelling as spelling
 use Rattle.doc_reader.specs.declared.steps.Step.{Step}
 use Rattle.doc_reader.specs.declared.steps.Step.TheVariants.{On, Stopped}
-use Rattle.doc_reader.proofs.ReadLemmas.{goes, stuck, no}
+use Rattle.doc_reader.proofs.ReadLemmas.{goes, stuck}
 use Rattle.doc_reader.proofs.ContentLemmas.{IsElement}
 use Rattle.doc_reader.proofs.AsideReads.{made_in, said_in, stopped_in}
 use Rattle.doc_reader.proofs.FormReads.{ends_in, forming_reads}
@@ -91,6 +90,7 @@ begins_form f s st p w (c ∷ cs) k e = go (form_step f c) refl where
   go (form.goes g) d = on (spells cs g) (forming_reads cs g st) where
     same : reads (c ∷ cs) s ≡ reads cs (forming g st)
     same = goes _ _ c cs (k c cs refl ∙ ap (in_forming st) d)
+
     on : (e : FormEnd) → ends_in e st cs (forming g st) → ends_in e st (c ∷ cs) s
     on (stands new) x = same ∙ x
     on (spelling.stops why new) x = same ∙ x
@@ -208,20 +208,20 @@ instruction_at [] target text st n d t = (λ x new e. absurd (let both : stopped
 instruction_at (c ∷ cs) target text st n d t =
     choose (InstructionEnds (target_reads (c ∷ cs) target) (c ∷ cs) text (targeting target text st) st) (is_space c)
     (λ s. (
-      let go : reads (c ∷ cs) (targeting target text st) ≡ reads cs (marked (target_space target) text st) = goes _ _ c cs (plain_step target text st c n d t ∙ rw s refl) in
-      let same : target_reads (c ∷ cs) target ≡ lex_reads cs (target_space target) = rw s refl in
-      (λ x new e. go ∙ made_in cs new (target_space target) x text st (sym same ∙ e), λ new e. go ∙ stopped_in cs new (target_space target) text st (sym same ∙ e))
+    let go : reads (c ∷ cs) (targeting target text st) ≡ reads cs (marked (target_space target) text st) = goes _ _ c cs (plain_step target text st c n d t ∙ rw s refl) in
+    let same : target_reads (c ∷ cs) target ≡ lex_reads cs (target_space target) = rw s refl in
+    (λ x new e. go ∙ made_in cs new (target_space target) x text st (sym same ∙ e), λ new e. go ∙ stopped_in cs new (target_space target) text st (sym same ∙ e))
     ))
     (λ s. choose (InstructionEnds (target_reads (c ∷ cs) target) (c ∷ cs) text (targeting target text st) st) (c == 63)
     (λ m. (
-      let go : reads (c ∷ cs) (targeting target text st) ≡ reads cs (marked (target_mark target) text st) = goes _ _ c cs (plain_step target text st c n d t ∙ rw (s, m) refl) in
-      let same : target_reads (c ∷ cs) target ≡ lex_reads cs (target_mark target) = rw (s, m) refl in
-      (λ x new e. go ∙ made_in cs new (target_mark target) x text st (sym same ∙ e), λ new e. go ∙ stopped_in cs new (target_mark target) text st (sym same ∙ e))
+    let go : reads (c ∷ cs) (targeting target text st) ≡ reads cs (marked (target_mark target) text st) = goes _ _ c cs (plain_step target text st c n d t ∙ rw (s, m) refl) in
+    let same : target_reads (c ∷ cs) target ≡ lex_reads cs (target_mark target) = rw (s, m) refl in
+    (λ x new e. go ∙ made_in cs new (target_mark target) x text st (sym same ∙ e), λ new e. go ∙ stopped_in cs new (target_mark target) text st (sym same ∙ e))
     ))
     (λ m. (
-      let halt : reads (c ∷ cs) (targeting target text st) ≡ stops other (c ∷ cs) = stuck _ c cs (plain_step target text st c n d t ∙ rw (s, m) refl) in
-      let same : target_reads (c ∷ cs) target ≡ stopped (c ∷ cs) = rw (s, m) refl in
-      (λ x new e. absurd (let both : stopped (c ∷ cs) ≡ made x new = sym same ∙ e in cc), λ new e. (let both : stopped (c ∷ cs) ≡ stopped new = sym same ∙ e in let rest : c ∷ cs ≡ new = cc in halt ∙ ap (λ x. stops other x) rest))
+    let halt : reads (c ∷ cs) (targeting target text st) ≡ stops other (c ∷ cs) = stuck _ c cs (plain_step target text st c n d t ∙ rw (s, m) refl) in
+    let same : target_reads (c ∷ cs) target ≡ stopped (c ∷ cs) = rw (s, m) refl in
+    (λ x new e. absurd (let both : stopped (c ∷ cs) ≡ made x new = sym same ∙ e in cc), λ new e. (let both : stopped (c ∷ cs) ≡ stopped new = sym same ∙ e in let rest : c ∷ cs ≡ new = cc in halt ∙ ap (λ x. stops other x) rest))
     )))
 
 pub instruction_made : (old new target text : List ℕ) (n : Tree) (st : Stack) → Ends is_name_char old → declares st target ≡ false → is_target target ≡ true → target_reads old target ≡ made n new

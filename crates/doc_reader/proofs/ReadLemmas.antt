@@ -2,7 +2,7 @@
 use Rattle.std.proofs.Common.{◌≡◌, ℕ, List, [], ◌∷◌, Bool, true, false, Option, Some, None, ◌==◌, MatchBool, refl, ap, ◌∙◌, sym}
 use Rattle.std.proofs.lemmas.Bool.{eqb-true}
 use Rattle.doc_grammar.specs.Scopes.{opened}
-use Rattle.doc_grammar.specs.Machine.{State, End, stops, other, step, stop_at, or_stop, run}
+use Rattle.doc_grammar.specs.Machine.{State, End, stops, step, stop_at, or_stop, run}
 use Rattle.doc_reader.specs.Reading.{reads, Ran}
 use Rattle.doc_reader.specs.Sources.{NextIs, NotNext}
 use Rattle.doc_reader.specs.declared.steps.Step.{Step}

@@ -1,9 +1,9 @@
 -- What the parts of a reference, taken one after another, do to its reading.
 use Rattle.std.proofs.Common.{◌≡◌, ℕ, ◌+◌, ◌*◌, ◌≤◌, ◌<◌, List, [], ◌∷◌, ◌++◌, length, Bool, true, false, ◌&&◌, inl, inr, Option, Some, None, MatchOption, MatchResult, Result, Ok, Err, nat_le, refl, sym, ap, ◌∙◌, arith, eq-eqb, codes}
-use Rattle.std.proofs.lemmas.Bool.{ne_eqb, eqb-true, le-leb, lt-leb}
-use Rattle.doc_grammar.specs.Characters.{is_char, Base, decimal, hexadecimal, base_of, digit, last_char, is_name_char, starts_name}
-use Rattle.doc_grammar.specs.Lexing.{Ref, RefStep, on, stands_for, fails, ref_step, ampersand, letter_a, spelling, hash, hash_x, number, entity_step}
-use Rattle.doc_grammar.specs.Machine.{Stop, other, entity, stop_in_ref, stop_in_entity}
+use Rattle.std.proofs.lemmas.Bool.{ne_eqb, le-leb, lt-leb}
+use Rattle.doc_grammar.specs.Characters.{is_char, Base, decimal, hexadecimal, base_of, digit, last_char, starts_name}
+use Rattle.doc_grammar.specs.Lexing.{Ref, on, stands_for, fails, ref_step, ampersand, letter_a, spelling, hash, hash_x, number}
+use Rattle.doc_grammar.specs.Machine.{Stop, other, stop_in_ref, stop_in_entity}
 use Rattle.std.specs.Char.{OutOfScalarRange}
 use Rattle.std.specs.Str.{chars}
 use Rattle.xt_names.specs.Classes.{is_in_ranges}

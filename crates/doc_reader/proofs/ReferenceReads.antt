@@ -6,7 +6,7 @@ use Rattle.doc_grammar.specs.Lexing.{Ref, RefStep, on, stands_for, fails, ref_st
 use Rattle.doc_grammar.specs.Machine.{Stack, State, content, refers, valued, value_refers, Stop, stop_in_ref, stop_at, step, in_reference, in_value_reference, End, finish, other}
 use Rattle.doc_grammar.specs.Machine as machine
 use Rattle.doc_reader.specs.Reading.{reads}
-use Rattle.doc_reader.specs.References.{RefEnd, finds, stops, ref_goes, ref_reads}
+use Rattle.doc_reader.specs.References.{finds, stops, ref_goes, ref_reads}
 use Rattle.doc_reader.proofs.ReadLemmas.{goes, stuck}
 
 -- alone

@@ -1,6 +1,6 @@
 -- What the parts of a start tag, taken one after another, do to a reading.
-use Rattle.std.proofs.Common.{◌≡◌, ℕ, ◌<◌, ◌≤◌, List, [], ◌∷◌, ◌++◌, length, map, Bool, true, false, Option, Some, None, slice_get, MatchBool, MatchOption, ◌⊎◌, ◌==◌, ◌||◌, refl, sym, ap, subst, ◌∙◌, inl, inr, arith}
-use Rattle.std.proofs.lemmas.Bool.{ne_eqb, eqb-true}
+use Rattle.std.proofs.Common.{◌≡◌, ℕ, List, [], ◌∷◌, ◌++◌, map, Bool, true, false, Option, Some, None, slice_get, MatchBool, MatchOption, ◌⊎◌, ◌==◌, refl, sym, ap, subst, ◌∙◌, inl, inr}
+use Rattle.std.proofs.lemmas.Bool.{ne_eqb}
 use Rattle.std.proofs.lemmas.List.{map_push}
 use Rattle.doc_grammar.specs.Characters.{is_space, is_quote, starts_name, is_name_char, is_colon}
 use Rattle.doc_grammar.specs.RawNames.{RawName, RawAttribute, RawTag, with_attribute}
@@ -14,7 +14,7 @@ use Rattle.doc_reader.specs.Reading.{reads, Fails, Ran, OnStep}
 use Rattle.doc_reader.specs.Sources.{NotNext, NoName}
 use Rattle.doc_reader.specs.declared.steps.Step.{Step}
 use Rattle.doc_reader.specs.declared.steps.Step.TheVariants.{On, Stopped}
-use Rattle.doc_reader.proofs.CharacterFacts.{close_space, slash_space, close_starts, slash_starts, equals_name, equals_space, colon_name, space_starts}
+use Rattle.doc_reader.proofs.CharacterFacts.{close_space, slash_space, close_starts, slash_starts, equals_space, colon_name, space_starts}
 use Rattle.doc_reader.proofs.ReadLemmas.{goes, stuck, no, is_other}
 use Rattle.doc_reader.proofs.ValueLemmas.{quote_cases}
 
@@ -70,7 +70,6 @@ at_end_by_first (d ∷ cs) c e h =
 no_tagged_step : (t : RawTag) (st : Stack) (c : ℕ) → is_space c ≡ false → (c ≡ 62 → ⊥) → (c ≡ 47 → ⊥) → step opened (tagged t st) c ≡ None
 unfolding step
 no_tagged_step t st c s x y = rw (s, ne_eqb c 62 x, ne_eqb c 47 y) refl
-
 
 tagged_why : (t : RawTag) (st : Stack) (c : ℕ) → (c ≡ 62 → ⊥) → stop_at (tagged t st) c ≡ other
 tagged_why t st c n = rw (ne_eqb c 62 n) refl
@@ -227,6 +226,7 @@ assigns b d old mid inner last new o t name st k e l s m = go o m where
   before =
       takes_in (equals t name st) (equals_space_step t name st) b old mid k ∙ ap (λ (x : List ℕ). reads x (equals t name st)) e ∙ goes _ _ 61 inner (equals_step t name st)
       ∙ takes_in (assigned t name st) (assigned_space_step t name st) d inner last l
+
   go : (o : Option ℕ) → MatchOption o ((new ≡ last) × NotNext 34 last × NotNext 39 last) (λ q. (last ≡ q ∷ new) × (is_quote q ≡ true))
       → MatchOption o (Fails (reads old (equals t name st)) new) (λ q. (is_quote q ≡ true) × (reads old (equals t name st) ≡ reads new (valued t name q [] st)))
   go None n = rw n.0 (before ∙ no_quote last t name st s n.1 n.2)

@@ -1,17 +1,16 @@
 -- What a reading of bytes comes to.
-use Rattle.std.proofs.Common.{◌≡◌, ℕ, ◌+◌, ◌-◌, ◌≤◌, List, [], ◌∷◌, ◌++◌, length, length-append, take, refl, sym, ap, ◌∙◌, arith}
+use Rattle.std.proofs.Common.{◌≡◌, ℕ, ◌+◌, ◌≤◌, List, ◌∷◌, ◌++◌, length, length-append, take, refl, sym, ap, ◌∙◌, arith}
 use Rattle.std.proofs.lemmas.List.{take_all}
 use Rattle.std.proofs.lemmas.Str.{chars_past_char, utf8_valid_len-IsUtf8}
 use Rattle.std.specs.Char.{encode_utf8}
 use Rattle.std.specs.Str.{chars, IsUtf8}
-use Rattle.std.specs.Str.Lossy.{utf8_valid_len}
 use Rattle.xt_names.specs.declared.names.Binding.{Binding}
 use Rattle.xt_tree.specs.declared.trees.Tree.{Tree}
 use Rattle.doc_grammar.specs.Scopes.{opened}
-use Rattle.doc_grammar.specs.Lines.{mark, mark_bytes, without_mark, lines, text_of, bytes_before, offset}
+use Rattle.doc_grammar.specs.Lines.{mark_bytes, without_mark, text_of, offset}
 use Rattle.doc_grammar.specs.Document.{IsDocument}
-use Rattle.doc_grammar.specs.Machine.{Stop, End, whole, stops, run, start}
-use Rattle.doc_grammar.specs.Faults.{spot_at, spot_of, valid_front, first_fault}
+use Rattle.doc_grammar.specs.Machine.{Stop, whole, stops, run, start}
+use Rattle.doc_grammar.specs.Faults.{spot_of, valid_front, first_fault}
 use Rattle.doc_grammar.specs.declared.spots.Spot.{Spot}
 use Rattle.doc_grammar.proofs.Runs.{runs_document, run_refuses}
 use Rattle.doc_grammar.proofs.FirstFaults.{left_over}

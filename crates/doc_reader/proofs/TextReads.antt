@@ -1,5 +1,5 @@
 -- What the parts of a text do to a reading.
-use Rattle.std.proofs.Common.{◌≡◌, ℕ, suc, ◌+◌, ◌<◌, ◌≤◌, List, [], ◌∷◌, ◌++◌, length, Bool, true, false, not, ◌&&◌, cond, Option, Some, None, Result, Ok, Err, MatchResult, ◌==◌, nat_le, refl, sym, ap, subst, ◌∙◌, append-nil, append_assoc, arith}
+use Rattle.std.proofs.Common.{◌≡◌, ℕ, suc, ◌<◌, ◌≤◌, List, [], ◌∷◌, ◌++◌, length, Bool, true, false, not, ◌&&◌, Option, Some, None, Result, Ok, Err, MatchResult, ◌==◌, nat_le, refl, sym, ap, subst, ◌∙◌, append-nil, append_assoc, arith}
 use Rattle.std.proofs.lemmas.Bool.{and_parts, ne_eqb, eqb-true, le-leb}
 use Rattle.std.specs.List.{list_all}
 use Rattle.xt_names.specs.Classes.{is_in_ranges}
@@ -10,7 +10,7 @@ use Rattle.doc_grammar.specs.Lexemes.{Ends}
 use Rattle.doc_grammar.specs.Lexing.{ampersand}
 use Rattle.doc_grammar.specs.Scopes.{opened}
 use Rattle.doc_grammar.specs.Document.{Level, blank, fresh, typed, rooted, begun}
-use Rattle.doc_grammar.specs.Machine.{Stack, ground, element, State, content, refers, Stop, other, stops, step, stop_at, or_stop, run}
+use Rattle.doc_grammar.specs.Machine.{Stack, ground, element, State, content, refers, other, stops, step, or_stop, run}
 use Rattle.doc_reader.specs.Classes.{is_plain_text, is_bracket}
 use Rattle.doc_reader.specs.References.{RefEnd, finds, ref_reads}
 use Rattle.doc_reader.specs.References as refs
@@ -161,9 +161,12 @@ more_brackets [] ts text n st i a = (n, omega arith, rw append-nil refl)
 more_brackets (x ∷ xs) ts text n st i a =
     let parts = and_parts (is_bracket x) (list_all is_bracket xs) a in
     let more = more_brackets xs ts (text ++ 93 ∷ []) (suc n) st i parts.1 in
-    let one : x ≡ 93 = is_one x parts.0 in
-    (more.0, omega (arith, more.1), ap (λ (y : ℕ). reads (y ∷ (xs ++ ts)) (content n text st)) one ∙ bracket_goes n (xs ++ ts) text st i ∙ more.2
-    ∙ ap (λ (y : List ℕ). reads ts (content more.0 y st)) (append_assoc text (93 ∷ []) xs ∙ ap (λ (y : ℕ). text ++ y ∷ xs) (sym one)))
+    let one : x ≡ 93 = is_one x parts.0 in (
+      more.0,
+      omega (arith, more.1),
+      ap (λ (y : ℕ). reads (y ∷ (xs ++ ts)) (content n text st)) one ∙ bracket_goes n (xs ++ ts) text st i ∙ more.2
+          ∙ ap (λ (y : List ℕ). reads ts (content more.0 y st)) (append_assoc text (93 ∷ []) xs ∙ ap (λ (y : ℕ). text ++ y ∷ xs) (sym one)),
+    )
 
 -- where no bracket follows, their number matters only before a `>`
 free_stand : (n c : ℕ) → (c == 62) ≡ false → may_stand n c ≡ may_stand 0 c
@@ -214,10 +217,13 @@ one_bracket old new text text' st n i o e t =
 two : (old a b run new text t1 t2 t3 : List ℕ) (st : Stack) → IsElement st → old ≡ 93 ∷ a → t1 ≡ text ++ 93 ∷ [] → a ≡ 93 ∷ b → t2 ≡ t1 ++ 93 ∷ [] → b ≡ run ++ new → list_all is_bracket run ≡ true → t3 ≡ t2 ++ run
     → (m : ℕ) × (2 ≤ m) × (reads old (content 0 text st) ≡ reads new (content m t3 st))
 two old a b run new text t1 t2 t3 st i o x p y r l z =
-    let more = more_brackets run new t2 2 st i l in
-    (more.0, more.1, ap (λ (k : List ℕ). reads k (content 0 text st)) o ∙ bracket_goes 0 a text st i ∙ ap (λ (k : List ℕ). reads a (content 1 k st)) (sym x)
-    ∙ ap (λ (k : List ℕ). reads k (content 1 t1 st)) p ∙ bracket_goes 1 b t1 st i ∙ ap (λ (k : List ℕ). reads b (content 2 k st)) (sym y) ∙ ap (λ (k : List ℕ). reads k (content 2 t2 st)) r ∙ more.2
-    ∙ ap (λ (k : List ℕ). reads new (content more.0 k st)) (sym z))
+    let more = more_brackets run new t2 2 st i l in (
+      more.0,
+      more.1,
+      ap (λ (k : List ℕ). reads k (content 0 text st)) o ∙ bracket_goes 0 a text st i ∙ ap (λ (k : List ℕ). reads a (content 1 k st)) (sym x)
+          ∙ ap (λ (k : List ℕ). reads k (content 1 t1 st)) p ∙ bracket_goes 1 b t1 st i ∙ ap (λ (k : List ℕ). reads b (content 2 k st)) (sym y) ∙ ap (λ (k : List ℕ). reads k (content 2 t2 st)) r ∙ more.2
+          ∙ ap (λ (k : List ℕ). reads new (content more.0 k st)) (sym z),
+    )
 
 no_bracket : (ts : List ℕ) → Ends is_bracket ts → NotNext 93 ts
 unfolding is_bracket

@@ -1,14 +1,13 @@
 -- What the parts of a value, taken one after another, do to a reading.
-use Rattle.std.proofs.Common.{◌≡◌, ℕ, ◌<◌, ◌≤◌, List, [], ◌∷◌, ◌++◌, length, Bool, true, false, not, ◌&&◌, ◌||◌, cond, Option, Some, None, Result, Ok, Err, MatchResult, ◌==◌, slice_get, refl, sym, ap, subst, ◌∙◌, append-nil, append_assoc, arith, eq-eqb}
+use Rattle.std.proofs.Common.{◌≡◌, ℕ, List, [], ◌∷◌, ◌++◌, Bool, true, false, not, ◌&&◌, ◌||◌, cond, Option, Some, None, Result, Ok, Err, MatchResult, ◌==◌, slice_get, refl, sym, ap, subst, ◌∙◌, append-nil, append_assoc, eq-eqb}
 use Rattle.std.proofs.lemmas.Bool.{and_parts, ne_eqb, eqb-true}
 use Rattle.std.specs.List.{list_all}
-use Rattle.xt_names.specs.Classes.{is_in_ranges}
 use Rattle.doc_grammar.specs.Characters.{is_space, is_char, is_text, is_value, as_value, is_quote}
 use Rattle.doc_grammar.specs.Lexemes.{Ends}
 use Rattle.doc_grammar.specs.Lexing.{ampersand}
 use Rattle.doc_grammar.specs.RawNames.{RawName, RawTag, with_attribute}
 use Rattle.doc_grammar.specs.Scopes.{opened}
-use Rattle.doc_grammar.specs.Machine.{Stack, State, tagged, valued, value_refers, Stop, other, step, stops}
+use Rattle.doc_grammar.specs.Machine.{Stack, tagged, valued, value_refers, other, step, stops}
 use Rattle.doc_reader.specs.Classes.{is_plain_value}
 use Rattle.doc_reader.specs.References.{RefEnd, finds, ref_reads}
 use Rattle.doc_reader.specs.References as refs

@@ -1,5 +1,5 @@
 -- A reading of a comment, an instruction behind its target, or a section alone.
-use Rattle.std.specs.Prelude.{◌≡◌, ℕ, List, [], ◌∷◌, ◌==◌, if◌then◌else◌}
+use Rattle.std.specs.Prelude.{ℕ, List, [], ◌∷◌, ◌==◌, if◌then◌else◌}
 use Rattle.xt_tree.specs.declared.trees.Tree.{Tree}
 use Rattle.doc_grammar.specs.Lexing.{Lex, LexStep, on, makes, says, fails, target_mark, target_space, lex_step}
 use Rattle.doc_grammar.specs.Characters.{is_space}

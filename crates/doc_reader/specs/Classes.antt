@@ -1,5 +1,5 @@
 -- The classes of characters that the code takes in runs.
-use Rattle.std.specs.Prelude.{ℕ, Bool, not, ◌&&◌, ◌||◌, ◌==◌}
+use Rattle.std.specs.Prelude.{ℕ, Bool, not, ◌&&◌, ◌==◌}
 use Rattle.doc_grammar.specs.Characters.{is_space, is_char, is_text, is_value}
 
 -- text of which no character makes a `]]>`

@@ -1,5 +1,5 @@
 -- When a text is refused.
-use Rattle.std.specs.Prelude.{◌≡◌, ℕ, ◌+◌, List, ⊤}
+use Rattle.std.specs.Prelude.{◌≡◌, ℕ, List, ⊤}
 use Rattle.xt_tree.specs.declared.trees.Tree.{Tree}
 use Rattle.doc_grammar.specs.Document.{IsDocument}
 use Rattle.doc_grammar.specs.Faults.{first_fault, spot_at}

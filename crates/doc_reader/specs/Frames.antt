@@ -1,7 +1,6 @@
 -- What the open elements of the reader stand for.
 use Rattle.std.specs.Prelude.{◌≡◌, ℕ, ◌-◌, List, [], ◌∷◌, length, take, reverse, Some, if◌then◌else◌}
 use Rattle.xt_names.specs.declared.names.Binding.{Binding}
-use Rattle.xt_tree.specs.declared.trees.Tree.{Tree}
 use Rattle.doc_grammar.specs.Characters.{starts_name}
 use Rattle.doc_grammar.specs.RawNames.{RawTag}
 use Rattle.doc_grammar.specs.Scopes.{Opened, opened, declarations}

@@ -1,5 +1,5 @@
 -- What a step of the code does to a reading.
-use Rattle.std.specs.Prelude.{◌≡◌, ℕ, List, [], ◌∷◌, ⊤}
+use Rattle.std.specs.Prelude.{◌≡◌, ℕ, List, ⊤}
 use Rattle.doc_grammar.specs.Scopes.{opened}
 use Rattle.doc_grammar.specs.Machine.{State, Stop, names, deep, entity, subset, encoding, other, End, stops, run}
 use Rattle.doc_reader.specs.declared.steps.Stop as code

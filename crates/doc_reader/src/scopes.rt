@@ -263,9 +263,10 @@ fn attribute_name(
     match name.prefix {
         Some(prefix) => prefixed_name(alloc, scope, prefix, name.local),
         None => {
+            let no_uri = empty.copy()?;
             Ok(Some(Name {
                 prefix: empty.copy()?,
-                uri: empty.copy()?,
+                uri: no_uri,
                 local: Text::make(alloc, name.local)?,
             }))
         }

@@ -1,4 +1,4 @@
-use crate::{ReadFault, Spot, read};
+use crate::{ReadFault, Spot, read, read_scoped};
 use std::alloc::{AllocError, Global};
 use std::test::Fail;
 
@@ -239,5 +239,165 @@ fn bytes_fail(alloc: Global) -> Result<bool, AllocError> {
 #[test]
 fn bytes_that_are_no_text(rt: HostRuntime) -> Result<(), Fail> {
     assert!(rt; bytes_fail(rt.alloc())?);
+    Ok(())
+}
+
+fn nested(alloc: Global, depth: usize) -> Result<String, AllocError> {
+    let mut text = String::new(alloc);
+    for _ in 0..depth {
+        text.push_str("<a>")?;
+    }
+    for _ in 0..depth {
+        text.push_str("</a>")?;
+    }
+    Ok(text)
+}
+
+fn nested_fails_at(alloc: Global, depth: usize, spot: Spot) -> Result<bool, AllocError> {
+    let text = nested(alloc, depth)?;
+    fails_at(alloc, text.as_bytes(), spot)
+}
+
+fn deepest_is_read(alloc: Global) -> Result<bool, AllocError> {
+    let text = nested(alloc, 2000)?;
+    is_document(alloc, text.as_str(), "", 2001)
+}
+
+#[test]
+fn deepest(rt: HostRuntime) -> Result<(), Fail> {
+    assert!(rt; deepest_is_read(rt.alloc())?);
+    Ok(())
+}
+
+#[test]
+fn too_deep(rt: HostRuntime) -> Result<(), Fail> {
+    assert!(rt; nested_fails_at(rt.alloc(), 2001, Spot::Deep)?);
+    Ok(())
+}
+
+// One tag of many attributes, whose names begin alike.
+fn wide(alloc: Global, begin: &str, count: u32) -> Result<String, AllocError> {
+    let mut text = String::from_str(alloc, "<a")?;
+    for i in 0..count {
+        text.push_str(format!(in alloc; " {begin}{i}=\"v\"")?.as_str())?;
+    }
+    text.push_str("/>")?;
+    Ok(text)
+}
+
+fn are_attributes_read(alloc: Global, count: u32) -> Result<bool, AllocError> {
+    let text = wide(alloc, "k", count)?;
+    is_document(alloc, text.as_str(), "", u64::from(count).saturating_add(2))
+}
+
+fn are_declarations_read(alloc: Global, count: u32) -> Result<bool, AllocError> {
+    let text = wide(alloc, "xmlns:k", count)?;
+    is_document(alloc, text.as_str(), "", 2)
+}
+
+#[test]
+fn a_megabyte_of_attributes(rt: HostRuntime) -> Result<(), Fail> {
+    assert!(rt; are_attributes_read(rt.alloc(), 100_000)?);
+    Ok(())
+}
+
+#[test]
+fn a_megabyte_of_declarations(rt: HostRuntime) -> Result<(), Fail> {
+    assert!(rt; are_declarations_read(rt.alloc(), 60_000)?);
+    Ok(())
+}
+
+fn long(alloc: Global, doublings: u32) -> Result<String, AllocError> {
+    let mut words = String::from_str(alloc, "lorem ipsum ")?;
+    for _ in 0..doublings {
+        let half = words.clone()?;
+        words.push_str(half.as_str())?;
+    }
+    Ok(words)
+}
+
+fn is_long_read(alloc: Global, doublings: u32) -> Result<bool, AllocError> {
+    let words = long(alloc, doublings)?;
+    let text = format!(in alloc; "<a>{words}</a>")?;
+    is_document(alloc, text.as_str(), words.as_str(), 3)
+}
+
+#[test]
+fn megabytes_of_text(rt: HostRuntime) -> Result<(), Fail> {
+    assert!(rt; is_long_read(rt.alloc(), 18)?);
+    Ok(())
+}
+
+// The value of the first attribute of the root.
+fn has_value(alloc: Global, text: &str, value: &str) -> Result<bool, AllocError> {
+    match read(alloc, text.as_bytes()) {
+        Ok(tree) => Ok(match tree.kids() {
+            [root] => match root.attributes() {
+                [first, ..] => first.value.is(value),
+                [] => false,
+            },
+            _ => false,
+        }),
+        Err(ReadFault::Bad(_)) => Ok(false),
+        Err(ReadFault::Memory(e)) => Err(e),
+    }
+}
+
+#[test]
+fn values_are_normalized(rt: HostRuntime) -> Result<(), Fail> {
+    assert!(rt;
+        has_value(
+            rt.alloc(),
+            "<a k='&#10;&#x9;-\t-\r\n-\r&quot;'/>",
+            "\n\t- - - \""
+        )?
+    );
+    Ok(())
+}
+
+// How many declarations each element has.
+fn declares(alloc: Global, text: &str, counts: &[usize]) -> Result<bool, AllocError> {
+    match read_scoped(alloc, text.as_bytes()) {
+        Ok(scoped) => Ok(
+            scoped
+                .declared
+                .as_slice()
+                .iter()
+                .map(|d| d.len())
+                .eq(counts.iter().copied()),
+        ),
+        Err(ReadFault::Bad(_)) => Ok(false),
+        Err(ReadFault::Memory(e)) => Err(e),
+    }
+}
+
+#[test]
+fn declarations_of_each_element(rt: HostRuntime) -> Result<(), Fail> {
+    assert!(rt;
+        declares(
+            rt.alloc(),
+            "<a xmlns='u'><b/><c xmlns:p='v' xmlns:q='w'><d k=''/></c></a>",
+            &[1, 0, 2, 0]
+        )?
+    );
+    Ok(())
+}
+
+const CATALOGUE: &str =
+    "<catalogue><author id=\"k\" name=\"Knuth\"/><book year=\"1976\"><title>Algol &amp; co</title></book></catalogue>";
+
+fn first_prefix_missed(alloc: Global) -> Result<Option<usize>, AllocError> {
+    let bytes = CATALOGUE.as_bytes();
+    for length in 0..bytes.len() {
+        if !fails_at(alloc, &bytes[..length], Spot::At(length as u64))? {
+            return Ok(Some(length));
+        }
+    }
+    Ok(None)
+}
+
+#[test]
+fn each_prefix_fails_at_its_end(rt: HostRuntime) -> Result<(), Fail> {
+    assert_eq!(rt; first_prefix_missed(rt.alloc())?, None);
     Ok(())
 }

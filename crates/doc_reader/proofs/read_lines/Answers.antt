@@ -1,4 +1,3 @@
-use Rattle.std.proofs.Common.{refl}
 use Rattle.doc_reader.proofs.TextLemmas.{left_fits}
 use Rattle.doc_reader.proofs.read_lines.Goals as goal
 

@@ -1,4 +1,4 @@
-use Rattle.std.proofs.Common.{sym, ◌∙◌}
+use Rattle.std.proofs.Common.{sym}
 use Rattle.doc_reader.proofs.GroundReads.{doctype_fails, doctype_goes}
 use Rattle.doc_reader.proofs.readers.Reader.doctype.Goals as goal
 

@@ -1,5 +1,5 @@
 use Rattle.std.proofs.Common.{refl, arith}
-use Rattle.doc_reader.specs.Frames.{open_in, base_of, level_of}
+use Rattle.doc_reader.specs.Frames.{base_of, level_of}
 use Rattle.doc_reader.proofs.FrameLemmas.{no_items}
 use Rattle.doc_reader.proofs.ElementLemmas.{end_at_ground, end_fails, end_closes, takes_next}
 use Rattle.doc_reader.proofs.readers.Reader.end_tag.Goals as goal

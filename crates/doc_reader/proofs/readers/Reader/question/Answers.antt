@@ -1,6 +1,5 @@
 use Rattle.std.proofs.Common.{sym, ◌∙◌}
 use Rattle.std.specs.Str.{chars}
-use Rattle.doc_reader.specs.Frames.{open_in, here}
 use Rattle.doc_reader.proofs.ReadLemmas.{takes_next, ran_from}
 use Rattle.doc_reader.proofs.ElementLemmas.{if_ok}
 use Rattle.doc_reader.proofs.MarkupReads.{no_target, no_target_name, to_target, target_ends}

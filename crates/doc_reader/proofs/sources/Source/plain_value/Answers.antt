@@ -1,4 +1,3 @@
-use Rattle.std.proofs.Common.{sym}
 use Rattle.doc_reader.proofs.ValueLemmas.{single_passes, single_ends}
 use Rattle.doc_reader.proofs.sources.Source.plain_value.Goals as goal
 
