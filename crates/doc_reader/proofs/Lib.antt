@@ -19,3 +19,4 @@ mod TextReads
 mod AsideReads
 mod FormReads
 mod MarkupReads
+mod GroundReads

@@ -4,6 +4,7 @@ use Rattle.std.proofs.lemmas.Bool.{ne_eqb}
 use Rattle.std.specs.Str.{bytes_eq}
 use Rattle.xt_names.specs.declared.names.Binding.{Binding}
 use Rattle.xt_tree.specs.declared.trees.Tree.{Tree}
+use Rattle.xt_tree.specs.declared.trees.Tree.TheVariants.{Comment, Pi}
 use Rattle.doc_grammar.specs.Characters.{is_space, starts_name, is_name_char}
 use Rattle.doc_grammar.specs.Forms.{Form, FormStep, form_step, form_part}
 use Rattle.doc_grammar.specs.Forms as form
@@ -16,14 +17,14 @@ use Rattle.doc_grammar.specs.Document.{Level, blank, fresh, typed, rooted, may_t
 use Rattle.doc_grammar.specs.Machine.{Stack, ground, element, State, content, tag, bang, question, targeting, marked, forming, declares, with_begun, with_aside, with_text, in_forming, behind_target, behind_plain_target, Stop, stop_in_form, stops, other, step, stop_at, or_stop, run, End}
 use Rattle.doc_reader.specs.Reading.{reads, Fails, Ran, stop_of}
 use Rattle.doc_reader.specs.Sources.{NotNext}
-use Rattle.doc_reader.specs.Asides.{LexEnd, made, stopped, lex_reads, target_reads}
+use Rattle.doc_reader.specs.Asides.{LexEnd, made, said, stopped, lex_reads, target_reads}
 use Rattle.doc_reader.specs.Spelling.{FormEnd, form_goes, stands, spells, Spells}
 use Rattle.doc_reader.specs.Spelling as spelling
 use Rattle.doc_reader.specs.declared.steps.Step.{Step}
 use Rattle.doc_reader.specs.declared.steps.Step.TheVariants.{On, Stopped}
 use Rattle.doc_reader.proofs.ReadLemmas.{goes, stuck, no}
 use Rattle.doc_reader.proofs.ContentLemmas.{IsElement}
-use Rattle.doc_reader.proofs.AsideReads.{made_in, stopped_in}
+use Rattle.doc_reader.proofs.AsideReads.{made_in, said_in, stopped_in}
 use Rattle.doc_reader.proofs.FormReads.{ends_in, forming_reads}
 
 -- `<`
@@ -229,3 +230,24 @@ instruction_made old new target text n st e d t r = (instruction_at old target t
 
 pub instruction_stops : (old new target text : List ℕ) (st : Stack) → Ends is_name_char old → declares st target ≡ false → is_target target ≡ true → target_reads old target ≡ stopped new → Fails (reads old (targeting target text st)) new
 instruction_stops old new target text st e d t r = (instruction_at old target text st e d t).1 new r
+
+-- a section in the content
+pub section_said : (old mid new more text text' : List ℕ) (st : Stack) → IsElement st → old ≡ 91 ∷ mid → lex_reads mid (section_open (codes "CDATA[")) ≡ said more new → text' ≡ text ++ more → reads old (bang text st) ≡ reads new (content 0 text' st)
+section_said old mid new more text text' st i o e t =
+    to_section old mid text st i o ∙ said_in mid new (section_open (codes "CDATA[")) more text st e ∙ ap (λ (x : List ℕ). reads new (content 0 x st)) (sym t)
+
+pub section_stops : (old mid new text : List ℕ) (st : Stack) → IsElement st → old ≡ 91 ∷ mid → lex_reads mid (section_open (codes "CDATA[")) ≡ stopped new → Fails (reads old (bang text st)) new
+section_stops old mid new text st i o e = to_section old mid text st i o ∙ stopped_in mid new (section_open (codes "CDATA[")) text st e
+
+-- a comment that is put behind what is open
+pub comment_made : (old mid new said_text made_text text : List ℕ) (st : Stack) (s : State) → lex_reads old dash ≡ made (Comment said_text) mid → made_text ≡ said_text → s ≡ content 0 [] (with_aside (Comment made_text) (with_text text st)) → new ≡ mid
+    → reads old (marked dash text st) ≡ reads new s
+comment_made old mid new said_text made_text text st s e m h n =
+    made_in old mid dash (Comment said_text) text st e ∙ ap (λ (x : List ℕ). reads mid (content 0 [] (with_aside (Comment x) (with_text text st)))) (sym m) ∙ ap (reads mid) (sym h) ∙ ap (λ (x : List ℕ). reads x s) (sym n)
+
+-- an instruction that is put behind what is open
+pub instruction_put : (old mid new target said_text made_target made_text text : List ℕ) (st : Stack) (s : State) → Ends is_name_char old → declares st target ≡ false → is_target target ≡ true → target_reads old target ≡ made (Pi target said_text) mid
+    → made_target ≡ target → made_text ≡ said_text → s ≡ content 0 [] (with_aside (Pi made_target made_text) (with_text text st)) → new ≡ mid → reads old (targeting target text st) ≡ reads new s
+instruction_put old mid new target said_text made_target made_text text st s e d t r a b h n =
+    instruction_made old mid target text (Pi target said_text) st e d t r ∙ ap (λ (x : List ℕ). reads mid (content 0 [] (with_aside (Pi target x) (with_text text st)))) (sym b)
+    ∙ ap (λ (x : List ℕ). reads mid (content 0 [] (with_aside (Pi x made_text) (with_text text st)))) (sym a) ∙ ap (reads mid) (sym h) ∙ ap (λ (x : List ℕ). reads x s) (sym n)

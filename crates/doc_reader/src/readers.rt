@@ -1,10 +1,10 @@
 // The reader: what is open, and what comes next.
-ghost use Rattle.std.specs.Prelude.{◌≡◌, ◌<◌, ◌≤◌, [], true, false, length, List, ℕ, IfOk, OnOk, MatchResult};
+ghost use Rattle.std.specs.Prelude.{◌≡◌, ◌<◌, ◌≤◌, [], true, false, length, List, ℕ, IfOk, OnOk, MatchBool, MatchResult, ◌⊎◌};
 ghost use Rattle.std.specs.Str.{chars};
 ghost use Rattle.doc_grammar.specs.Characters.{is_name_char};
 ghost use Rattle.doc_grammar.specs.Lexing.{dash};
 ghost use Rattle.doc_grammar.specs.Lexemes.{Ends, is_target};
-ghost use Rattle.doc_grammar.specs.Document.{begun};
+ghost use Rattle.doc_grammar.specs.Document.{begun, blank, rooted, may_type};
 ghost use Rattle.doc_grammar.specs.Machine.{tag, bang, targeting, marked, content, with_aside, with_text, declares, start, finish, whole, stops, other};
 ghost use Rattle.doc_reader.specs.Reading.{reads, stop_of, Ran, OnStep};
 ghost use Rattle.doc_reader.specs.Sources.{NextIs, NotNext};
@@ -261,13 +261,20 @@ impl<'a> Reader<'a> {
         ensures ran { Ran (reads self.old.source (bang self.old.text (open_in self.old))) self.new.source (here self.new) result }
         ensures shorter { length self.new.source ≤ length self.old.source }
     {
-        if self.level == Level::Typed || self.level == Level::Rooted {
+        if !self.may_type() {
             return Step::Stopped(Stop::Other);
         }
         let step = self.source.doctype();
         self.text.clear();
         self.level = Level::Typed;
         step
+    }
+
+    /// Whether a DOCTYPE may still come.
+    fn may_type(&self) -> bool
+        ensures { result ≡ may_type (level_of self.now.level) }
+    {
+        matches!(self.level, Level::Blank | Level::Fresh)
     }
 
     /// Reads an instruction, or the XML declaration, before its `?`.
@@ -280,15 +287,34 @@ impl<'a> Reader<'a> {
         let Some(target) = self.source.ncname() else {
             return Ok(Step::Stopped(Stop::Other));
         };
-        if self.level == Level::Blank && self.frames.is_empty() && is_ascii_text(target, "xml") {
+        if self.declares(target) {
             let step = self.source.xml_declaration();
             self.begin();
             return Ok(step);
         }
-        if target.eq_ignore_ascii_case("xml") {
+        if !is_target(target) {
             return Ok(Step::Stopped(Stop::Other));
         }
         self.instruction(alloc, target)
+    }
+
+    /// Whether the target begins the XML declaration: nothing comes before it, and it is `xml`.
+    fn declares(&self, target: &str) -> bool
+        ensures { result ≡ declares (open_in self.now) (chars target.now) }
+    {
+        if !self.is_blank() {
+            return false;
+        }
+        is_ascii_text(target, "xml")
+    }
+
+    fn is_blank(&self) -> bool
+        ensures { MatchBool result ((self.now.frames.items ≡ []) × (level_of self.now.level ≡ blank)) ((self.now.frames.items ≡ [] → ⊥) ⊎ (level_of self.now.level ≡ blank → ⊥)) }
+    {
+        if !self.frames.is_empty() {
+            return false;
+        }
+        matches!(self.level, Level::Blank)
     }
 
     /// Reads an instruction behind its target.
@@ -395,16 +421,26 @@ impl<'a> Reader<'a> {
             }
             match self.part(alloc)? {
                 Step::On => {}
-                stopped => return Ok(stopped),
+                Step::Stopped(stop) => return Ok(Step::Stopped(stop)),
             }
         }
     }
 
+    /// Whether the root is read, and nothing is open.
+    fn is_rooted(&self) -> bool
+        ensures { MatchBool result ((self.now.frames.items ≡ []) × (level_of self.now.level ≡ rooted)) ((self.now.frames.items ≡ [] → ⊥) ⊎ (level_of self.now.level ≡ rooted → ⊥)) }
+    {
+        if !self.frames.is_empty() {
+            return false;
+        }
+        matches!(self.level, Level::Rooted)
+    }
+
     /// The document, at the end of the text.
     fn finish(self, alloc: Global) -> Result<Result<Whole, Refusal>, AllocError>
-        ensures { IfOk result (λ r. MatchResult r (λ w. finish (here self) ≡ whole w.tree w.declared) (λ f. (finish (here self) ≡ stops (stop_of f.stop) []) × (f.left ≡ 0))) }
+        ensures { IfOk result (λ r. MatchResult r (λ w. finish (here self.entry) ≡ whole w.tree w.declared) (λ f. (finish (here self.entry) ≡ stops (stop_of f.stop) []) × (f.left ≡ 0))) }
     {
-        if self.level != Level::Rooted || !self.frames.is_empty() {
+        if !self.is_rooted() {
             return Ok(Err(Refusal {
                 stop: Stop::Other,
                 left: 0,
@@ -416,4 +452,11 @@ impl<'a> Reader<'a> {
             declared: self.declared,
         }))
     }
+}
+
+/// Whether an instruction may have this target, which is a name: `xml`, in any case, is reserved.
+fn is_target(target: &str) -> bool
+    ensures { result ≡ is_target (chars target.now) }
+{
+    !target.eq_ignore_ascii_case("xml")
 }

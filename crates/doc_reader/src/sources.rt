@@ -43,7 +43,7 @@ impl<'a> Source<'a> {
     pub(crate) fn is_over(&self) -> bool
         ensures { MatchBool result (self.now ≡ []) (self.now ≡ [] → ⊥) }
     {
-        self.rest.is_empty()
+        self.peek().is_none()
     }
 
     /// How many characters are left.
