@@ -1,7 +1,7 @@
 -- Line ends, one character at a time.
 use Rattle.std.proofs.Common.{◌≡◌, ℕ, zero, suc, ◌+◌, ◌≤◌, List, [], ◌∷◌, ◌++◌, length, length-append, Bool, true, false, refl, sym, ap, ◌∙◌, arith}
 use Rattle.std.proofs.lemmas.Bool.{ne_eqb}
-use Rattle.std.proofs.lemmas.Str.{encodes-chars, chars-nil}
+use Rattle.std.proofs.lemmas.Str.{length-le-encodes, encodes-chars, chars-nil}
 use Rattle.std.specs.Char.{encode_utf8}
 use Rattle.std.specs.Str.{chars, IsUtf8, encode_utf8_all}
 use Rattle.doc_grammar.specs.Lines.{lines, lines_behind, bytes_of, bytes_before}
@@ -51,3 +51,7 @@ pub feed_room : (bytes all c : ℕ) (old cs : List ℕ) → old ≡ c ∷ cs →
 feed_room bytes all c old cs o e h =
     let k : bytes + size_of (10 ∷ cs) ≤ all = rw (o, e) at h in
     let f = feed_size in omega arith
+
+-- a text has no more characters than bytes
+pub fewer_characters : (bs : List ℕ) → IsUtf8 bs → length (chars bs) ≤ length bs
+fewer_characters bs u = let size = ap length (encodes-chars bs u) in let less = length-le-encodes (chars bs) in omega arith

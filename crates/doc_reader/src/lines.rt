@@ -47,6 +47,18 @@ fn push_line(lines: &mut String, cr: bool, c: char) -> Result<(), AllocError>
     lines.push(c)
 }
 
+/// How many characters the text has.
+pub(crate) fn count(text: &str) -> usize
+    ensures { result ≡ length (chars text.now) }
+{
+    let mut source = Source::new(text);
+    let mut count: usize = 0;
+    while let Some(_c) = source.skip() {
+        count += 1;
+    }
+    count
+}
+
 /// The byte at which the character stands that so many others come before, where line ends count as one.
 pub(crate) fn offset(text: &str, taken: usize) -> u64
     ensures place { result ≡ bytes_before false (chars text.now) taken }

@@ -8,6 +8,7 @@ ghost use Rattle.doc_grammar.specs.Lexemes.{Spaces};
 ghost use Rattle.doc_reader.specs.Sources.{NextIs, NotNext, DiffersAt};
 
 use crate::classes::{Class, Space};
+use crate::lines::count;
 use std::marker::Model;
 
 /// What is left of a text; contracts see its characters.
@@ -50,7 +51,7 @@ impl<'a> Source<'a> {
     pub(crate) fn left(&self) -> usize
         ensures { result ≡ length self.now }
     {
-        self.rest.chars().count()
+        count(self.rest)
     }
 
     /// Takes the character, if it is the next.
