@@ -158,9 +158,6 @@ first_scope fs scope cleared new base prefix uri t e c n p u =
     let top : new ≡ top_scope = rw (n, c, p ∙ xml_chars, u ∙ uri_chars) refl in
     rw none (top ∙ t)
 
-pub root_same : (fs : List code.Frame) (scope scope' : List Binding) (base : Stack) → true ≡ (length fs == 0) → stack_of fs scope' base ≡ stack_of fs scope base
-root_same fs scope scope' base e = rw (no_frames fs e) refl
-
 -- the frame of a start tag
 pub pushes : (t : RawTag) (old : Stack) (frames : List code.Frame) (scope inner : List Binding) (l : Level) (kids : List Tree) (ds ds' : List (List Binding)) (o : OpenedTag) (f : code.Frame)
     → scope ≡ scope_of old → stack_of frames scope (ground l kids ds) ≡ old → OpensTag scope t o inner → ds' ≡ ds ++ o.declarations ∷ []

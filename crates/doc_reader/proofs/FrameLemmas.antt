@@ -4,7 +4,7 @@ use Rattle.std.proofs.lemmas.Bool.{ne_eqb}
 use Rattle.std.proofs.lemmas.List.{reverse-append, length-reverse}
 use Rattle.xt_names.specs.declared.names.Binding.{Binding}
 use Rattle.xt_tree.specs.declared.trees.Tree.{Tree}
-use Rattle.doc_grammar.specs.Document.{Level, limit, may_root}
+use Rattle.doc_grammar.specs.Document.{Level, limit}
 use Rattle.doc_grammar.specs.Characters.{starts_name}
 use Rattle.doc_grammar.specs.Machine.{Stack, ground, element, depth, may_open, scope_of, with_declared, with_text, stop_before_name, deep}
 use Rattle.doc_reader.specs.declared.readers.Frame as code
@@ -53,9 +53,6 @@ pub declared_of : (fs : List code.Frame) (scope d : List Binding) (l : Level) (k
 declared_of fs scope d l kids ds = declared_in (reverse fs) scope d l kids ds
 
 -- whether an element may begin
-
-pub root_may_open : (fs : List code.Frame) (scope : List Binding) (l : Level) (kids : List Tree) (ds : List (List Binding)) → true ≡ (length fs == 0) → may_open (stack_of fs scope (ground l kids ds)) ≡ may_root l
-root_may_open fs scope l kids ds e = rw (no_frames fs e) refl
 
 few_by_depth : (f : code.Frame) (fs : List code.Frame) (scope : List Binding) (base : Stack) → may_open (stack_in (f ∷ fs) scope base) ≡ nat_lt (depth (stack_in (f ∷ fs) scope base)) limit
 few_by_depth f fs scope base = refl

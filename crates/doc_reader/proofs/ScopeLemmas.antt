@@ -154,10 +154,6 @@ named_all view scope xs i old all h inv =
     let e : behind_named old (named_attributes scope []) ≡ all = rw none at inv in
     ap Some (sym (append-nil old)) ∙ ap (behind_named old) (sym (named_none scope)) ∙ e
 
-pub behind_none : (xs : List Attribute) (o : Option (List Attribute)) → behind_named [] o ≡ o
-behind_none xs None = refl
-behind_none xs (Some ys) = refl
-
 -- one item more of a copy
 pub copied_preserved : {A : Type 0} (xs : List A) (i : ℕ) (x y : A) (old new all : List A) → i < length xs → x ≡ get_or xs i x → old ++ drop i xs ≡ all → y ≡ x → new ≡ old ++ (y ∷ []) → new ++ drop (i + 1) xs ≡ all
 copied_preserved {A = A} xs i x y old new all h e inv m n =
