@@ -1,6 +1,8 @@
 -- How the refusals of the parts make the refusals of a request.
-use Rattle.std.proofs.Common.{◌≡◌, ℕ, List, arith, inl, inr, refl, ◌∙◌, false}
+use Rattle.std.proofs.Common.{◌≡◌, ℕ, List, arith, inl, inr, refl, ◌∙◌, true, false}
 use Rattle.xt_io.specs.Files.{FilesState, KeepsFiles, IsHeld}
+use Rattle.xt_names.specs.declared.codes.Code.TheVariants.{SheetStatic}
+use Rattle.xt_names.specs.declared.codes.SheetStaticCode.TheVariants.{XTUN0001}
 use Rattle.xt_tree.specs.declared.trees.Tree.{Tree}
 use Rattle.doc_grammar.specs.Document.{IsDocument}
 use Rattle.doc_reader.specs.Fault.{HasReadCause}
@@ -20,6 +22,17 @@ pub not_read : (files : Holdings) (name items bytes : List ℕ) (fault : ReadFau
     → bytes ≡ items → fault ≡ Bad spot → IsHeld files name items → HasReadCause bytes fault → HoldsNoDocument files name spot
 not_read files name items bytes fault spot same bad held cause =
     let none : HasReadCause items (Bad spot) = rw (same, bad) at cause in record { bytes = items; held = held; none = none.0; first = none.1 }
+
+-- the tree of a stylesheet
+pub sheet_held : (files : Holdings) (name items bytes : List ℕ) (tree sheet : Tree) → bytes ≡ items → IsHeld files name items → IsDocument bytes tree → (sheet ≡ tree) × (is_first_sheet tree ≡ true) → HoldsSheet files name sheet
+sheet_held files name items bytes tree sheet same held stands k =
+    rw k.0 (record { document = record { bytes = items; held = held; stands = rw same at stands }; form = k.1 })
+
+-- a tree that is none of a stylesheet
+pub other_form : (file : List ℕ) (old new : FilesState) (name items bytes : List ℕ) (tree : Tree) (status : Status) → bytes ≡ items → IsHeld old.held name items → IsDocument bytes tree
+    → (status ≡ Static (SheetStatic XTUN0001)) × (is_first_sheet tree ≡ false) → IsReadRefusedAs (HoldsNoSheet old.held name) file old new status
+other_form file old new name items bytes tree status same held stands k =
+    rw k.0 (refl, record { tree = tree; document = record { bytes = items; held = held; stands = rw same at stands }; other = k.1 })
 
 -- the stylesheet is refused
 pub refused_first : (sheet document : List ℕ) (old new : FilesState) (status : Status)

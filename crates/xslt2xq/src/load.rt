@@ -76,8 +76,8 @@ pub fn load_sheet<F: Files>(alloc: Global, name: &str, files: &mut F) -> Result<
 
 // The tree, if it is that of a stylesheet.
 fn sheet_of(tree: Tree) -> Result<Tree, Status>
-    ensures sheet { IfOk result (λ sheet. (sheet ≡ tree.entry) × (is_first_sheet tree.entry ≡ true)) }
-    ensures refused { IfErr result (λ status. (status ≡ Static (SheetStatic XTUN0001)) × (is_first_sheet tree.entry ≡ false)) }
+    ensures sheet { IfOk result (λ sheet. (sheet ≡ tree) × (is_first_sheet tree ≡ true)) }
+    ensures refused { IfErr result (λ status. (status ≡ Static (SheetStatic XTUN0001)) × (is_first_sheet tree ≡ false)) }
 {
     if is_first_sheet(&tree) {
         Ok(tree)
