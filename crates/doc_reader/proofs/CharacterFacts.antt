@@ -2,15 +2,19 @@
 use Rattle.std.proofs.Common.{◌≡◌, ℕ, List, [], ◌∷◌, ◌++◌, arith, Bool, true, false, ◌||◌, ◌==◌, refl, sym, subst}
 use Rattle.std.proofs.lemmas.Bool.{eqb-true}
 use Rattle.xt_names.specs.Classes.{is_in_ranges, ncname_start_ranges}
-use Rattle.doc_reader.specs.Characters.{is_space, is_text, is_value, starts_name, is_name_char}
-
-pub text_open : is_text 60 ≡ false
-unfolding is_text is_in_ranges
-text_open = refl
+use Rattle.doc_grammar.specs.Characters.{is_space, is_char, is_text, starts_name, is_name_char}
 
 pub slash_starts : starts_name 47 ≡ false
 unfolding starts_name is_in_ranges
 slash_starts = refl
+
+pub bang_starts : starts_name 33 ≡ false
+unfolding starts_name is_in_ranges
+bang_starts = refl
+
+pub question_starts : starts_name 63 ≡ false
+unfolding starts_name is_in_ranges
+question_starts = refl
 
 pub close_starts : starts_name 62 ≡ false
 unfolding starts_name is_in_ranges
@@ -24,6 +28,10 @@ pub close_space : is_space 62 ≡ false
 unfolding is_space
 close_space = refl
 
+pub equals_space : is_space 61 ≡ false
+unfolding is_space
+equals_space = refl
+
 pub colon_name : is_name_char 58 ≡ false
 unfolding is_name_char is_in_ranges
 colon_name = refl
@@ -31,10 +39,6 @@ colon_name = refl
 pub equals_name : is_name_char 61 ≡ false
 unfolding is_name_char is_in_ranges
 equals_name = refl
-
-pub quote_value : is_value 34 ≡ false
-unfolding is_value is_text is_in_ranges
-quote_value = refl
 
 space_32 : starts_name 32 ≡ false
 unfolding starts_name is_in_ranges
@@ -57,7 +61,7 @@ one_of P true b f g e = f refl
 one_of P false b f g e = g e
 
 -- what holds of each white space character
-space_cases : (P : ℕ → Type 0) (c : ℕ) → P 32 → P 9 → P 10 → P 13 → is_space c ≡ true → P c
+pub space_cases : (P : ℕ → Type 0) (c : ℕ) → P 32 → P 9 → P 10 → P 13 → is_space c ≡ true → P c
 unfolding is_space
 space_cases P c a b d e s =
     let is = λ (n : ℕ) (p : P n) (q : (c == n) ≡ true). subst P (sym (eqb-true c n q)) p in
@@ -77,3 +81,19 @@ more_ranges (r ∷ rs) more c h = grind (arith, more_ranges rs more c)
 pub name_starts : (c : ℕ) → starts_name c ≡ true → is_name_char c ≡ true
 unfolding starts_name is_name_char
 name_starts c s = more_ranges ncname_start_ranges _ c s
+
+pub text_32 : is_text 32 ≡ true
+unfolding is_text is_char is_in_ranges
+text_32 = refl
+
+pub text_9 : is_text 9 ≡ true
+unfolding is_text is_char is_in_ranges
+text_9 = refl
+
+pub text_10 : is_text 10 ≡ true
+unfolding is_text is_char is_in_ranges
+text_10 = refl
+
+pub text_13 : is_text 13 ≡ true
+unfolding is_text is_char is_in_ranges
+text_13 = refl

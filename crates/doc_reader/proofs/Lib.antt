@@ -1,14 +1,22 @@
-pub mod CharacterFacts
-pub mod Residue
-pub mod Rests
-pub mod Steps
-pub mod Runs
-pub mod SourceLemmas
-pub mod Spans
-pub mod TagSpans
-pub mod ScanLemmas
-pub mod AttributeLemmas
-pub mod TagLemmas
-pub mod ScopeLemmas
-pub mod FrameLemmas
-pub mod ReaderLemmas
+mod CharacterFacts
+mod ReadLemmas
+mod SourceLemmas
+mod ScanLemmas
+mod SpellLemmas
+mod AsideLemmas
+mod NameLemmas
+mod ReferenceReads
+mod ReferenceLemmas
+mod FrameLemmas
+mod ElementLemmas
+mod ValueLemmas
+mod TagLemmas
+mod ScopeLemmas
+mod TextLemmas
+mod LineLemmas
+mod ContentLemmas
+mod TextReads
+mod AsideReads
+mod FormReads
+mod MarkupReads
+mod GroundReads

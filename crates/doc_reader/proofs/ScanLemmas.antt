@@ -2,10 +2,12 @@
 use Rattle.std.proofs.Common.{◌≡◌, ℕ, List, [], ◌∷◌, ◌++◌, Bool, true, false, Option, Some, slice_get, ap, ◌∙◌, append-nil, append_assoc}
 use Rattle.std.proofs.lemmas.Bool.{and_parts}
 use Rattle.std.specs.List.{list_all}
-use Rattle.doc_reader.specs.Characters.{is_space, is_value, starts_name, is_name_char}
-use Rattle.doc_reader.specs.Document.{Ends, Spaces, Named, NCName, Valued}
-use Rattle.doc_reader.specs.Document as doc
-use Rattle.doc_reader.proofs.Steps.{no}
+use Rattle.doc_grammar.specs.Characters.{is_space, starts_name, is_name_char}
+use Rattle.doc_grammar.specs.Lexemes.{Ends, Spaces, Named, NCName}
+use Rattle.doc_grammar.specs.Lexemes as doc
+
+pub no : {b : Bool} {P : Type 0} → b ≡ true → b ≡ false → P
+no a b = cc
 
 -- a run that its first character is of the class of, and what is behind that
 pub record Begun (p : ℕ → Bool) (c : ℕ) (old run new : List ℕ) : Type 0 where
@@ -42,9 +44,3 @@ begun_name c old run new s e b = rw (b.is_old, b.is_run) (doc.ncname s (named_of
 pub none_next : (p : ℕ → Bool) (old : List ℕ) (r : Option ℕ) → r ≡ slice_get old 0 → ((c : ℕ) → r ≡ Some c → p c ≡ false) → Ends p old
 none_next p [] r e f = tt
 none_next p (c ∷ cs) r e f = f c e
-
-pub valued_of : (read xs new : List ℕ) → list_all is_value xs ≡ true → Valued read (xs ++ 34 ∷ new) (read ++ xs) new
-valued_of read [] new a = rw append-nil doc.whole
-valued_of read (x ∷ xs) new a =
-    let parts = and_parts (is_value x) (list_all is_value xs) a in
-    doc.more parts.0 (rw append_assoc at (valued_of (read ++ x ∷ []) xs new parts.1))

@@ -6,8 +6,8 @@ use Rattle.std.specs.Str.{bytes_eq, chars}
 use Rattle.xt_names.specs.declared.names.Binding.{Binding}
 use Rattle.xt_tree.specs.declared.attributes.Attribute.{Attribute}
 use Rattle.xt_tree.specs.Sound.{names_differ, same_name}
-use Rattle.doc_reader.specs.RawNames.{RawAttribute}
-use Rattle.doc_reader.specs.Scopes.{bound_later, bound_uri, with_declaration, declarations, declared_by, one_named, behind_named, both_named, named_attributes, prefix_name, prefixes_differ}
+use Rattle.doc_grammar.specs.RawNames.{RawAttribute}
+use Rattle.doc_grammar.specs.Scopes.{bound_later, bound_uri, with_declaration, declarations, declared_by, one_named, behind_named, both_named, named_attributes, prefix_name, prefixes_differ}
 
 pub chars_empty : chars [] ≡ []
 chars_empty = chars-nil
@@ -154,6 +154,15 @@ named_all view scope xs i old all h inv =
     let e : behind_named old (named_attributes scope []) ≡ all = rw none at inv in
     ap Some (sym (append-nil old)) ∙ ap (behind_named old) (sym (named_none scope)) ∙ e
 
-pub behind_none : (xs : List Attribute) (o : Option (List Attribute)) → behind_named [] o ≡ o
-behind_none xs None = refl
-behind_none xs (Some ys) = refl
+-- one item more of a copy
+pub copied_preserved : {A : Type 0} (xs : List A) (i : ℕ) (x y : A) (old new all : List A) → i < length xs → x ≡ get_or xs i x → old ++ drop i xs ≡ all → y ≡ x → new ≡ old ++ (y ∷ []) → new ++ drop (i + 1) xs ≡ all
+copied_preserved {A = A} xs i x y old new all h e inv m n =
+    let rest = drop (i + 1) xs in
+    let step : drop i xs ≡ x ∷ rest = drop_at xs i x h e in
+    ap (λ (b : List A). b ++ rest) (n ∙ ap (λ (z : A). old ++ (z ∷ [])) m) ∙ append_assoc old (x ∷ []) rest ∙ ap (λ (b : List A). old ++ b) (sym step) ∙ inv
+
+pub copied_all : {A : Type 0} (xs : List A) (i : ℕ) (old all : List A) → length xs ≤ i → old ++ drop i xs ≡ all → old ≡ all
+copied_all xs i old all h inv =
+    let none : drop i xs ≡ [] = drop_past xs i h in
+    let e : old ++ [] ≡ all = rw none at inv in
+    sym (append-nil old) ∙ e

@@ -7,7 +7,7 @@ use Rattle.std.proofs.Math.Seq.{take-append_seam}
 use Rattle.std.specs.Char.{encode_utf8}
 use Rattle.std.specs.List.{list_all}
 use Rattle.std.specs.Str.{chars, IsUtf8, IsCharBoundary}
-use Rattle.doc_reader.specs.Document.{Ends}
+use Rattle.doc_grammar.specs.Lexemes.{Ends}
 use Rattle.doc_reader.specs.Sources.{NotNext}
 
 pub not_next : (c : ℕ) (cs : List ℕ) (r : Option ℕ) → r ≡ slice_get cs 0 → ((d : ℕ) → r ≡ Some d → c ≡ d → ⊥) → NotNext c cs

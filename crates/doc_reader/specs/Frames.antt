@@ -1,70 +1,64 @@
--- What the open elements of the reader stand for, and what its steps do to a run.
-use Rattle.std.specs.Prelude.{◌≡◌, ℕ, ◌-◌, List, [], ◌∷◌, length, take, reverse, Some, ◌⊎◌}
+-- What the open elements of the reader stand for.
+use Rattle.std.specs.Prelude.{◌≡◌, ℕ, ◌-◌, List, [], ◌∷◌, length, take, reverse, Some, if◌then◌else◌}
 use Rattle.xt_names.specs.declared.names.Binding.{Binding}
-use Rattle.doc_reader.specs.declared.readers.Frame as code
-use Rattle.doc_reader.specs.declared.readers.Step.{Step}
-use Rattle.doc_reader.specs.declared.readers.Step.TheVariants.{On, Root, Stop}
-use Rattle.doc_reader.specs.RawNames.{RawTag}
-use Rattle.doc_reader.specs.Scopes.{Opened, opened}
-use Rattle.doc_reader.specs.Document.{element_of}
-use Rattle.doc_reader.specs.Machine.{Frame, frame, State, content, over, run, End, StopsAt, with_text, behind, scope_of}
-use Rattle.doc_reader.specs.Sources.{NotNext}
+use Rattle.doc_grammar.specs.Characters.{starts_name}
+use Rattle.doc_grammar.specs.RawNames.{RawTag}
+use Rattle.doc_grammar.specs.Scopes.{Opened, opened, declarations}
+use Rattle.doc_grammar.specs.Document.{Level, blank, fresh, typed, rooted}
+use Rattle.doc_grammar.specs.Machine.{Stack, ground, element, State, Stop, other, content, scope_of, stop_before_name, with_declared}
 use Rattle.doc_reader.specs.View.{name_of}
+use Rattle.doc_reader.specs.declared.readers.Frame as code
+use Rattle.doc_reader.specs.declared.readers.Level as level
+use Rattle.doc_reader.specs.declared.readers.Level.TheVariants.{Blank, Fresh, Typed, Rooted}
+use Rattle.doc_reader.specs.declared.readers.Reader.{Reader}
 
--- a frame in which these bindings are in force
-abbrev pub frame_of : code.Frame → List Binding → Frame
-frame_of f scope = frame (name_of f.name) (record { name = f.element; attributes = f.attributes; scope = scope }) f.kids
+abbrev pub level_of : level.Level → Level
+level_of Blank = blank
+level_of Fresh = fresh
+level_of Typed = typed
+level_of Rooted = rooted
 
--- the bindings that were in force outside of the frame
+-- an element that is open, in which these bindings are in force
+abbrev pub with_frame : code.Frame → List Binding → Stack → Stack
+with_frame f scope st = element (name_of f.name) (record { name = f.element; attributes = f.attributes; scope = scope }) f.kids st
+
+-- the bindings that were in force outside of the element
 abbrev pub outside : code.Frame → List Binding → List Binding
 outside f scope = take (length scope - f.declared) scope
 
--- frames, of which the first is the innermost
-abbrev pub frames_in : List code.Frame → List Binding → List Frame
-frames_in [] scope = []
-frames_in (f ∷ fs) scope = frame_of f scope ∷ frames_in fs (outside f scope)
+-- elements, of which the first is the innermost
+abbrev pub stack_in : List code.Frame → List Binding → Stack → Stack
+stack_in [] scope base = base
+stack_in (f ∷ fs) scope base = with_frame f scope (stack_in fs (outside f scope) base)
 
--- frames, of which the last is the innermost
-abbrev pub frames_of : List code.Frame → List Binding → List Frame
-frames_of fs scope = frames_in (reverse fs) scope
+-- elements, of which the last is the innermost
+abbrev pub stack_of : List code.Frame → List Binding → Stack → Stack
+stack_of fs scope base = stack_in (reverse fs) scope base
 
--- where a step has come
-abbrev pub Reached : State → List Frame → Step → Type 0
-Reached s frames On = s ≡ content [] frames
-Reached s frames (Root tree) = s ≡ over tree
-Reached s frames Stop = ⊥
+-- the document that is being read
+abbrev pub base_of : Reader → Stack
+base_of r = ground (level_of r.level) r.kids r.declared
 
--- what a step has done to a run
-abbrev pub Ran : End → List ℕ → List Frame → Step → Type 0
-Ran e source frames On = e ≡ run source (content [] frames)
-Ran e source frames (Root tree) = e ≡ run source (over tree)
-Ran e source frames Stop = StopsAt e source
+-- all that is open
+abbrev pub open_in : Reader → Stack
+open_in r = stack_of r.frames.items r.scope.items (base_of r)
 
--- a text was read, and what comes next is no text
-pub record ReadsText (e : End) (source : List ℕ) (old new : List Frame) : Type 0 where
-  pub text : List ℕ
-  pub same : e ≡ run source (content text old)
-  pub frames : new ≡ with_text text old
-  pub stops : NotNext 60 source → StopsAt (run source (content text old)) source
+-- the text so far
+abbrev pub text_in : Reader → List ℕ
+text_in r = r.text
 
--- a frame is closed: its element stands behind what is outside of it
-abbrev pub Closes : code.Frame → List code.Frame → List Binding → List Frame → Step → Type 0
-Closes f frames scope new s =
-    Reached (behind (element_of (record { name = f.element; attributes = f.attributes; scope = scope }) f.kids) (frames_of frames (outside f scope))) new s
+-- between two parts of the content
+abbrev pub here : Reader → State
+here r = content 0 (text_in r) (open_in r)
 
--- no end tag comes next, or none may
-abbrev pub CannotClose : List Frame → List ℕ → Type 0
-CannotClose frames source = (frames ≡ []) ⊎ NotNext 47 source
-
--- what a start tag opens in the frames, as a frame with its scope
-pub record Pushes (t : RawTag) (old : List Frame) (f : code.Frame) (frames : List code.Frame) (scope : List Binding) : Type 0 where
+-- what a start tag opens: an element with its scope
+pub record Pushes (t : RawTag) (old : Stack) (f : code.Frame) (frames : List code.Frame) (scope : List Binding) (base : Stack) : Type 0 where
   pub opening : Opened
   pub is_opened : opened (scope_of old) t ≡ Some opening
-  pub is_frame : frame_of f scope ≡ frame t.name opening []
-  pub is_outside : frames_of frames (outside f scope) ≡ old
+  pub is_frame : (st : Stack) → with_frame f scope st ≡ element t.name opening [] st
+  pub is_outside : stack_of frames (outside f scope) base ≡ with_declared (declarations t.attributes) old
 
--- what holds where the reader goes on
-abbrev pub OnStep : Step → Type 0 → Type 0
-OnStep On P = P
-OnStep (Root tree) P = Unit {0}
-OnStep Stop P = Unit {0}
+-- why no element begins with what comes next
+abbrev pub stop_before : List ℕ → Stack → Stop
+stop_before [] st = other
+stop_before (c ∷ cs) st = if starts_name c then stop_before_name st else other

@@ -1,8 +1,7 @@
 -- What comes next in a text.
-use Rattle.std.specs.Prelude.{◌≡◌, ℕ, List, [], ◌∷◌, ◌++◌, ◌⊎◌, Bool, true}
-use Rattle.std.specs.List.{list_all}
-use Rattle.doc_reader.specs.Characters.{starts_name}
-use Rattle.doc_reader.specs.Document.{Ends, NCName}
+use Rattle.std.specs.Prelude.{◌≡◌, ℕ, List, [], ◌∷◌, ◌++◌, ◌⊎◌}
+use Rattle.doc_grammar.specs.Characters.{starts_name}
+use Rattle.doc_grammar.specs.Lexemes.{Ends, NCName}
 
 -- the character does not come next
 abbrev pub NotNext : ℕ → List ℕ → Type 0
@@ -27,11 +26,3 @@ pub record DiffersAt (whole old new : List ℕ) : Type 0 where
 abbrev pub NoName : List ℕ → List ℕ → Type 0
 NoName old new =
     ((new ≡ old) × Ends starts_name old) ⊎ ((prefix : List ℕ) × NCName old prefix (58 ∷ new) × Ends starts_name new)
-
--- characters of a class, which neither more of them nor this character follows
-pub record BreaksOff (p : ℕ → Bool) (c : ℕ) (old new : List ℕ) : Type 0 where
-  pub read : List ℕ
-  pub is_old : old ≡ read ++ new
-  pub passes : list_all p read ≡ true
-  pub ends : Ends p new
-  pub not_next : NotNext c new

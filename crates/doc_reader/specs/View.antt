@@ -2,10 +2,10 @@
 use Rattle.std.specs.Prelude.{map}
 use Rattle.std.specs.Option.{option_map}
 use Rattle.std.specs.Str.{chars}
-use Rattle.doc_reader.specs.declared.tags.RawName as raw
+use Rattle.doc_grammar.specs.RawNames.{RawName, RawAttribute, RawTag}
+use Rattle.doc_reader.specs.declared.names.RawName as raw
 use Rattle.doc_reader.specs.declared.tags.RawAttribute as raw_attribute
 use Rattle.doc_reader.specs.declared.tags.RawTag as raw_tag
-use Rattle.doc_reader.specs.RawNames.{RawName, RawAttribute, RawTag}
 
 -- a name of the code, as characters
 abbrev pub name_of : raw.RawName → RawName

@@ -1,312 +1,462 @@
-// The reader: the elements that are open, and what comes next.
-ghost use Rattle.std.specs.Prelude.{◌≡◌, ◌∷◌, [], ◌<◌, ◌≤◌, length, List, ℕ, Some, None, IfOk, OnOk, MatchOption};
+// The reader: what is open, and what comes next.
+ghost use Rattle.std.specs.Prelude.{◌≡◌, ◌<◌, ◌≤◌, [], true, false, length, List, ℕ, IfOk, OnOk, MatchBool, MatchResult, ◌⊎◌};
 ghost use Rattle.std.specs.Str.{chars};
-ghost use Rattle.doc_reader.specs.Document.{AtEnd};
-ghost use Rattle.doc_reader.specs.Machine.{tag, tagged, slashed, content, over, run, with_text, behind, scope_of, start, whole, StopsAt};
-ghost use Rattle.doc_reader.specs.Scopes.{opened};
-ghost use Rattle.doc_reader.specs.Sources.{NextIs};
-ghost use Rattle.doc_reader.specs.View.{tag_of};
-ghost use Rattle.doc_reader.specs.Frames.{frames_of, Ran, Reached, ReadsText, CannotClose, Pushes, Closes, OnStep};
+ghost use Rattle.doc_grammar.specs.Characters.{is_name_char};
+ghost use Rattle.doc_grammar.specs.Lexing.{dash};
+ghost use Rattle.doc_grammar.specs.Lexemes.{Ends, is_target};
+ghost use Rattle.doc_grammar.specs.Document.{begun, blank, rooted, may_type};
+ghost use Rattle.doc_grammar.specs.Machine.{tag, bang, targeting, marked, content, with_aside, with_text, declares, start, finish, whole, stops, other};
+ghost use Rattle.doc_reader.specs.Reading.{reads, stop_of, Ran, OnStep};
+ghost use Rattle.doc_reader.specs.Sources.{NextIs, NotNext};
+ghost use Rattle.doc_reader.specs.Frames.{level_of, open_in, here};
 
-use crate::classes::TextChar;
-use crate::scopes::open_tag;
+use crate::buffers::Buffer;
+use crate::classes::{Bracket, PlainText};
+use crate::names::RawName;
+use crate::scopes::EmptyText;
 use crate::sources::Source;
-use crate::tags::{RawName, RawTag};
+use crate::steps::{Step, Stop};
 use std::alloc::{AllocError, Global};
-use xt_names::{Binding, List, Name, Text};
+use xt_names::{Binding, List, Name, Text, is_ascii_text};
 use xt_tree::{Attrs, Kids, Tree};
 
 /// How many elements are open at most.
-const LIMIT: usize = 2000;
+pub(crate) const LIMIT: usize = 2000;
 
 /// An element that is open.
 #[derive(Drop)]
 pub(crate) struct Frame<'a> {
-    name: RawName<'a>,
-    element: Name,
-    attributes: Attrs,
+    pub(crate) name: RawName<'a>,
+    pub(crate) element: Name,
+    pub(crate) attributes: Attrs,
     /// How many namespace declarations its start tag has.
-    declared: usize,
-    kids: List<Tree>,
+    pub(crate) declared: usize,
+    pub(crate) kids: List<Tree>,
 }
 
-/// What a step of the reader came to.
-#[derive(Drop)]
-pub(crate) enum Step {
-    /// The next part of the content was read.
-    On,
-    /// The root element was read.
-    Root(Tree),
-    /// The text does not go on as a document.
-    Stop,
+/// What has been read of the document.
+#[derive(Clone, Copy, PartialEq, Eq)]
+pub(crate) enum Level {
+    /// Nothing.
+    Blank,
+    /// Something, but neither a DOCTYPE nor the root.
+    Fresh,
+    /// A DOCTYPE and not the root.
+    Typed,
+    /// The root.
+    Rooted,
 }
 
 #[derive(Drop)]
 pub(crate) struct Reader<'a> {
-    source: Source<'a>,
-    frames: Vec<Frame<'a>>,
+    pub(crate) source: Source<'a>,
+    /// The elements that are open, the innermost last.
+    pub(crate) frames: Vec<Frame<'a>>,
     /// The bindings in force, the innermost last.
-    scope: Vec<Binding>,
+    pub(crate) scope: Vec<Binding>,
+    /// The text so far in the innermost element.
+    pub(crate) text: Buffer,
+    /// What is being read of a value, a comment or an instruction.
+    pub(crate) piece: Buffer,
+    pub(crate) level: Level,
+    /// The children of the document so far.
+    pub(crate) kids: List<Tree>,
+    /// The declarations of each element so far.
+    pub(crate) declared: List<List<Binding>>,
+    /// The empty text, which names share.
+    pub(crate) empty: EmptyText,
 }
 
 impl<'a> Reader<'a> {
-    /// Puts an element behind what the innermost open element has.
-    fn add(&mut self, tree: Tree) -> Result<Step, AllocError>
-        ensures reached { IfOk result (λ s. Reached (behind tree (frames_of self.old.frames.items self.old.scope.items)) (frames_of self.new.frames.items self.new.scope.items) s) }
+    /// Before the first character of a text.
+    pub(crate) fn new(alloc: Global, text: &'a str) -> Result<Reader<'a>, AllocError>
+        ensures { IfOk result (λ r. (r.source ≡ chars text.now) × (here r ≡ start)) }
+    {
+        Ok(Reader {
+            source: Source::new(text),
+            frames: Vec::new(alloc),
+            scope: Vec::new(alloc),
+            text: Buffer::new(alloc),
+            piece: Buffer::new(alloc),
+            level: Level::Blank,
+            kids: List::new(alloc),
+            declared: List::new(alloc),
+            empty: EmptyText::new(alloc)?,
+        })
+    }
+
+    /// Reads the next part of the content, or of the document around its root.
+    pub(crate) fn part(&mut self, alloc: Global) -> Result<Step, AllocError>
+        requires { 0 < length self.old.source }
+        ensures ran { IfOk result (λ s. Ran (reads self.old.source (here self.old)) self.new.source (here self.new) s) }
+        ensures falls { IfOk result (λ s. OnStep s (length self.new.source < length self.old.source)) }
+    {
+        if self.source.eat('<') {
+            return self.markup(alloc);
+        }
+        if self.frames.is_empty() {
+            return Ok(self.around());
+        }
+        self.characters()
+    }
+
+    /// Reads white space around the root.
+    fn around(&mut self) -> Step
+        requires some { 0 < length self.old.source }
+        requires ground { self.old.frames.items ≡ [] }
+        requires no_markup { NotNext 60 self.old.source }
+        ensures ran { Ran (reads self.old.source (here self.old)) self.new.source (here self.new) result }
+        ensures falls { OnStep result (length self.new.source < length self.old.source) }
+    {
+        if !self.source.spaces() {
+            return Step::Stopped(Stop::Other);
+        }
+        self.begin();
+        Step::On
+    }
+
+    /// Something is read.
+    fn begin(&mut self)
+        ensures text { self.new.text ≡ [] }
+        ensures level { level_of self.new.level ≡ begun (level_of self.old.level) }
+        ensures frames { self.new.frames.items ≡ self.old.frames.items }
+        ensures scope { self.new.scope.items ≡ self.old.scope.items }
+        ensures kids { self.new.kids ≡ self.old.kids }
+        ensures declared { self.new.declared ≡ self.old.declared }
         ensures source { self.new.source ≡ self.old.source }
     {
-        match self.frames.pop() {
-            None => Ok(Step::Root(tree)),
-            Some(mut frame) => {
-                frame.kids.push(tree)?;
-                self.frames.push(frame)?;
-                Ok(Step::On)
-            }
+        self.text.clear();
+        if self.level == Level::Blank {
+            self.level = Level::Fresh;
         }
     }
 
-    /// Puts a text behind what the innermost open element has, where there is a text.
-    fn add_text(&mut self, alloc: Global, text: &str) -> Result<(), AllocError>
-        ensures frames { OnOk result (frames_of self.new.frames.items self.new.scope.items ≡ with_text (chars text.now) (frames_of self.old.frames.items self.old.scope.items)) }
+    /// Reads characters of an element's content.
+    fn characters(&mut self) -> Result<Step, AllocError>
+        requires some { 0 < length self.old.source }
+        requires element { 0 < length self.old.frames.items }
+        requires no_markup { NotNext 60 self.old.source }
+        ensures ran { IfOk result (λ s. Ran (reads self.old.source (here self.old)) self.new.source (here self.new) s) }
+        ensures falls { IfOk result (λ s. OnStep s (length self.new.source < length self.old.source)) }
+    {
+        if self.source.eat('&') {
+            return match self.source.reference() {
+                Ok(c) => {
+                    self.text.push(c)?;
+                    Ok(Step::On)
+                }
+                Err(stop) => Ok(Step::Stopped(stop)),
+            };
+        }
+        if self.source.eat('>') {
+            self.text.push('>')?;
+            return Ok(Step::On);
+        }
+        if self.source.is_next(']') {
+            return self.brackets();
+        }
+        self.plain_text()
+    }
+
+    fn plain_text(&mut self) -> Result<Step, AllocError>
+        requires some { 0 < length self.old.source }
+        requires element { 0 < length self.old.frames.items }
+        requires no_markup { NotNext 60 self.old.source }
+        requires no_reference { NotNext 38 self.old.source }
+        requires no_close { NotNext 62 self.old.source }
+        requires no_bracket { NotNext 93 self.old.source }
+        ensures ran { IfOk result (λ s. Ran (reads self.old.source (here self.old)) self.new.source (here self.new) s) }
+        ensures falls { IfOk result (λ s. OnStep s (length self.new.source < length self.old.source)) }
+    {
+        let run = self.source.take_run::<PlainText>();
+        if run.is_empty() {
+            return Ok(Step::Stopped(Stop::Other));
+        }
+        self.text.push_str(run)?;
+        Ok(Step::On)
+    }
+
+    /// Reads closing brackets, and stops before a `>` behind two of them.
+    fn brackets(&mut self) -> Result<Step, AllocError>
+        requires bracket { NextIs 93 self.old.source }
+        requires element { 0 < length self.old.frames.items }
+        ensures ran { IfOk result (λ s. Ran (reads self.old.source (here self.old)) self.new.source (here self.new) s) }
+        ensures falls { IfOk result (λ s. OnStep s (length self.new.source < length self.old.source)) }
+    {
+        let _first = self.source.eat(']');
+        self.text.push(']')?;
+        if !self.source.eat(']') {
+            return Ok(Step::On);
+        }
+        self.text.push(']')?;
+        let run = self.source.take_run::<Bracket>();
+        self.text.push_str(run)?;
+        if self.source.is_next('>') {
+            return Ok(Step::Stopped(Stop::Other));
+        }
+        Ok(Step::On)
+    }
+
+    /// Reads what stands behind `<`.
+    fn markup(&mut self, alloc: Global) -> Result<Step, AllocError>
+        ensures ran { IfOk result (λ s. Ran (reads self.old.source (tag self.old.text (open_in self.old))) self.new.source (here self.new) s) }
+        ensures shorter { length self.new.source ≤ length self.old.source }
+    {
+        match self.source.peek() {
+            Some('/') => self.end_tag(alloc),
+            Some('!') => self.bang(alloc),
+            Some('?') => self.question(alloc),
+            _ => self.start_tag(alloc),
+        }
+    }
+
+    /// Reads a comment, a section or a DOCTYPE, before its `!`.
+    fn bang(&mut self, alloc: Global) -> Result<Step, AllocError>
+        requires { NextIs 33 self.old.source }
+        ensures ran { IfOk result (λ s. Ran (reads self.old.source (tag self.old.text (open_in self.old))) self.new.source (here self.new) s) }
+        ensures shorter { length self.new.source ≤ length self.old.source }
+    {
+        let _bang = self.source.eat('!');
+        if self.source.eat('-') {
+            return self.comment(alloc);
+        }
+        if self.frames.is_empty() {
+            return Ok(self.doctype());
+        }
+        self.section()
+    }
+
+    fn comment(&mut self, alloc: Global) -> Result<Step, AllocError>
+        ensures ran { IfOk result (λ s. Ran (reads self.old.source (marked dash self.old.text (open_in self.old))) self.new.source (here self.new) s) }
+        ensures shorter { length self.new.source ≤ length self.old.source }
+    {
+        self.piece.clear();
+        if !self.source.comment(&mut self.piece)? {
+            return Ok(Step::Stopped(Stop::Other));
+        }
+        let comment = Tree::Comment(self.piece.to_text(alloc)?);
+        self.aside(alloc, comment)?;
+        Ok(Step::On)
+    }
+
+    fn section(&mut self) -> Result<Step, AllocError>
+        requires element { 0 < length self.old.frames.items }
+        requires no_comment { NotNext 45 self.old.source }
+        ensures ran { IfOk result (λ s. Ran (reads self.old.source (bang self.old.text (open_in self.old))) self.new.source (here self.new) s) }
+        ensures shorter { length self.new.source ≤ length self.old.source }
+    {
+        if !self.source.eat('[') {
+            return Ok(Step::Stopped(Stop::Other));
+        }
+        if self.source.section(&mut self.text)? {
+            Ok(Step::On)
+        } else {
+            Ok(Step::Stopped(Stop::Other))
+        }
+    }
+
+    fn doctype(&mut self) -> Step
+        requires ground { self.old.frames.items ≡ [] }
+        requires no_comment { NotNext 45 self.old.source }
+        ensures ran { Ran (reads self.old.source (bang self.old.text (open_in self.old))) self.new.source (here self.new) result }
+        ensures shorter { length self.new.source ≤ length self.old.source }
+    {
+        if !self.may_type() {
+            return Step::Stopped(Stop::Other);
+        }
+        let step = self.source.doctype();
+        self.text.clear();
+        self.level = Level::Typed;
+        step
+    }
+
+    /// Whether a DOCTYPE may still come.
+    fn may_type(&self) -> bool
+        ensures { result ≡ may_type (level_of self.now.level) }
+    {
+        matches!(self.level, Level::Blank | Level::Fresh)
+    }
+
+    /// Reads an instruction, or the XML declaration, before its `?`.
+    fn question(&mut self, alloc: Global) -> Result<Step, AllocError>
+        requires { NextIs 63 self.old.source }
+        ensures ran { IfOk result (λ s. Ran (reads self.old.source (tag self.old.text (open_in self.old))) self.new.source (here self.new) s) }
+        ensures shorter { length self.new.source ≤ length self.old.source }
+    {
+        let _question = self.source.eat('?');
+        let Some(target) = self.source.ncname() else {
+            return Ok(Step::Stopped(Stop::Other));
+        };
+        if self.declares(target) {
+            let step = self.source.xml_declaration();
+            self.begin();
+            return Ok(step);
+        }
+        if !is_target(target) {
+            return Ok(Step::Stopped(Stop::Other));
+        }
+        self.instruction(alloc, target)
+    }
+
+    /// Whether the target begins the XML declaration: nothing comes before it, and it is `xml`.
+    fn declares(&self, target: &str) -> bool
+        ensures { result ≡ declares (open_in self.now) (chars target.now) }
+    {
+        if !self.is_blank() {
+            return false;
+        }
+        is_ascii_text(target, "xml")
+    }
+
+    fn is_blank(&self) -> bool
+        ensures { MatchBool result ((self.now.frames.items ≡ []) × (level_of self.now.level ≡ blank)) ((self.now.frames.items ≡ [] → ⊥) ⊎ (level_of self.now.level ≡ blank → ⊥)) }
+    {
+        if !self.frames.is_empty() {
+            return false;
+        }
+        matches!(self.level, Level::Blank)
+    }
+
+    /// Reads an instruction behind its target.
+    fn instruction(&mut self, alloc: Global, target: &str) -> Result<Step, AllocError>
+        requires ends { Ends is_name_char self.old.source }
+        requires no_declaration { declares (open_in self.old) (chars target.now) ≡ false }
+        requires target { is_target (chars target.now) ≡ true }
+        ensures ran { IfOk result (λ s. Ran (reads self.old.source (targeting (chars target.now) self.old.text (open_in self.old))) self.new.source (here self.new) s) }
+        ensures shorter { length self.new.source ≤ length self.old.source }
+    {
+        self.piece.clear();
+        if !self.source.instruction(&mut self.piece)? {
+            return Ok(Step::Stopped(Stop::Other));
+        }
+        let target = Text::make(alloc, target)?;
+        let instruction = Tree::Pi(target, self.piece.to_text(alloc)?);
+        self.aside(alloc, instruction)?;
+        Ok(Step::On)
+    }
+
+    /// Puts a comment or an instruction behind what is open.
+    fn aside(&mut self, alloc: Global, tree: Tree) -> Result<(), AllocError>
+        ensures here { OnOk result (here self.new ≡ content 0 [] (with_aside tree (with_text self.old.text (open_in self.old)))) }
         ensures source { self.new.source ≡ self.old.source }
     {
-        if text.is_empty() {
-            return Ok(());
-        }
+        self.flush(alloc)?;
         match self.frames.pop() {
-            None => Ok(()),
+            None => {
+                self.begin();
+                self.kids.push(tree)
+            }
             Some(mut frame) => {
-                frame.kids.push(Tree::Text(Text::make(alloc, text)?))?;
+                frame.kids.push(tree)?;
                 self.frames.push(frame)?;
                 Ok(())
             }
         }
     }
 
-    /// Takes the text that comes next in the innermost open element.
-    fn text(&mut self, alloc: Global) -> Result<(), AllocError>
-        ensures read { OnOk result (ReadsText (run self.old.source (content [] (frames_of self.old.frames.items self.old.scope.items))) self.new.source
-            (frames_of self.old.frames.items self.old.scope.items) (frames_of self.new.frames.items self.new.scope.items)) }
-        ensures shorter { length self.new.source ≤ length self.old.source }
+    /// Makes the text so far a node, where there is a text.
+    pub(crate) fn flush(&mut self, alloc: Global) -> Result<(), AllocError>
+        ensures opened { OnOk result (open_in self.new ≡ with_text self.old.text (open_in self.old)) }
+        ensures text { OnOk result (self.new.text ≡ []) }
+        ensures count { OnOk result (length self.new.frames.items ≡ length self.old.frames.items) }
+        ensures level { self.new.level ≡ self.old.level }
+        ensures source { self.new.source ≡ self.old.source }
     {
-        if self.frames.is_empty() {
+        if self.text.is_empty() {
             return Ok(());
         }
-        let text = self.source.take_run::<TextChar>();
-        self.add_text(alloc, text)
-    }
-
-    /// Makes the element of a frame that is no longer open.
-    fn close(&mut self, alloc: Global, frame: Frame<'a>) -> Result<Step, AllocError>
-        ensures reached { IfOk result (λ s. Closes frame.entry self.old.frames.items self.old.scope.items (frames_of self.new.frames.items self.new.scope.items) s) }
-        ensures source { self.new.source ≡ self.old.source }
-    {
-        let Frame {
-            name: _,
-            element,
-            attributes,
-            declared,
-            kids,
-        } = frame;
-        self.scope
-            .truncate(self.scope.len().saturating_sub(declared));
-        let kids = Kids::make(alloc, kids)?;
-        self.add(Tree::Elem(element, attributes, kids))
-    }
-
-    /// Reads the next part of the content, or of the text before the root.
-    pub(crate) fn part(&mut self, alloc: Global) -> Result<Step, AllocError>
-        ensures ran { IfOk result (λ s. Ran (run self.old.source (content [] (frames_of self.old.frames.items self.old.scope.items))) self.new.source
-            (frames_of self.new.frames.items self.new.scope.items) s) }
-        ensures shorter { IfOk result (λ s. OnStep s (length self.new.source < length self.old.source)) }
-    {
-        self.text(alloc)?;
-        if !self.source.eat('<') {
-            return Ok(Step::Stop);
-        }
-        self.markup(alloc)
-    }
-
-    /// Reads what stands behind `<`.
-    fn markup(&mut self, alloc: Global) -> Result<Step, AllocError>
-        ensures ran { IfOk result (λ s. Ran (run self.old.source (tag [] (frames_of self.old.frames.items self.old.scope.items))) self.new.source
-            (frames_of self.new.frames.items self.new.scope.items) s) }
-        ensures shorter { length self.new.source ≤ length self.old.source }
-    {
-        if self.frames.is_empty() {
-            return self.start_tag(alloc);
-        }
-        if self.source.eat('/') {
-            return self.end_tag(alloc);
-        }
-        self.start_tag(alloc)
-    }
-
-    /// Reads a start tag behind its `<`.
-    fn start_tag(&mut self, alloc: Global) -> Result<Step, AllocError>
-        requires { CannotClose (frames_of self.old.frames.items self.old.scope.items) self.old.source }
-        ensures ran { IfOk result (λ s. Ran (run self.old.source (tag [] (frames_of self.old.frames.items self.old.scope.items))) self.new.source
-            (frames_of self.new.frames.items self.new.scope.items) s) }
-        ensures shorter { length self.new.source ≤ length self.old.source }
-    {
-        if self.frames.len() >= LIMIT {
-            return Ok(Step::Stop);
-        }
-        let Some(name) = self.source.name() else {
-            return Ok(Step::Stop);
-        };
-        match self.source.tag(alloc, name)? {
-            Some(tag) => self.open(alloc, tag),
-            None => Ok(Step::Stop),
-        }
-    }
-
-    /// Reads the end of a start tag.
-    fn open(&mut self, alloc: Global, tag: RawTag<'a>) -> Result<Step, AllocError>
-        requires { AtEnd self.old.source }
-        ensures ran { IfOk result (λ s. Ran (run self.old.source (tagged (tag_of tag.entry) (frames_of self.old.frames.items self.old.scope.items))) self.new.source
-            (frames_of self.new.frames.items self.new.scope.items) s) }
-        ensures shorter { length self.new.source ≤ length self.old.source }
-    {
-        if self.source.eat('/') {
-            self.open_empty(alloc, tag)
-        } else {
-            self.open_full(alloc, tag)
-        }
-    }
-
-    /// Reads the `>` of a start tag, and opens its element.
-    fn open_full(&mut self, alloc: Global, tag: RawTag<'a>) -> Result<Step, AllocError>
-        requires { NextIs 62 self.old.source }
-        ensures ran { IfOk result (λ s. Ran (run self.old.source (tagged (tag_of tag.entry) (frames_of self.old.frames.items self.old.scope.items))) self.new.source
-            (frames_of self.new.frames.items self.new.scope.items) s) }
-        ensures shorter { length self.new.source ≤ length self.old.source }
-    {
-        let Some(frame) = self.open_frame(alloc, tag)? else {
-            return Ok(Step::Stop);
-        };
-        let _closed = self.source.eat('>');
-        self.frames.push(frame)?;
-        Ok(Step::On)
-    }
-
-    /// Reads the `>` of an empty-element tag, and makes its element.
-    fn open_empty(&mut self, alloc: Global, tag: RawTag<'a>) -> Result<Step, AllocError>
-        ensures ran { IfOk result (λ s. Ran (run self.old.source (slashed (tag_of tag.entry) (frames_of self.old.frames.items self.old.scope.items))) self.new.source
-            (frames_of self.new.frames.items self.new.scope.items) s) }
-        ensures shorter { length self.new.source ≤ length self.old.source }
-    {
-        if !self.source.is_next('>') {
-            return Ok(Step::Stop);
-        }
-        let Some(frame) = self.open_frame(alloc, tag)? else {
-            return Ok(Step::Stop);
-        };
-        let _closed = self.source.eat('>');
-        self.close(alloc, frame)
-    }
-
-    /// The frame of a start tag, whose declarations come into force; None where the tag breaks a rule on names.
-    fn open_frame(
-        &mut self,
-        alloc: Global,
-        tag: RawTag<'a>,
-    ) -> Result<Option<Frame<'a>>, AllocError>
-        ensures opens { IfOk result (λ o. MatchOption o (opened (scope_of (frames_of self.old.frames.items self.old.scope.items)) (tag_of tag.entry) ≡ None)
-            (λ f. Pushes (tag_of tag.entry) (frames_of self.old.frames.items self.old.scope.items) f self.new.frames.items self.new.scope.items)) }
-        ensures source { self.new.source ≡ self.old.source }
-    {
-        self.enter(alloc)?;
-        match open_tag(alloc, &mut self.scope, &tag)? {
-            None => Ok(None),
-            Some(opened) => Ok(Some(Frame {
-                name: tag.name,
-                element: opened.element,
-                attributes: opened.attributes,
-                declared: opened.declared,
-                kids: List::new(alloc),
-            })),
-        }
-    }
-
-    /// Puts the first bindings into force where no element is open.
-    fn enter(&mut self, alloc: Global) -> Result<(), AllocError>
-        ensures scope { OnOk result (self.new.scope.items ≡ scope_of (frames_of self.old.frames.items self.old.scope.items)) }
-        ensures frames { OnOk result (frames_of self.new.frames.items self.new.scope.items ≡ frames_of self.old.frames.items self.old.scope.items) }
-        ensures source { self.new.source ≡ self.old.source }
-    {
-        if self.frames.is_empty() {
-            self.scope.clear();
-            self.scope.push(Binding {
-                prefix: Text::make(alloc, "xml")?,
-                uri: Text::make(alloc, "http://www.w3.org/XML/1998/namespace")?,
-            })?;
-        }
-        Ok(())
-    }
-
-    /// Reads an end tag behind its `</`.
-    fn end_tag(&mut self, alloc: Global) -> Result<Step, AllocError>
-        requires { 0 < length self.old.frames.items }
-        ensures ran { IfOk result (λ s. Ran (run (47 ∷ self.old.source) (tag [] (frames_of self.old.frames.items self.old.scope.items))) self.new.source
-            (frames_of self.new.frames.items self.new.scope.items) s) }
-        ensures shorter { length self.new.source ≤ length self.old.source }
-    {
         match self.frames.pop() {
-            None => Ok(Step::Stop),
-            Some(frame) => {
-                if !self.source.end_name(frame.name) {
-                    return Ok(Step::Stop);
-                }
-                let _space = self.source.spaces();
-                if !self.source.eat('>') {
-                    return Ok(Step::Stop);
-                }
-                self.close(alloc, frame)
+            None => {
+                self.text.clear();
+                Ok(())
             }
-        }
-    }
-
-    /// Before the first character of a text.
-    fn new(alloc: Global, text: &'a str) -> Reader<'a>
-        ensures source { result.source ≡ chars text.now }
-        ensures frames { result.frames.items ≡ [] }
-    {
-        Reader {
-            source: Source::new(text),
-            frames: Vec::new(alloc),
-            scope: Vec::new(alloc),
-        }
-    }
-
-    /// Reads up to the end of the root element.
-    fn root(&mut self, alloc: Global) -> Result<Option<Tree>, AllocError>
-        ensures { IfOk result (λ o. MatchOption o (StopsAt (run self.old.source (content [] (frames_of self.old.frames.items self.old.scope.items))) self.new.source)
-            (λ root. run self.old.source (content [] (frames_of self.old.frames.items self.old.scope.items)) ≡ run self.new.source (over root))) }
-    {
-        'parts: loop {
-            match self.part(alloc)? {
-                Step::On => {}
-                Step::Root(root) => return Ok(Some(root)),
-                Step::Stop => return Ok(None),
+            Some(mut frame) => {
+                let text = self.text.to_text(alloc)?;
+                frame.kids.push(Tree::Text(text))?;
+                self.frames.push(frame)?;
+                self.text.clear();
+                Ok(())
             }
         }
     }
 }
 
-/// The tree of a text that is a document.
-pub(crate) fn read_text(alloc: Global, text: &str) -> Result<Option<Tree>, AllocError>
-    ensures { IfOk result (λ o. MatchOption o ((rest : List ℕ) × StopsAt (run (chars text.now) start) rest) (λ tree. run (chars text.now) start ≡ whole tree)) }
-{
-    let mut reader = Reader::new(alloc, text);
-    let Some(root) = reader.root(alloc)? else {
-        return Ok(None);
-    };
-    let _space = reader.source.spaces();
-    if reader.source.peek().is_some() {
-        return Ok(None);
+/// What a text stands for.
+#[derive(Drop)]
+pub(crate) struct Whole {
+    pub(crate) tree: Tree,
+    pub(crate) declared: List<List<Binding>>,
+}
+
+/// Why a reading stops, and how many characters are left there.
+#[derive(Clone, Copy)]
+pub(crate) struct Refusal {
+    pub(crate) stop: Stop,
+    pub(crate) left: usize,
+}
+
+impl<'a> Reader<'a> {
+    /// Reads a whole text.
+    pub(crate) fn read(alloc: Global, text: &str) -> Result<Result<Whole, Refusal>, AllocError>
+        ensures { IfOk result (λ r. MatchResult r (λ w. reads (chars text.now) start ≡ whole w.tree w.declared) (λ f. (rest : List ℕ) × (reads (chars text.now) start ≡ stops (stop_of f.stop) rest) × (length rest ≡ f.left))) }
+    {
+        let mut reader = Reader::new(alloc, text)?;
+        match reader.parts(alloc)? {
+            Step::On => reader.finish(alloc),
+            Step::Stopped(stop) => Ok(Err(Refusal {
+                stop,
+                left: reader.source.left(),
+            })),
+        }
     }
-    let mut kids = List::new(alloc);
-    kids.push(root)?;
-    Ok(Some(Tree::Doc(Kids::make(alloc, kids)?)))
+
+    /// Reads part by part to the end of the text.
+    fn parts(&mut self, alloc: Global) -> Result<Step, AllocError>
+        ensures ran { IfOk result (λ s. Ran (reads self.old.source (here self.old)) self.new.source (here self.new) s) }
+        ensures over { IfOk result (λ s. OnStep s (self.new.source ≡ [])) }
+    {
+        'parts: loop {
+            if self.source.is_over() {
+                return Ok(Step::On);
+            }
+            match self.part(alloc)? {
+                Step::On => {}
+                Step::Stopped(stop) => return Ok(Step::Stopped(stop)),
+            }
+        }
+    }
+
+    /// Whether the root is read, and nothing is open.
+    fn is_rooted(&self) -> bool
+        ensures { MatchBool result ((self.now.frames.items ≡ []) × (level_of self.now.level ≡ rooted)) ((self.now.frames.items ≡ [] → ⊥) ⊎ (level_of self.now.level ≡ rooted → ⊥)) }
+    {
+        if !self.frames.is_empty() {
+            return false;
+        }
+        matches!(self.level, Level::Rooted)
+    }
+
+    /// The document, at the end of the text.
+    fn finish(self, alloc: Global) -> Result<Result<Whole, Refusal>, AllocError>
+        ensures { IfOk result (λ r. MatchResult r (λ w. finish (here self.entry) ≡ whole w.tree w.declared) (λ f. (finish (here self.entry) ≡ stops (stop_of f.stop) []) × (f.left ≡ 0))) }
+    {
+        if !self.is_rooted() {
+            return Ok(Err(Refusal {
+                stop: Stop::Other,
+                left: 0,
+            }));
+        }
+        let tree = Tree::Doc(Kids::make(alloc, self.kids)?);
+        Ok(Ok(Whole {
+            tree,
+            declared: self.declared,
+        }))
+    }
+}
+
+/// Whether an instruction may have this target, which is a name: `xml`, in any case, is reserved.
+fn is_target(target: &str) -> bool
+    ensures { result ≡ is_target (chars target.now) }
+{
+    !target.eq_ignore_ascii_case("xml")
 }

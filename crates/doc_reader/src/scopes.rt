@@ -1,32 +1,65 @@
 // Namespaces: the names that a start tag gives in a scope.
-ghost use Rattle.std.specs.Prelude.{◌≡◌, ◌++◌, [], true, false, map, Some, None, IfOk, OnOk, MatchBool, MatchOption};
+ghost use Rattle.std.specs.Prelude.{◌≡◌, ◌++◌, [], true, false, map, Some, None, IfOk, IfSome, OnOk, MatchBool, MatchOption};
 ghost use Rattle.std.specs.List.{list_all};
 ghost use Rattle.std.specs.Option.{option_copied, option_map};
 ghost use Rattle.std.specs.Str.{chars};
-ghost use Rattle.doc_reader.specs.Scopes.{bound_uri, declared_by, declarations, is_binding, prefixes_differ, prefix_name, are_declarations, element_name, attribute_name, named_attributes, opened, in_namespace, with_declaration, one_named, behind_named};
+ghost use Rattle.doc_grammar.specs.Scopes.{bound_uri, declared_by, declarations, is_binding, prefixes_differ, prefix_name, are_declarations, element_name, attribute_name, named_attributes, opened, in_namespace, with_declaration, one_named, behind_named};
 ghost use Rattle.doc_reader.specs.View.{name_of, attribute_of, tag_of};
-ghost use Rattle.doc_reader.specs.Opening.{OpensTag};
+ghost use Rattle.doc_reader.specs.Opening.{OpensTag, uri_of};
 
-use crate::tags::{RawAttribute, RawName, RawTag};
+use crate::names::RawName;
+use crate::tags::{RawAttribute, RawTag};
 use std::alloc::{AllocError, Global};
+use std::marker::Model;
 use xt_names::{Binding, List, Name, Text, is_ascii_text, keeps_xml, keeps_xmlns};
 use xt_tree::{Attribute, Attrs, names_differ};
 
-/// The uri that the last binding of the prefix gives it.
-fn bound_uri<'b>(scope: &'b [Binding], prefix: &str) -> Option<&'b Text>
-    ensures { option_copied result ≡ bound_uri scope.now (chars prefix.now) }
+/// The empty text, which names share.
+#[derive(Drop)]
+pub(crate) struct EmptyText {
+    text: Text,
+}
+
+impl Model for EmptyText {
+    ghost use Rattle.std.specs.Prelude.{◌≡◌, List, ℕ, []};
+
+    ghost Value = { List ℕ };
+
+    ghost view = { λ e. e.text };
+
+    ghost invariant = { λ e. e.text ≡ [] };
+}
+
+impl EmptyText {
+    #[tactic(auto, using(crate::proofs::ScopeLemmas::chars_empty))]
+    pub(crate) fn new(alloc: Global) -> Result<EmptyText, AllocError> {
+        let text = Text::make(alloc, "")?;
+        Ok(EmptyText { text })
+    }
+
+    fn copy(&self) -> Result<Text, AllocError>
+        ensures { IfOk result (λ t. t ≡ []) }
+    {
+        self.text.copy()
+    }
+}
+
+/// The last binding of the prefix.
+fn bound<'b>(scope: &'b [Binding], prefix: &str) -> Option<&'b Binding>
+    ensures uri { option_map uri_of (option_copied result) ≡ bound_uri scope.now (chars prefix.now) }
+    ensures prefix { IfSome result (λ b. b.now.prefix ≡ chars prefix.now) }
 {
     let mut found = None;
     for binding in scope {
         if binding.prefix.is(prefix) {
-            found = Some(&binding.uri);
+            found = Some(binding);
         }
     }
     found
 }
 
 /// The prefix that an attribute of this name declares.
-#[tactic(auto, using(crate::proofs::ScopeLemmas::chars_empty), unfolding(crate::specs::Scopes::declared_by))]
+#[tactic(auto, using(crate::proofs::ScopeLemmas::chars_empty), unfolding(doc_grammar::specs::Scopes::declared_by))]
 fn declared_by<'a>(name: RawName<'a>) -> Option<&'a str>
     ensures { option_map (λ p. chars p.now) result ≡ declared_by (name_of name.entry) }
 {
@@ -37,18 +70,19 @@ fn declared_by<'a>(name: RawName<'a>) -> Option<&'a str>
     }
 }
 
-/// What a start tag opens: its name, its attributes, and how many declarations it has.
+/// What a start tag opens: its name, its attributes, and its declarations.
 #[derive(Drop)]
 pub(crate) struct OpenedTag {
     pub(crate) element: Name,
     pub(crate) attributes: Attrs,
-    pub(crate) declared: usize,
+    pub(crate) declarations: List<Binding>,
 }
 
 /// Opens a start tag in the scope, to which its declarations are added; None where a rule on names is broken.
-#[tactic(auto, unfolding(crate::specs::Scopes::opened))]
+#[tactic(auto, unfolding(doc_grammar::specs::Scopes::opened))]
 pub(crate) fn open_tag(
     alloc: Global,
+    empty: &EmptyText,
     scope: &mut Vec<Binding>,
     tag: &RawTag<'_>,
 ) -> Result<Option<OpenedTag>, AllocError>
@@ -57,14 +91,14 @@ pub(crate) fn open_tag(
     let outer = scope.len();
     declare(alloc, scope, &tag.attributes)?;
     let declared = &scope[outer..];
-    if !are_declarations(alloc, declared)? {
+    if !are_declarations(alloc, empty, declared)? {
         return Ok(None);
     }
-    let declared = declared.len();
-    let Some(element) = element_name(alloc, scope, tag.name)? else {
+    let declarations = copied(alloc, declared)?;
+    let Some(element) = element_name(alloc, empty, scope, tag.name)? else {
         return Ok(None);
     };
-    let Some(attributes) = named_attributes(alloc, scope, &tag.attributes)? else {
+    let Some(attributes) = named_attributes(alloc, empty, scope, &tag.attributes)? else {
         return Ok(None);
     };
     if !names_differ(alloc, attributes.as_slice()) {
@@ -74,8 +108,18 @@ pub(crate) fn open_tag(
     Ok(Some(OpenedTag {
         element,
         attributes,
-        declared,
+        declarations,
     }))
+}
+
+fn copied(alloc: Global, bindings: &[Binding]) -> Result<List<Binding>, AllocError>
+    ensures { IfOk result (λ copies. copies ≡ bindings.now) }
+{
+    let mut copies = List::new(alloc);
+    for binding in bindings {
+        copies.push(binding.copy()?)?;
+    }
+    Ok(copies)
 }
 
 /// Puts the namespace declarations among the attributes into force.
@@ -111,11 +155,15 @@ fn declare_one(
 }
 
 /// Whether the declarations of one start tag are allowed.
-#[tactic(auto, unfolding(crate::specs::Scopes::are_declarations))]
-fn are_declarations(alloc: Global, bindings: &[Binding]) -> Result<bool, AllocError>
+#[tactic(auto, unfolding(doc_grammar::specs::Scopes::are_declarations))]
+fn are_declarations(
+    alloc: Global,
+    empty: &EmptyText,
+    bindings: &[Binding],
+) -> Result<bool, AllocError>
     ensures { IfOk result (λ allowed. allowed ≡ are_declarations bindings.now) }
 {
-    Ok(are_all_bindings(bindings) && prefixes_differ(alloc, bindings)?)
+    Ok(are_all_bindings(bindings) && prefixes_differ(alloc, empty, bindings)?)
 }
 
 fn are_all_bindings(bindings: &[Binding]) -> bool
@@ -124,7 +172,7 @@ fn are_all_bindings(bindings: &[Binding]) -> bool
     bindings.iter().all(|b| is_binding(b))
 }
 
-#[tactic(auto, unfolding(crate::specs::Scopes::is_binding))]
+#[tactic(auto, unfolding(doc_grammar::specs::Scopes::is_binding))]
 fn is_binding(binding: &Binding) -> bool
     ensures { result ≡ is_binding binding.now }
 {
@@ -135,29 +183,35 @@ fn is_binding(binding: &Binding) -> bool
 
 /// Whether no prefix is declared twice. Prefixes are looked up as names without uri, so that many take no scan.
 #[tactic(auto, using(crate::proofs::ScopeLemmas::differ_as_names))]
-fn prefixes_differ(alloc: Global, bindings: &[Binding]) -> Result<bool, AllocError>
+fn prefixes_differ(
+    alloc: Global,
+    empty: &EmptyText,
+    bindings: &[Binding],
+) -> Result<bool, AllocError>
     ensures { IfOk result (λ differ. differ ≡ prefixes_differ bindings.now) }
 {
-    let names = prefix_names(alloc, bindings)?;
+    let names = prefix_names(alloc, empty, bindings)?;
     Ok(names_differ(alloc, names.as_slice()))
 }
 
 #[tactic(auto, using(crate::proofs::ScopeLemmas::chars_empty))]
-fn prefix_names(alloc: Global, bindings: &[Binding]) -> Result<List<Attribute>, AllocError>
+fn prefix_names(
+    alloc: Global,
+    empty: &EmptyText,
+    bindings: &[Binding],
+) -> Result<List<Attribute>, AllocError>
     ensures { IfOk result (λ names. names ≡ map prefix_name bindings.now) }
 {
-    let empty = Text::make(alloc, "")?;
     let mut names = List::new(alloc);
     for binding in bindings {
-        names.push(prefix_name(&empty, binding)?)?;
+        names.push(prefix_name(empty, binding)?)?;
     }
     Ok(names)
 }
 
 // The prefix as the name of an attribute.
-#[tactic(auto, unfolding(crate::specs::Scopes::prefix_name))]
-fn prefix_name(empty: &Text, binding: &Binding) -> Result<Attribute, AllocError>
-    requires { empty.now ≡ [] }
+#[tactic(auto, unfolding(doc_grammar::specs::Scopes::prefix_name))]
+fn prefix_name(empty: &EmptyText, binding: &Binding) -> Result<Attribute, AllocError>
     ensures { IfOk result (λ made. made ≡ prefix_name binding.now) }
 {
     Ok(Attribute {
@@ -171,9 +225,10 @@ fn prefix_name(empty: &Text, binding: &Binding) -> Result<Attribute, AllocError>
 }
 
 /// The name of an element, if its prefix is declared.
-#[tactic(auto, using(crate::proofs::ScopeLemmas::chars_empty), unfolding(crate::specs::Scopes::element_name))]
+#[tactic(auto, using(crate::proofs::ScopeLemmas::chars_empty), unfolding(doc_grammar::specs::Scopes::element_name))]
 fn element_name(
     alloc: Global,
+    empty: &EmptyText,
     scope: &[Binding],
     name: RawName<'_>,
 ) -> Result<Option<Name>, AllocError>
@@ -182,12 +237,12 @@ fn element_name(
     match name.prefix {
         Some(prefix) => prefixed_name(alloc, scope, prefix, name.local),
         None => {
-            let uri = match bound_uri(scope, "") {
-                Some(uri) => uri.copy()?,
-                None => Text::make(alloc, "")?,
+            let uri = match bound(scope, "") {
+                Some(binding) => binding.uri.copy()?,
+                None => empty.copy()?,
             };
             Ok(Some(Name {
-                prefix: Text::make(alloc, "")?,
+                prefix: empty.copy()?,
                 uri,
                 local: Text::make(alloc, name.local)?,
             }))
@@ -196,9 +251,10 @@ fn element_name(
 }
 
 /// The name of an attribute, if its prefix is declared.
-#[tactic(auto, using(crate::proofs::ScopeLemmas::chars_empty), unfolding(crate::specs::Scopes::attribute_name))]
+#[tactic(auto, using(crate::proofs::ScopeLemmas::chars_empty), unfolding(doc_grammar::specs::Scopes::attribute_name))]
 fn attribute_name(
     alloc: Global,
+    empty: &EmptyText,
     scope: &[Binding],
     name: RawName<'_>,
 ) -> Result<Option<Name>, AllocError>
@@ -207,10 +263,10 @@ fn attribute_name(
     match name.prefix {
         Some(prefix) => prefixed_name(alloc, scope, prefix, name.local),
         None => {
-            let empty = Text::make(alloc, "")?;
+            let no_uri = empty.copy()?;
             Ok(Some(Name {
                 prefix: empty.copy()?,
-                uri: empty,
+                uri: no_uri,
                 local: Text::make(alloc, name.local)?,
             }))
         }
@@ -225,11 +281,11 @@ fn prefixed_name(
 ) -> Result<Option<Name>, AllocError>
     ensures { IfOk result (λ made. made ≡ in_namespace (chars prefix.now) (chars local.now) (bound_uri scope.now (chars prefix.now))) }
 {
-    match bound_uri(scope, prefix) {
+    match bound(scope, prefix) {
         None => Ok(None),
-        Some(uri) => Ok(Some(Name {
-            prefix: Text::make(alloc, prefix)?,
-            uri: uri.copy()?,
+        Some(binding) => Ok(Some(Name {
+            prefix: binding.prefix.copy()?,
+            uri: binding.uri.copy()?,
             local: Text::make(alloc, local)?,
         })),
     }
@@ -238,6 +294,7 @@ fn prefixed_name(
 /// The attributes that are no declarations, if all their prefixes are declared.
 fn named_attributes(
     alloc: Global,
+    empty: &EmptyText,
     scope: &[Binding],
     attributes: &[RawAttribute<'_>],
 ) -> Result<Option<List<Attribute>>, AllocError>
@@ -245,7 +302,7 @@ fn named_attributes(
 {
     let mut named = List::new(alloc);
     for attribute in attributes {
-        if !name_one(alloc, scope, attribute, &mut named)? {
+        if !name_one(alloc, empty, scope, attribute, &mut named)? {
             return Ok(None);
         }
     }
@@ -255,6 +312,7 @@ fn named_attributes(
 // Names one attribute, if it is no declaration, or says that its prefix is not declared.
 fn name_one(
     alloc: Global,
+    empty: &EmptyText,
     scope: &[Binding],
     attribute: &RawAttribute<'_>,
     named: &mut List<Attribute>,
@@ -266,7 +324,7 @@ fn name_one(
     if declared_by(attribute.name).is_some() {
         return Ok(true);
     }
-    match attribute_name(alloc, scope, attribute.name)? {
+    match attribute_name(alloc, empty, scope, attribute.name)? {
         Some(name) => {
             let value = attribute.value.copy()?;
             named.push(Attribute { name, value })?;

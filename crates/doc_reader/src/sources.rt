@@ -1,11 +1,14 @@
 // What is left of a text, and how it is taken character by character and in runs.
-ghost use Rattle.std.specs.Prelude.{◌≡◌, ◌≤◌, length, true, ◌++◌, ◌∷◌, [], slice_get, MatchBool};
+ghost use Rattle.std.specs.Prelude.{◌≡◌, ◌≤◌, length, true, ◌++◌, ◌∷◌, [], List, ℕ, slice_get, MatchBool, MatchOption};
 ghost use Rattle.std.specs.List.{list_all};
 ghost use Rattle.std.specs.Str.{chars};
-ghost use Rattle.doc_reader.specs.Document.{Ends};
-ghost use Rattle.doc_reader.specs.Sources.{NextIs, NotNext};
+ghost use Rattle.doc_grammar.specs.Lexemes.{Ends};
+ghost use Rattle.doc_grammar.specs.Characters.{is_space};
+ghost use Rattle.doc_grammar.specs.Lexemes.{Spaces};
+ghost use Rattle.doc_reader.specs.Sources.{NextIs, NotNext, DiffersAt};
 
-use crate::classes::Class;
+use crate::classes::{Class, Space};
+use crate::lines::count;
 use std::marker::Model;
 
 /// What is left of a text; contracts see its characters.
@@ -35,6 +38,20 @@ impl<'a> Source<'a> {
         ensures { result ≡ slice_get self.now 0 }
     {
         self.rest.chars().next()
+    }
+
+    /// Whether nothing is left.
+    pub(crate) fn is_over(&self) -> bool
+        ensures { MatchBool result (self.now ≡ []) (self.now ≡ [] → ⊥) }
+    {
+        self.peek().is_none()
+    }
+
+    /// How many characters are left.
+    pub(crate) fn left(&self) -> usize
+        ensures { result ≡ length self.now }
+    {
+        count(self.rest)
     }
 
     /// Takes the character, if it is the next.
@@ -80,5 +97,42 @@ impl<'a> Source<'a> {
         }
         self.rest = rest;
         &whole[..whole.len() - rest.len()]
+    }
+
+    /// Takes the next character.
+    pub(crate) fn skip(&mut self) -> Option<char>
+        ensures { MatchOption result ((self.old ≡ []) × (self.new ≡ [])) (λ c. self.old ≡ c ∷ self.new) }
+    {
+        let c = self.peek()?;
+        let _taken = self.eat(c);
+        Some(c)
+    }
+
+    /// Takes white space, and says whether there was any.
+    pub(crate) fn spaces(&mut self) -> bool
+        ensures spaces { MatchBool result ((c : ℕ) × (ts : List ℕ) × (self.old ≡ c ∷ ts) × (is_space c ≡ true) × Spaces ts self.new) (self.new ≡ self.old) }
+        ensures ends { Ends is_space self.new }
+        ensures shorter { length self.new ≤ length self.old }
+    {
+        match self.peek() {
+            Some(c) if Space::has(c) => {
+                let _spaces = self.take_run::<Space>();
+                true
+            }
+            _ => false,
+        }
+    }
+
+    /// Takes the characters of a text, as far as they come next.
+    pub(crate) fn eat_text(&mut self, text: &str) -> bool
+        ensures eaten { MatchBool result (self.old ≡ chars text.now ++ self.new) (DiffersAt (chars text.now) self.old self.new) }
+        ensures shorter { length self.new ≤ length self.old }
+    {
+        for c in text.chars() {
+            if !self.eat(c) {
+                return false;
+            }
+        }
+        true
     }
 }

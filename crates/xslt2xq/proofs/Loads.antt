@@ -1,12 +1,14 @@
 -- How the refusals of the parts make the refusals of a request.
-use Rattle.std.proofs.Common.{◌≡◌, ℕ, List, arith, inl, inr, refl, ◌∙◌, false}
+use Rattle.std.proofs.Common.{◌≡◌, ℕ, List, arith, inl, inr, refl, ◌∙◌, true, false}
 use Rattle.xt_io.specs.Files.{FilesState, KeepsFiles, IsHeld}
+use Rattle.xt_names.specs.declared.codes.Code.TheVariants.{SheetStatic}
+use Rattle.xt_names.specs.declared.codes.SheetStaticCode.TheVariants.{XTUN0001}
 use Rattle.xt_tree.specs.declared.trees.Tree.{Tree}
-use Rattle.doc_reader.specs.Document.{IsDocument}
+use Rattle.doc_grammar.specs.Document.{IsDocument}
 use Rattle.doc_reader.specs.Fault.{HasReadCause}
 use Rattle.doc_reader.specs.declared.faults.ReadFault.{ReadFault}
 use Rattle.doc_reader.specs.declared.faults.ReadFault.TheVariants.{Bad}
-use Rattle.doc_reader.specs.declared.faults.Spot.{Spot}
+use Rattle.doc_grammar.specs.declared.spots.Spot.{Spot}
 use Rattle.sheet_meaning.specs.First.{is_first_sheet}
 use Rattle.xslt2xq.specs.Inputs.{Holdings, HoldsDocument, HoldsNoDocument, HoldsSheet, HoldsNoSheet, IsLoadFailure, IsTooLong, IsReadRefusedAs}
 use Rattle.xslt2xq.specs.Request.{Transform}
@@ -15,41 +17,22 @@ use Rattle.xslt2xq.specs.Meaning.{HoldsBoth, HasText, IsRefusedAs}
 use Rattle.xslt2xq.specs.declared.status.Status.{Status}
 use Rattle.xslt2xq.specs.declared.status.Status.TheVariants.{Done, Usage, Load, TooLong, Malformed, Static, Outside, Dynamic, Deep, Write, Memory, NoPlace}
 
--- a refusal, where its wrong form is one of the other kind
-pub refused_also : {A B : Type 0} (file : List ℕ) (old new : FilesState) (status : Status)
-    → (A → B) → IsReadRefusedAs A file old new status → IsReadRefusedAs B file old new status
-refused_also file old new Done f x = x
-refused_also file old new Usage f x = x
-refused_also file old new (Load name) f x = x
-refused_also file old new (TooLong name n) f x = x
-refused_also file old new (Malformed name spot) f x = x
-refused_also file old new (Static code) f x = (x.0, f x.1)
-refused_also file old new (Outside rule) f x = x
-refused_also file old new (Dynamic code) f x = x
-refused_also file old new (Deep depth) f x = x
-refused_also file old new Write f x = x
-refused_also file old new Memory f x = x
-refused_also file old new NoPlace f x = x
-
 -- a file whose bytes are not read holds no document
 pub not_read : (files : Holdings) (name items bytes : List ℕ) (fault : ReadFault) (spot : Spot)
-    → bytes ≡ items → fault ≡ Bad spot → IsHeld files name items → HasReadCause bytes fault → HoldsNoDocument files name
+    → bytes ≡ items → fault ≡ Bad spot → IsHeld files name items → HasReadCause bytes fault → HoldsNoDocument files name spot
 not_read files name items bytes fault spot same bad held cause =
-    let none : HasReadCause items (Bad spot) = rw (same, bad) at cause in record { bytes = items; held = held; none = none }
+    let none : HasReadCause items (Bad spot) = rw (same, bad) at cause in record { bytes = items; held = held; none = none.0; first = none.1 }
 
--- bytes that stand for no tree stand for no stylesheet
-pub no_sheet : (files : Holdings) (name : List ℕ) → HoldsNoDocument files name → HoldsNoSheet files name
-no_sheet files name x = record { bytes = x.bytes; held = x.held; none = λ tree stands. absurd (x.none tree stands) }
+-- the tree of a stylesheet
+pub sheet_held : (files : Holdings) (name items bytes : List ℕ) (tree sheet : Tree) → bytes ≡ items → IsHeld files name items → IsDocument bytes tree → (sheet ≡ tree) × (is_first_sheet tree ≡ true) → HoldsSheet files name sheet
+sheet_held files name items bytes tree sheet same held stands k =
+    rw k.0 (record { document = record { bytes = items; held = held; stands = rw same at stands }; form = k.1 })
 
--- bytes that stand for a tree that is no stylesheet stand for no stylesheet
-pub other_form : (files : Holdings) (name : List ℕ) (tree : Tree)
-    → ((bytes : List ℕ) (s t : Tree) → IsDocument bytes s → IsDocument bytes t → s ≡ t)
-    → HoldsDocument files name tree → is_first_sheet tree ≡ false → HoldsNoSheet files name
-other_form files name tree one x form = record {
-  bytes = x.bytes;
-  held = x.held;
-  none = λ t stands. (let same : t ≡ tree = one x.bytes t tree stands x.stands in rw same form);
-}
+-- a tree that is none of a stylesheet
+pub other_form : (file : List ℕ) (old new : FilesState) (name items bytes : List ℕ) (tree : Tree) (status : Status) → bytes ≡ items → IsHeld old.held name items → IsDocument bytes tree
+    → (status ≡ Static (SheetStatic XTUN0001)) × (is_first_sheet tree ≡ false) → IsReadRefusedAs (HoldsNoSheet old.held name) file old new status
+other_form file old new name items bytes tree status same held stands k =
+    rw k.0 (refl, record { tree = tree; document = record { bytes = items; held = held; stands = rw same at stands }; other = k.1 })
 
 -- the stylesheet is refused
 pub refused_first : (sheet document : List ℕ) (old new : FilesState) (status : Status)
@@ -59,8 +42,8 @@ refused_first sheet document old new Done x = x
 refused_first sheet document old new Usage x = x
 refused_first sheet document old new (Load name) x = (inl x.0, rw x.0 x.1)
 refused_first sheet document old new (TooLong name n) x = (inl x.0, rw x.0 x.1)
-refused_first sheet document old new (Malformed name spot) x = x
-refused_first sheet document old new (Static code) x = (x.0, inl x.1)
+refused_first sheet document old new (Malformed name spot) x = (inl x.0, rw x.0 x.1)
+refused_first sheet document old new (Static code) x = x
 refused_first sheet document old new (Outside rule) x = x
 refused_first sheet document old new (Dynamic code) x = absurd x
 refused_first sheet document old new (Deep depth) x = absurd x
@@ -95,7 +78,7 @@ long_later old mid new file n keeps x = (x.0, omega (arith, keeps.taken.no_less)
 -- the document is refused, behind a stylesheet
 pub refused_second : (sheet document : List ℕ) (tree : Tree) (old mid new : FilesState) (status : Status)
     → HoldsSheet old.held sheet tree → KeepsFiles old mid
-    → IsReadRefusedAs (HoldsNoDocument mid.held document) document mid new status
+    → IsReadRefusedAs ⊥ document mid new status
     → IsRefusedAs (Transform sheet document) old new status
 refused_second sheet document tree old mid new Done held keeps x = x
 refused_second sheet document tree old mid new Usage held keeps x = x
@@ -103,9 +86,9 @@ refused_second sheet document tree old mid new (Load name) held keeps x =
     (inr (x.0, record { tree = tree; held = held }), rw x.0 (failed_later old mid new document keeps x.1))
 refused_second sheet document tree old mid new (TooLong name n) held keeps x =
     (inr (x.0, record { tree = tree; held = held }), rw x.0 (long_later old mid new document n keeps x.1))
-refused_second sheet document tree old mid new (Malformed name spot) held keeps x = x
-refused_second sheet document tree old mid new (Static code) held keeps x =
-    (x.0, inr (record { tree = tree; held = held }, rw keeps.held at x.1))
+refused_second sheet document tree old mid new (Malformed name spot) held keeps x =
+    (inr (x.0, record { tree = tree; held = held }), rw (x.0, ← keeps.held) x.1)
+refused_second sheet document tree old mid new (Static code) held keeps x = absurd x.1
 refused_second sheet document tree old mid new (Outside rule) held keeps x = x
 refused_second sheet document tree old mid new (Dynamic code) held keeps x = absurd x
 refused_second sheet document tree old mid new (Deep depth) held keeps x = absurd x
@@ -131,7 +114,7 @@ refused_third sheet document s d old mid new Done held keeps doc x = x
 refused_third sheet document s d old mid new Usage held keeps doc x = x
 refused_third sheet document s d old mid new (Load name) held keeps doc x = absurd x
 refused_third sheet document s d old mid new (TooLong name n) held keeps doc x = absurd x
-refused_third sheet document s d old mid new (Malformed name spot) held keeps doc x = x
+refused_third sheet document s d old mid new (Malformed name spot) held keeps doc x = absurd x
 refused_third sheet document s d old mid new (Static code) held keeps doc x = absurd x
 refused_third sheet document s d old mid new (Outside rule) held keeps doc x = x
 refused_third sheet document s d old mid new (Dynamic code) held keeps doc x = (both_held sheet document s d old mid held keeps doc, x)

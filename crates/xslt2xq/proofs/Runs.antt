@@ -18,7 +18,7 @@ answers_refused words request files files' out Done asks refused = absurd refuse
 answers_refused words request files files' out Usage asks refused = absurd refused
 answers_refused words request files files' out (Load name) asks refused = (request, asks, refused, Puts-none out)
 answers_refused words request files files' out (TooLong name n) asks refused = (request, asks, refused, Puts-none out)
-answers_refused words request files files' out (Malformed name spot) asks refused = absurd refused
+answers_refused words request files files' out (Malformed name spot) asks refused = (request, asks, refused, Puts-none out)
 answers_refused words request files files' out (Static code) asks refused = (request, asks, refused, Puts-none out)
 answers_refused words request files files' out (Outside rule) asks refused = absurd refused
 answers_refused words request files files' out (Dynamic code) asks refused = (request, asks, refused, Puts-none out)
@@ -111,7 +111,7 @@ clean_refused request files files' out out' (TooLong name n) x clean =
     let fits = clean.fits (encode_utf8_all name) (reached_named request files (encode_utf8_all name) x.0) in
     let long : n ≤ length fits.0 = held_long files clean.map _ fits.0 n clean.told fits.1 x.1.2 in
     absurd (omega (arith, long, fits.2, x.1.0))
-clean_refused request files files' out out' (Malformed name spot) x clean = absurd x
+clean_refused request files files' out out' (Malformed name spot) x clean = absurd (clean.parsed (encode_utf8_all name) spot x)
 clean_refused request files files' out out' (Static code) x clean = absurd (clean.kept x.1)
 clean_refused request files files' out out' (Outside rule) x clean = absurd x
 clean_refused request files files' out out' (Dynamic code) x clean = absurd (clean.succeeds code x)
@@ -139,7 +139,8 @@ answers_complete words request files files' out out' (Load name) a asks clean =
     inr (clean_refused request files files' out out' (Load name) (asked_once words request a.0 files files' (Load name) asks a.1 a.2) clean)
 answers_complete words request files files' out out' (TooLong name n) a asks clean =
     inr (clean_refused request files files' out out' (TooLong name n) (asked_once words request a.0 files files' (TooLong name n) asks a.1 a.2) clean)
-answers_complete words request files files' out out' (Malformed name spot) a asks clean = absurd a.2
+answers_complete words request files files' out out' (Malformed name spot) a asks clean =
+    inr (clean_refused request files files' out out' (Malformed name spot) (asked_once words request a.0 files files' (Malformed name spot) asks a.1 a.2) clean)
 answers_complete words request files files' out out' (Static code) a asks clean =
     inr (clean_refused request files files' out out' (Static code) (asked_once words request a.0 files files' (Static code) asks a.1 a.2) clean)
 answers_complete words request files files' out out' (Outside rule) a asks clean = absurd a.2

@@ -5,7 +5,9 @@ use Rattle.xt_io.specs.Files.{FilesState, IsHeld, IsMissing, HoldsAtLeast, Rose,
 use Rattle.xt_tree.specs.declared.trees.Tree.{Tree}
 use Rattle.xt_names.specs.declared.codes.Code.TheVariants.{SheetStatic}
 use Rattle.xt_names.specs.declared.codes.SheetStaticCode.TheVariants.{XTUN0001}
-use Rattle.doc_reader.specs.Document.{IsDocument}
+use Rattle.doc_grammar.specs.Document.{IsDocument}
+use Rattle.doc_grammar.specs.Faults.{first_fault}
+use Rattle.doc_grammar.specs.declared.spots.Spot.{Spot}
 use Rattle.sheet_meaning.specs.First.{is_first_sheet}
 use Rattle.xslt2xq.specs.declared.status.Status.{Status}
 use Rattle.xslt2xq.specs.declared.status.Status.TheVariants.{Done, Usage, Load, TooLong, Malformed, Static, Outside, Dynamic, Deep, Write, Memory, NoPlace}
@@ -24,22 +26,23 @@ pub record HoldsDocument (files : Holdings) (name : List ℕ) (tree : Tree) : Ty
   pub held : IsHeld files name bytes
   pub stands : IsDocument bytes tree
 
--- the bytes under the name stand for no tree
-pub record HoldsNoDocument (files : Holdings) (name : List ℕ) : Type 0 where
+-- the bytes under the name stand for no tree, and this is their first fault
+pub record HoldsNoDocument (files : Holdings) (name : List ℕ) (spot : Spot) : Type 0 where
   pub bytes : List ℕ
   pub held : IsHeld files name bytes
   pub none : (tree : Tree) → IsDocument bytes tree → ⊥
+  pub first : spot ≡ first_fault bytes
 
 -- the bytes under the name stand for this stylesheet
 pub record HoldsSheet (files : Holdings) (name : List ℕ) (tree : Tree) : Type 0 where
   pub document : HoldsDocument files name tree
   pub form : is_first_sheet tree ≡ true
 
--- the bytes under the name stand for no stylesheet
+-- the bytes under the name stand for a tree that is no stylesheet
 pub record HoldsNoSheet (files : Holdings) (name : List ℕ) : Type 0 where
-  pub bytes : List ℕ
-  pub held : IsHeld files name bytes
-  pub none : (tree : Tree) → IsDocument bytes tree → is_first_sheet tree ≡ false
+  pub tree : Tree
+  pub document : HoldsDocument files name tree
+  pub other : is_first_sheet tree ≡ false
 
 -- why a load of the file failed
 abbrev pub IsLoadFailure : FilesState → FilesState → List ℕ → Type 0
@@ -49,13 +52,13 @@ IsLoadFailure old new file = Rose old.faults new.faults ⊎ IsMissing old.held f
 abbrev pub IsTooLong : FilesState → FilesState → List ℕ → ℕ → Type 0
 IsTooLong old new file n = (n ≡ file_limit + 1) × RoseBy n old.taken new.taken × HoldsAtLeast old.held file n
 
--- why a file is not loaded and read, where its bytes are of a wrong form in this case
+-- why a file is not loaded and read, where its tree is of a wrong form in this case
 abbrev pub IsReadRefusedAs : Type 0 → List ℕ → FilesState → FilesState → Status → Type 0
 IsReadRefusedAs WrongForm file old new Done = ⊥
 IsReadRefusedAs WrongForm file old new Usage = ⊥
 IsReadRefusedAs WrongForm file old new (Load name) = (encode_utf8_all name ≡ file) × IsLoadFailure old new file
 IsReadRefusedAs WrongForm file old new (TooLong name n) = (encode_utf8_all name ≡ file) × IsTooLong old new file n
-IsReadRefusedAs WrongForm file old new (Malformed name spot) = ⊥
+IsReadRefusedAs WrongForm file old new (Malformed name spot) = (encode_utf8_all name ≡ file) × HoldsNoDocument old.held file spot
 IsReadRefusedAs WrongForm file old new (Static code) = (code ≡ SheetStatic XTUN0001) × WrongForm
 IsReadRefusedAs WrongForm file old new (Outside rule) = ⊥
 IsReadRefusedAs WrongForm file old new (Dynamic code) = ⊥

@@ -6,6 +6,7 @@ use Rattle.xt_tree.specs.declared.trees.Tree.{Tree}
 use Rattle.xt_names.specs.declared.codes.Code.{Code}
 use Rattle.xt_names.specs.declared.codes.Code.TheVariants as code_variants
 use Rattle.xt_names.specs.declared.codes.SheetStaticCode.TheVariants.{XTUN0001}
+use Rattle.doc_grammar.specs.declared.spots.Spot.{Spot}
 use Rattle.sheet_meaning.specs.Outcome as outcome
 use Rattle.xslt2xq.specs.Inputs.{Holdings, HoldsDocument, HoldsNoDocument, HoldsSheet, HoldsNoSheet, IsLoadFailure, IsTooLong}
 use Rattle.xslt2xq.specs.Request.{Asked, Transform}
@@ -43,10 +44,13 @@ abbrev pub IsReached : Asked → FilesState → List ℕ → Type 0
 IsReached (Transform sheet document) files name =
     (name ≡ sheet) ⊎ ((name ≡ document) × HoldsSomeSheet files.held sheet)
 
--- a static rule is broken: there is no stylesheet, or there is one and no document
+-- a static rule is broken: the stylesheet's tree is none of a stylesheet
 abbrev pub IsBroken : Asked → FilesState → Type 0
-IsBroken (Transform sheet document) files =
-    HoldsNoSheet files.held sheet ⊎ (HoldsSomeSheet files.held sheet × HoldsNoDocument files.held document)
+IsBroken (Transform sheet document) files = HoldsNoSheet files.held sheet
+
+-- a request comes to this file, which is no document, and this is its first fault
+abbrev pub IsMalformed : Asked → FilesState → List ℕ → Spot → Type 0
+IsMalformed request files name spot = IsReached request files name × HoldsNoDocument files.held name spot
 
 -- the run fails with the code
 abbrev pub IsFailing : Asked → FilesState → Code → Type 0
@@ -67,7 +71,7 @@ IsRefusedAs request old new (Load name) =
     IsReached request old (encode_utf8_all name) × IsLoadFailure old new (encode_utf8_all name)
 IsRefusedAs request old new (TooLong name n) =
     IsReached request old (encode_utf8_all name) × IsTooLong old new (encode_utf8_all name) n
-IsRefusedAs request old new (Malformed name spot) = ⊥
+IsRefusedAs request old new (Malformed name spot) = IsMalformed request old (encode_utf8_all name) spot
 IsRefusedAs request old new (Static code) = (code ≡ code_variants.SheetStatic XTUN0001) × IsBroken request old
 IsRefusedAs request old new (Outside rule) = ⊥
 IsRefusedAs request old new (Dynamic code) = IsFailing request old code

@@ -3,9 +3,10 @@ use Rattle.std.specs.Prelude.{◌≡◌, ◌≤◌, ℕ, List, [], length, ◌�
 use Rattle.xt_names.specs.declared.codes.Code.{Code}
 use Rattle.xt_io.specs.Files.{FilesState, Rose}
 use Rattle.xt_io.specs.Sink.{SinkState, Puts, PutsPrefix}
+use Rattle.doc_grammar.specs.declared.spots.Spot.{Spot}
 use Rattle.xslt2xq.specs.Inputs.{file_limit}
 use Rattle.xslt2xq.specs.Request.{Asked, request_of}
-use Rattle.xslt2xq.specs.Meaning.{HasText, IsRefusedAs, IsNamed, IsBroken, IsFailing, IsTooDeep}
+use Rattle.xslt2xq.specs.Meaning.{HasText, IsRefusedAs, IsNamed, IsBroken, IsMalformed, IsFailing, IsTooDeep}
 use Rattle.xslt2xq.specs.Status.{note_line}
 use Rattle.xslt2xq.specs.declared.status.Status.{Status}
 use Rattle.xslt2xq.specs.declared.status.Status.TheVariants.{Done, Usage, Load, TooLong, Malformed, Static, Outside, Dynamic, Deep, Write, Memory, NoPlace}
@@ -74,13 +75,14 @@ Notes notes notes' Write = Tells notes notes' Write
 Notes notes notes' Memory = (status : Status) × PutsPrefix notes notes' (note_line status)
 Notes notes notes' NoPlace = Tells notes notes' NoPlace
 
--- nothing stands against a request: the files tell what they hold, each file that it names is held and not too long, no
--- rule is broken, the run neither fails nor is too deep, and no load and no write failed
+-- nothing stands against a request: the files tell what they hold, each file that it names is held and not too long, each that
+-- it comes to is a document, no rule is broken, the run neither fails nor is too deep, and no load and no write failed
 pub record IsClean (request : Asked) (files files' : FilesState) (out out' : SinkState) : Type 0 where
   pub map : List ℕ → Option (List ℕ)
   pub told : files.held ≡ Some map
   pub fits : (name : List ℕ) → IsNamed request name
       → (bytes : List ℕ) × (map name ≡ Some bytes) × (length bytes ≤ file_limit)
+  pub parsed : (name : List ℕ) (spot : Spot) → ¬ (IsMalformed request files name spot)
   pub kept : ¬ (IsBroken request files)
   pub succeeds : (code : Code) → ¬ (IsFailing request files code)
   pub ends : (depth : ℕ) → ¬ (IsTooDeep request files depth)

@@ -3,8 +3,8 @@ use Rattle.std.specs.Prelude.{ℕ, List, [], ◌++◌, codes}
 use Rattle.std.specs.Fmt.{decimal}
 use Rattle.std.specs.Str.{encode_utf8_all}
 use Rattle.xt_names.specs.Codes.{code_text}
-use Rattle.doc_reader.specs.declared.faults.Spot.{Spot}
-use Rattle.doc_reader.specs.declared.faults.Spot.TheVariants as spot_variants
+use Rattle.doc_grammar.specs.declared.spots.Spot.{Spot}
+use Rattle.doc_grammar.specs.declared.spots.Spot.TheVariants as spot_variants
 use Rattle.xslt2xq.specs.declared.status.ProfileRule.{ProfileRule}
 use Rattle.xslt2xq.specs.declared.status.ProfileRule.TheVariants.{P1, P2, P3, P4, P5, P6, P7, P8}
 use Rattle.xslt2xq.specs.declared.status.Status.{Status}

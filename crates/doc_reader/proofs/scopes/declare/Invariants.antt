@@ -1,5 +1,5 @@
 use Rattle.std.proofs.Common.{◌≡◌, ◌++◌, drop, map}
-use Rattle.doc_reader.specs.Scopes.{declarations}
+use Rattle.doc_grammar.specs.Scopes.{declarations}
 use Rattle.doc_reader.specs.View.{attribute_of}
 use Rattle.doc_reader.proofs.scopes.declare.Given as goal
 

@@ -1,5 +1,5 @@
 use Rattle.std.proofs.Common.{◌≡◌, drop, map}
-use Rattle.doc_reader.specs.Scopes.{named_attributes, behind_named}
+use Rattle.doc_grammar.specs.Scopes.{named_attributes, behind_named}
 use Rattle.doc_reader.specs.View.{attribute_of}
 use Rattle.doc_reader.proofs.scopes.named_attributes.Given as goal
 

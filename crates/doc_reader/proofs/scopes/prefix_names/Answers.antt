@@ -1,4 +1,4 @@
-use Rattle.doc_reader.specs.Scopes.{prefix_name}
+use Rattle.doc_grammar.specs.Scopes.{prefix_name}
 use Rattle.doc_reader.proofs.ScopeLemmas.{mapped_preserved, mapped_all}
 use Rattle.doc_reader.proofs.scopes.prefix_names.Goals as goal
 

@@ -1,5 +1,5 @@
 use Rattle.std.proofs.Common.{◌≡◌, ◌++◌, drop, map}
-use Rattle.doc_reader.specs.Scopes.{prefix_name}
+use Rattle.doc_grammar.specs.Scopes.{prefix_name}
 use Rattle.doc_reader.proofs.scopes.prefix_names.Given as goal
 
 abbrev pub invariant-loop-binding : goal.invariant-loop-binding

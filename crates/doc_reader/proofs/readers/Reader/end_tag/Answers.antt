@@ -1,18 +1,23 @@
-use Rattle.doc_reader.proofs.ReaderLemmas.{end_differs, end_breaks_off, end_closes, if_ok}
+use Rattle.std.proofs.Common.{refl, arith}
+use Rattle.doc_reader.specs.Frames.{base_of, level_of}
+use Rattle.doc_reader.proofs.FrameLemmas.{no_items}
+use Rattle.doc_reader.proofs.ElementLemmas.{end_at_ground, end_fails, end_closes, takes_next}
 use Rattle.doc_reader.proofs.readers.Reader.end_tag.Goals as goal
 
-pub returns-then-not-end_name-clause-ran : goal.returns-then-not-end_name-clause-ran
-returns-then-not-end_name-clause-ran c =
-    end_differs _ _ c.args.self.now.frames.items c.pop.new.self.items c.in-Some.frame c.args.self.now.scope.items c.in-Some.ensures.items c.if-not-end_name.ensures.eaten
+pub returns-in-None-clause-ran : goal.returns-in-None-clause-ran
+returns-in-None-clause-ran c =
+    let r = c.flush.new.self in
+    end_at_ground _ _ _ _ _ r.frames.items r.scope.items (level_of r.level) r.kids r.declared c.requires c.in_ok-flush.ensures.source c.in_ok-flush.ensures.opened refl (no_items r.frames.items (omega (arith, c.in-None.ensures.cases.0)))
 
-pub returns-then-not-eat-clause-ran : goal.returns-then-not-eat-clause-ran
-returns-then-not-eat-clause-ran c =
-    end_breaks_off _ _ _ _ c.spaces-space.result c.args.self.now.frames.items c.pop.new.self.items c.in-Some.frame c.args.self.now.scope.items c.in-Some.ensures.items c.if-not-end_name.ensures.eaten
-    c.spaces-space.ensures.spaces c.spaces-space.ensures.ends c.if-not-eat.ensures
+pub returns-in_ok-close-in-Some-clause-ran : goal.returns-in_ok-close-in-Some-clause-ran
+returns-in_ok-close-in-Some-clause-ran c =
+    let r = c.flush.new.self in
+    rw (c.in_ok-close-in-Some.ensures.source, c.in_ok-close-in-Some.ensures.text, c.in_ok-flush.ensures.text)
+    (end_closes _ _ _ _ _ _ _ r.frames.items c.pop.new.self.items c.in-Some.frame r.scope.items (base_of r)
+    (takes_next 47 c.eat-slash.result _ _ c.requires (rw c.in_ok-flush.ensures.source at c.eat-slash.ensures)) c.in_ok-flush.ensures.opened refl c.in-Some.ensures.items c.if-end_tag.ensures.ends c.in_ok-close-in-Some.ensures.opened)
 
-pub returns-else-not-eat-clause-ran : goal.returns-else-not-eat-clause-ran
-returns-else-not-eat-clause-ran c =
-    if_ok c.close.result c.close.ensures.reached (λ s closes.
-    rw c.close.ensures.source
-    (end_closes _ _ _ _ c.spaces-space.result c.args.self.now.frames.items c.pop.new.self.items c.in-Some.frame c.args.self.now.scope.items _ s c.in-Some.ensures.items c.if-not-end_name.ensures.eaten
-    c.spaces-space.ensures.spaces c.if-not-eat.ensures closes))
+pub returns-else-end_tag-clause-ran : goal.returns-else-end_tag-clause-ran
+returns-else-end_tag-clause-ran c =
+    let r = c.flush.new.self in
+    end_fails _ _ _ _ _ _ r.frames.items c.pop.new.self.items c.in-Some.frame r.scope.items (base_of r)
+    (takes_next 47 c.eat-slash.result _ _ c.requires (rw c.in_ok-flush.ensures.source at c.eat-slash.ensures)) c.in_ok-flush.ensures.opened refl c.in-Some.ensures.items c.if-end_tag.ensures.ends

@@ -1,5 +1,5 @@
-use Rattle.doc_reader.proofs.FrameLemmas.{ran_from}
-use Rattle.doc_reader.proofs.ReaderLemmas.{slash_goes, if_ok}
+use Rattle.doc_reader.proofs.ReadLemmas.{ran_from}
+use Rattle.doc_reader.proofs.ElementLemmas.{slash_goes, if_ok}
 use Rattle.doc_reader.proofs.readers.Reader.open.Goals as goal
 
 pub returns-then-eat-clause-ran : goal.returns-then-eat-clause-ran

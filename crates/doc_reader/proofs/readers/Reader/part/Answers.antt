@@ -1,7 +1,7 @@
-use Rattle.doc_reader.proofs.FrameLemmas.{opens_markup, ran_from}
-use Rattle.doc_reader.proofs.ReaderLemmas.{if_ok}
+use Rattle.doc_reader.proofs.ReadLemmas.{ran_from}
+use Rattle.doc_reader.proofs.ElementLemmas.{if_ok}
+use Rattle.doc_reader.proofs.MarkupReads.{opens_tag}
 use Rattle.doc_reader.proofs.readers.Reader.part.Goals as goal
 
-pub returns-clause-ran : goal.returns-clause-ran
-returns-clause-ran c =
-    if_ok c.markup.result c.markup.ensures.ran (λ s ran. ran_from _ _ _ _ s (opens_markup _ _ _ _ _ c.in_ok-text.ensures.read c.if-not-eat.ensures) ran)
+pub returns-then-eat-clause-ran : goal.returns-then-eat-clause-ran
+returns-then-eat-clause-ran c = if_ok c.markup.result c.markup.ensures.ran (λ s ran. ran_from _ _ _ _ s (opens_tag _ _ _ _ c.if-eat.ensures) ran)

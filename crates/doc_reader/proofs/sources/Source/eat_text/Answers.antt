@@ -1,7 +1,7 @@
 use Rattle.std.proofs.Common.{◌++◌, ◌∷◌, [], length, refl, sym, ap, ◌∙◌, arith, append_assoc}
 use Rattle.std.proofs.lemmas.Str.{IsUtf8-past_char}
 use Rattle.std.specs.Str.{chars}
-use Rattle.doc_reader.proofs.ReaderLemmas.{taken_none, split_more, differs}
+use Rattle.doc_reader.proofs.NameLemmas.{taken_none, split_more, differs}
 use Rattle.doc_reader.proofs.sources.Source.eat_text.Goals as goal
 
 pub loop-c-init : goal.loop-c-init

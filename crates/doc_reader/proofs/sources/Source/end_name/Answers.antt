@@ -1,7 +1,7 @@
 use Rattle.std.proofs.Common.{ap}
 use Rattle.std.specs.Option.{option_map}
 use Rattle.std.specs.Str.{chars}
-use Rattle.doc_reader.proofs.ReaderLemmas.{ended_name}
+use Rattle.doc_reader.proofs.NameLemmas.{ended_name}
 use Rattle.doc_reader.proofs.sources.Source.end_name.Goals as goal
 
 pub returns-clause-eaten : goal.returns-clause-eaten

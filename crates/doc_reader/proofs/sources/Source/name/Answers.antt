@@ -1,4 +1,4 @@
-use Rattle.doc_reader.proofs.AttributeLemmas.{plain, prefixed}
+use Rattle.doc_reader.proofs.NameLemmas.{plain, prefixed}
 use Rattle.doc_reader.proofs.sources.Source.name.Goals as goal
 
 pub returns-then-not-eat-clause-name : goal.returns-then-not-eat-clause-name

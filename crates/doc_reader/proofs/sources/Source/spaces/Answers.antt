@@ -1,5 +1,5 @@
 use Rattle.std.proofs.Common.{sym, ◌∙◌}
-use Rattle.doc_reader.specs.Characters.{is_space}
+use Rattle.doc_grammar.specs.Characters.{is_space}
 use Rattle.doc_reader.proofs.ScanLemmas.{begun, begun_spaces}
 use Rattle.doc_reader.proofs.sources.Source.spaces.Goals as goal
 

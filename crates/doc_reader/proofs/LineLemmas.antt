@@ -1,0 +1,57 @@
+-- Line ends, one character at a time.
+use Rattle.std.proofs.Common.{◌≡◌, ℕ, zero, suc, ◌+◌, ◌≤◌, List, [], ◌∷◌, ◌++◌, length, length-append, Bool, true, false, refl, sym, ap, ◌∙◌, arith}
+use Rattle.std.proofs.lemmas.Bool.{ne_eqb}
+use Rattle.std.proofs.lemmas.Str.{length-le-encodes, encodes-chars, chars-nil}
+use Rattle.std.specs.Char.{encode_utf8}
+use Rattle.std.specs.Str.{chars, IsUtf8, encode_utf8_all}
+use Rattle.doc_grammar.specs.Lines.{lines, lines_behind, bytes_of, bytes_before}
+use Rattle.doc_reader.specs.LineEnds.{line_of, size_of}
+
+pub no_lines : (bs source text : List ℕ) → bs ≡ [] → source ≡ chars text → chars bs ++ lines_behind false source ≡ lines (chars text)
+no_lines bs source text e s = rw (e, chars-nil, s) refl
+
+pub plain_line : (cr : Bool) (c : ℕ) → (c ≡ 13 → ⊥) → (c ≡ 10 → ⊥) → line_of cr c ≡ c ∷ []
+plain_line true c r n = rw (ne_eqb c 13 r, ne_eqb c 10 n) refl
+plain_line false c r n = rw (ne_eqb c 13 r) refl
+
+pub first_line : (cr : Bool) (c : ℕ) → (c ≡ 13 → ⊥) → cr ≡ false → line_of cr c ≡ c ∷ []
+first_line cr c r e = rw (ne_eqb c 13 r, e) refl
+
+-- the bytes of a text
+
+size_encoded : (cs : List ℕ) → size_of cs ≡ length (encode_utf8_all cs)
+size_encoded [] = refl
+size_encoded (c ∷ cs) = ap (λ (n : ℕ). bytes_of c + n) (size_encoded cs) ∙ sym (length-append (encode_utf8 c) (encode_utf8_all cs))
+
+pub size_of_text : (bs : List ℕ) → IsUtf8 bs → size_of (chars bs) ≡ length bs
+size_of_text bs u = size_encoded (chars bs) ∙ ap length (encodes-chars bs u)
+
+pub room_of_text : (bs source : List ℕ) → IsUtf8 bs → source ≡ chars bs → 0 + size_of source ≤ length bs
+room_of_text bs source u e = let size = size_of_text bs u in rw e (omega arith)
+
+feed_size : bytes_of 10 ≡ 1
+unfolding encode_utf8
+feed_size = refl
+
+nothing_before : (cs : List ℕ) → bytes_before false cs 0 ≡ 0
+nothing_before [] = refl
+nothing_before (c ∷ cs) = refl
+
+feed_counts : (cs : List ℕ) (n : ℕ) → bytes_before true (10 ∷ cs) n ≡ 1 + bytes_before false cs n
+feed_counts cs zero = rw nothing_before refl
+feed_counts cs (suc n) = refl
+
+-- a line feed behind a carriage return
+pub feed_place : (bytes n all c : ℕ) (cr : Bool) (old cs : List ℕ) → old ≡ c ∷ cs → cr ≡ true → c ≡ 10 → bytes + bytes_before cr old n ≡ all → bytes + 1 + bytes_before false cs n ≡ all
+feed_place bytes n all c cr old cs o b e h =
+    let k : bytes + bytes_before true (10 ∷ cs) n ≡ all = rw (o, b, e) at h in
+    let f = feed_counts cs n in omega arith
+
+pub feed_room : (bytes all c : ℕ) (old cs : List ℕ) → old ≡ c ∷ cs → c ≡ 10 → bytes + size_of old ≤ all → bytes + 1 + size_of cs ≤ all
+feed_room bytes all c old cs o e h =
+    let k : bytes + size_of (10 ∷ cs) ≤ all = rw (o, e) at h in
+    let f = feed_size in omega arith
+
+-- a text has no more characters than bytes
+pub fewer_characters : (bs : List ℕ) → IsUtf8 bs → length (chars bs) ≤ length bs
+fewer_characters bs u = let size = ap length (encodes-chars bs u) in let less = length-le-encodes (chars bs) in omega arith

@@ -1,0 +1,10 @@
+use Rattle.doc_reader.proofs.TextLemmas.{as_document, as_fault}
+use Rattle.doc_reader.proofs.read_scoped.Goals as goal
+
+pub returns-in-Ok-2-clause-found : goal.returns-in-Ok-2-clause-found
+returns-in-Ok-2-clause-found c =
+    as_document _ _ _ _ c.in-Ok.ensures.cases.0 c.in-Ok.ensures.cases.1 (rw c.in-Ok-2.is at c.in_ok-whole-in-Ok.ensures)
+
+pub returns-in-Err-2-clause-refused : goal.returns-in-Err-2-clause-refused
+returns-in-Err-2-clause-refused c =
+    as_fault _ _ _ c.in-Ok.ensures.cases.0 c.in-Ok.ensures.cases.1 (rw c.in-Err-2.is at c.in_ok-whole-in-Ok.ensures)
