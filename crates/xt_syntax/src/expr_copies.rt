@@ -3,6 +3,7 @@ ghost use Rattle.std.specs.Prelude.{◌≡◌, IfOk};
 ghost use Rattle.xt_syntax.specs.declared.exprs.Expr.TheVariants.{If, Quant, Step, Filter, Call, Direct};
 
 use crate::exprs::{Arm, Bind, Clause, DirectAttr, Expr, Flwor, NameSource, Order, Part};
+use crate::options::copy_shared_option;
 use std::alloc::AllocError;
 use xt_names::{ExprName, List, Name, Share, Shared, copy_list};
 use xt_types::{Axis, SeqType, Test, copy_option};
@@ -193,15 +194,6 @@ impl Bind {
     }
 }
 
-fn copy_test(test: &Option<Shared<Expr>>) -> Result<Option<Shared<Expr>>, AllocError>
-    ensures { IfOk result (λ copy. copy ≡ test.now) }
-{
-    match test {
-        None => Ok(None),
-        Some(test) => Ok(Some(test.copy()?)),
-    }
-}
-
 impl Flwor {
     /// The same parts.
     pub fn copy(&self) -> Result<Flwor, AllocError>
@@ -209,7 +201,7 @@ impl Flwor {
     {
         Ok(Flwor {
             clauses: self.clauses.copy()?,
-            test: copy_test(&self.test)?,
+            test: copy_shared_option(&self.test)?,
             orders: self.orders.copy()?,
             stable: self.stable,
             body: self.body.copy()?,
