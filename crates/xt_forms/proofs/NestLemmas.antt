@@ -1,7 +1,7 @@
 -- An expression nests one level more than its parts.
-use Rattle.std.proofs.Common.{◌≡◌, ℕ, ◌+◌, max, List, [], ◌∷◌, ◌++◌, map, refl, ap, ap₂, sym, ◌∙◌, arith, rules}
-use Rattle.std.specs.Prelude.{Option, Some, None, option_map}
-use Rattle.xt_forms.specs.Nest.{greatest, if_any, nests, nest_steps, expr_nest, clause_nest, name_nest, part_nest, flwor_nest, nest_of, arm_nest_of, bind_nest_of, clause_nest_of, order_nest_of, name_nest_of, part_nest_of, attr_nest_of, flwor_nest_of}
+use Rattle.std.proofs.Common.{◌≡◌, ℕ, ◌+◌, max, List, [], ◌∷◌, ◌++◌, map, refl, ap, ap₂, sym, ◌∙◌, arith}
+use Rattle.std.specs.Prelude.{Option, Some, None}
+use Rattle.xt_forms.specs.Nest.{greatest, if_any, nests, expr_nest, clause_nest, name_nest, part_nest, flwor_nest, nest_of, arm_nest_of, bind_nest_of, clause_nest_of, order_nest_of, name_nest_of, part_nest_of, attr_nest_of, flwor_nest_of}
 use Rattle.xt_forms.specs.Parts.{of_all, arm_parts, bind_parts, clause_form_parts, clause_parts, order_parts, name_form_parts, name_parts, part_form_parts, part_parts, attr_parts, test_parts, flwor_parts, form_parts, parts_of}
 use Rattle.xt_syntax.specs.Layers.{ExprLayer, ClauseLayer, NameLayer, PartLayer, FlworLayer}
 use Rattle.xt_syntax.specs.declared.exprs.Expr.{Expr}

@@ -1,6 +1,5 @@
 -- Expressions of XPath 2.0, 3, whose functions are those of the table.
-use Rattle.std.specs.Prelude.{List, [], ◌∷◌, length, Bool, true, false, not, ◌&&◌, Option, Some, None, is_none}
-use Rattle.std.specs.List.{list_all}
+use Rattle.std.specs.Prelude.{length, Bool, true, false, not, ◌&&◌, is_none}
 use Rattle.xt_forms.specs.Functions.{is_function}
 use Rattle.xt_forms.specs.Regular.{is_regular_expr, every, is_some_at_all}
 use Rattle.xt_syntax.specs.declared.exprs.Expr.{Expr}

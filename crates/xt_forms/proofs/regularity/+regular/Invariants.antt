@@ -1,5 +1,5 @@
 use Rattle.std.proofs.Common.{◌≡◌, drop, map}
-use Rattle.std.specs.Prelude.{◌&&◌, false}
+use Rattle.std.specs.Prelude.{◌&&◌}
 use Rattle.xt_forms.specs.Regular.{every, every_regular, every_part_regular, chars_apart, are_regular_parts, expr_facts_of, part_facts_of, is_regular_arm, is_regular_bind, is_regular_clause, is_regular_order, is_regular_attr}
 use Rattle.xt_forms.proofs.regularity.+regular.Given as goal
 
