@@ -24,3 +24,6 @@ pub use nesting::{nest, nest_pattern};
 pub use plainness::is_plain;
 pub use quietness::is_quiet;
 pub use regularity::is_regular;
+
+#[cfg(test)]
+mod tests;

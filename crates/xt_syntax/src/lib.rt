@@ -31,3 +31,6 @@ pub use query_copies::{
     copy_query_var_list,
 };
 pub use xt_types::{Axis, Count, ItemType, NameTest, SeqType, SpaceRule, Test};
+
+#[cfg(test)]
+mod tests;
