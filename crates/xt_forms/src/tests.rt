@@ -28,16 +28,6 @@ fn current_is_not_plain(rt: HostRuntime) -> Result<(), Fail> {
     Ok(())
 }
 
-fn minus(alloc: Global) -> Result<Expr, AllocError> {
-    Ok(Expr::Minus(Shared::make(alloc, Expr::Int(1))?))
-}
-
-#[test]
-fn a_minus_is_a_level(rt: HostRuntime) -> Result<(), Fail> {
-    assert_eq!(rt; nest(&minus(rt.alloc())?), 2);
-    Ok(())
-}
-
 #[test]
 fn a_bare_pattern_is_one_level(rt: HostRuntime) {
     let pattern = Pattern {
