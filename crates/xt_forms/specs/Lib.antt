@@ -1,0 +1,6 @@
+pub mod Functions
+pub mod Nest
+pub mod Parts
+pub mod Plain
+pub mod Quiet
+pub mod Regular

@@ -1,0 +1,29 @@
+//! What forms expressions have: how deep they nest, and which of them a text can spell.
+//!
+//! `is_regular` tells the expressions that a text can spell, `is_plain` those of them that a text of XPath spells, and
+//! `is_quiet` the predicates that fail on no node. Each is exact: its contract names a definition in `specs/` that goes
+//! over the forms one by one.
+//!
+//! Example: `1, $x` nests 2 levels, is regular and plain, and is not quiet.
+#![tactic(auto)]
+
+mod facts;
+mod functions;
+mod laws;
+mod nesting;
+mod plainness;
+mod quiet_calls;
+mod quiet_forms;
+mod quietness;
+mod regular_parts;
+mod regularity;
+
+pub use functions::is_function;
+pub use laws::{a_whole_nests_one_more_than_its_parts, plain_and_quiet_expressions_are_regular};
+pub use nesting::{nest, nest_pattern};
+pub use plainness::is_plain;
+pub use quietness::is_quiet;
+pub use regularity::is_regular;
+
+#[cfg(test)]
+mod tests;
