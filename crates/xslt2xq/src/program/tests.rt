@@ -53,9 +53,9 @@ const CASES: [Case; 9] = [
         words: TRANSFORM,
         sheet: ONE_ELEMENT,
         document: Some(b"<p:a/>"),
-        number: 5,
+        number: 4,
         out: b"",
-        notes: b"static XTUN0001\n",
+        notes: b"malformed d.xml 6\n",
     },
     Case {
         words: TRANSFORM,
@@ -97,6 +97,22 @@ const CASES: [Case; 9] = [
         out: b"",
         notes: b"usage\n",
     },
+];
+
+// Documents that are none, for the stylesheet of one element, and the line that says so.
+const MALFORMED: [(&[u8], &[u8]); 6] = [
+    (b"", b"malformed d.xml 0\n"),
+    (b"<a><b", b"malformed d.xml 5\n"),
+    (b"<a k=\"1\" k=\"2\"/>", b"malformed d.xml 16\n"),
+    (
+        b"<!DOCTYPE a [<!ENTITY e \"x\">]><a/>",
+        b"malformed d.xml subset\n",
+    ),
+    (b"<a>&e;</a>", b"malformed d.xml entity\n"),
+    (
+        b"<?xml version=\"1.0\" encoding=\"latin1\"?><a/>",
+        b"malformed d.xml encoding\n",
+    ),
 ];
 
 fn made(alloc: Global, sheet: &[u8], document: Option<&[u8]>) -> Result<MemFiles, AllocError> {
@@ -177,5 +193,88 @@ fn a_document_is_too_long(rt: HostRuntime) -> Result<(), Fail> {
     assert_eq!(rt; status.number(), 3);
     assert!(rt; out.bytes().is_empty());
     assert_eq!(rt; notes.bytes(), b"long d.xml 67108865\n".as_slice());
+    Ok(())
+}
+
+#[test]
+fn malformed_documents(rt: HostRuntime) -> Result<(), Fail> {
+    let alloc = rt.alloc();
+    for (document, line) in MALFORMED {
+        let mut files = made(alloc, ONE_ELEMENT, Some(document))?;
+        let mut out = MemSink::new(alloc);
+        let mut notes = MemSink::new(alloc);
+        let words = texts(alloc, TRANSFORM)?;
+        let status = run(alloc, &words, &mut files, &mut out, &mut notes);
+        assert_eq!(rt; status.number(), 4);
+        assert!(rt; out.bytes().is_empty());
+        assert_eq!(rt; notes.bytes(), line);
+    }
+    Ok(())
+}
+
+#[test]
+fn a_malformed_stylesheet_comes_first(rt: HostRuntime) -> Result<(), Fail> {
+    let alloc = rt.alloc();
+    let mut files = made(alloc, b"<a>", None)?;
+    let mut out = MemSink::new(alloc);
+    let mut notes = MemSink::new(alloc);
+    let words = texts(alloc, TRANSFORM)?;
+    let status = run(alloc, &words, &mut files, &mut out, &mut notes);
+    assert_eq!(rt; status.number(), 4);
+    assert_eq!(rt; notes.bytes(), b"malformed s.xsl 3\n".as_slice());
+    Ok(())
+}
+
+const WHOLE: &[u8] =
+    b"<?xml version='1.0' encoding='utf-8'?>\r\n<!DOCTYPE a SYSTEM 's'><?t d?><a k='&lt;'>x&amp;<![CDATA[<y>]]><!--c--></a>";
+
+#[test]
+fn a_whole_document(rt: HostRuntime) -> Result<(), Fail> {
+    let alloc = rt.alloc();
+    let mut files = made(alloc, NO_RULES, Some(WHOLE))?;
+    let mut out = MemSink::new(alloc);
+    let mut notes = MemSink::new(alloc);
+    let words = texts(alloc, TRANSFORM)?;
+    let status = run(alloc, &words, &mut files, &mut out, &mut notes);
+    assert_eq!(rt; status.number(), 0);
+    assert_eq!(rt;
+        out.bytes(),
+        b"<?xml version=\"1.0\" encoding=\"UTF-8\"?>x&amp;&lt;y&gt;".as_slice()
+    );
+    Ok(())
+}
+
+fn nested(alloc: Global, depth: usize) -> Result<String, AllocError> {
+    let mut text = String::new(alloc);
+    for _ in 0..depth {
+        text.push_str("<a>")?;
+    }
+    for _ in 0..depth {
+        text.push_str("</a>")?;
+    }
+    Ok(text)
+}
+
+// A stylesheet on so many elements within each other, and the line that is said.
+const NESTED: [(&[u8], usize, u8, &[u8]); 4] = [
+    (NO_RULES, 99, 0, b""),
+    (NO_RULES, 100, 8, b"deep 100\n"),
+    (ONE_ELEMENT, 2000, 0, b""),
+    (ONE_ELEMENT, 2001, 4, b"malformed d.xml deep\n"),
+];
+
+#[test]
+fn elements_within_each_other(rt: HostRuntime) -> Result<(), Fail> {
+    let alloc = rt.alloc();
+    for (sheet, depth, number, line) in NESTED {
+        let text = nested(alloc, depth)?;
+        let mut files = made(alloc, sheet, Some(text.as_bytes()))?;
+        let mut out = MemSink::new(alloc);
+        let mut notes = MemSink::new(alloc);
+        let words = texts(alloc, TRANSFORM)?;
+        let status = run(alloc, &words, &mut files, &mut out, &mut notes);
+        assert_eq!(rt; status.number(), number);
+        assert_eq!(rt; notes.bytes(), line);
+    }
     Ok(())
 }
