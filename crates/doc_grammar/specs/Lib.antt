@@ -1,0 +1,12 @@
+pub mod Characters
+pub mod RawNames
+pub mod Scopes
+pub mod Lines
+pub mod Forms
+pub mod Prolog
+pub mod Lexemes
+pub mod Document
+pub mod Lexing
+pub mod Machine
+pub mod Faults
+pub mod Skeleton

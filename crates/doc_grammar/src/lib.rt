@@ -1,0 +1,39 @@
+//! The grammar of documents: which text stands for which tree, and where a text fails to be one.
+//!
+//! Definitions and laws alone; nothing runs. `IsDocument` of specs/Document.antt is the grammar, by the productions of XML 1.0 and
+//! Namespaces in XML 1.0, without internal subsets and with no encoding but UTF-8.
+#![tactic(auto)]
+
+ghost use Rattle.std.specs.Prelude.{◌≡◌, ℕ, ◌≤◌, List, ◌++◌, length, true};
+ghost use Rattle.xt_tree.specs.Sound.{is_sound_tree};
+ghost use Rattle.xt_tree.specs.TreeView.{tree_size};
+ghost use Rattle.xt_tree.specs.declared.trees.Tree.{Tree as AnyTree};
+ghost use Rattle.doc_grammar.specs.Scopes.{opened};
+ghost use Rattle.doc_grammar.specs.Document.{IsDocument};
+ghost use Rattle.doc_grammar.specs.Machine.{run, start, Stop as AnyStop, stops};
+ghost use Rattle.doc_grammar.specs.Skeleton.{IsFirstFault};
+
+mod spots;
+
+pub use spots::Spot;
+
+/// At most one tree stands for a text (XML 1.0; Namespaces in XML 1.0).
+pub fn documents_are_one()
+    ensures { (bytes : List ℕ) (s t : AnyTree) → IsDocument bytes s → IsDocument bytes t → s ≡ t }
+{}
+
+/// A reading that stops leaves an end of the text, and the first fault stands right before it. But for the rules on names,
+/// what was read begins the skeleton of some document, and with the character that follows it begins none. At a start tag
+/// that breaks a rule on names, what was read and `>` begin a skeleton, but no document.
+pub fn stops_at_the_first_fault()
+    ensures leaves { (cs rest : List ℕ) (why : AnyStop) → run opened cs start ≡ stops why rest → (front : List ℕ) × (cs ≡ front ++ rest) }
+    ensures first { (cs front rest : List ℕ) (why : AnyStop) → run opened cs start ≡ stops why rest → cs ≡ front ++ rest → IsFirstFault why front rest }
+{}
+
+/// What stands for a text of fewer than 2^63 bytes is a sound tree: it has allowed names, no attribute twice, no empty or
+/// neighbouring texts, and at most 2,000 elements inside of one another. It has no more nodes and attributes than the text has
+/// bytes.
+pub fn documents_are_sound()
+    ensures sound { (bytes : List ℕ) (t : AnyTree) → length bytes ≤ 0x7FFF_FFFF_FFFF_FFFF → IsDocument bytes t → is_sound_tree t ≡ true }
+    ensures small { (bytes : List ℕ) (t : AnyTree) → IsDocument bytes t → tree_size t ≤ length bytes }
+{}
