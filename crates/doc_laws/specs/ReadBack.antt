@@ -1,0 +1,15 @@
+-- What it means that what is written is read back.
+use Rattle.std.specs.Prelude.{◌≡◌, ℕ, List, ◌++◌, true, false}
+use Rattle.std.specs.List.{list_all}
+use Rattle.xt_names.specs.Classes.{is_xml_text}
+use Rattle.xt_names.specs.declared.names.Binding.{Binding}
+use Rattle.xt_tree.specs.declared.trees.Tree.{Tree}
+use Rattle.doc_grammar.specs.Document.{Rules, Content}
+use Rattle.doc_writer.specs.Escapes.{escaped_text}
+
+-- behind the characters `front` of a text, what is written for a text says that text: whatever number of `]` it ends with,
+-- what follows has the whole before it
+abbrev pub TextsReadBack : Type 0
+TextsReadBack =
+    (rules : Rules) (k n : ℕ) (scope : List Binding) (front text ts rest : List ℕ) (kids : List Tree) → is_xml_text text ≡ true
+    → ((m : ℕ) → Content rules k scope m (front ++ text) ts kids rest) → Content rules k scope n front (escaped_text text ++ ts) kids rest
