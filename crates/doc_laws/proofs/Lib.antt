@@ -1,2 +1,9 @@
 pub mod References
 pub mod Texts
+pub mod Ranges
+pub mod Names
+pub mod Tags
+pub mod Openings
+pub mod Numbers
+pub mod Heads
+pub mod Suits
