@@ -7,3 +7,11 @@ pub mod Openings
 pub mod Numbers
 pub mod Heads
 pub mod Suits
+pub mod Lookups
+pub mod Markup
+pub mod Declarations
+pub mod Elements
+pub mod Contents
+pub mod Tops
+pub mod Characters
+pub mod Documents
