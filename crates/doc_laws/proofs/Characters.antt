@@ -1,9 +1,9 @@
 -- The characters that are written: none is a carriage return, and all are scalar values.
-use Rattle.std.proofs.Common.{◌≡◌, ℕ, ◌<◌, ◌≤◌, ◌/◌, ◌%◌, List, [], ◌∷◌, ◌++◌, Bool, true, false, cond, ◌&&◌, ◌||◌, ◌==◌, refl, sym, subst, arith, codes, ⊎_elim}
+use Rattle.std.proofs.Common.{◌≡◌, ℕ, ◌<◌, ◌≤◌, ◌/◌, ◌%◌, List, [], ◌∷◌, ◌++◌, Bool, true, false, ◌&&◌, ◌||◌, ◌==◌, refl, sym, subst, arith, ⊎_elim}
 use Rattle.std.specs.Prelude.{nat_le}
 use Rattle.std.specs.Fmt.{digits, digit_glyph}
-use Rattle.std.specs.List.{list_all, list_any, flat_map}
-use Rattle.std.proofs.lemmas.Bool.{and_parts, or_cases, or_parts, cond_both, leb-true, le-leb, lt-ltb, le-ltb, eqb-true, false_from_ne_true}
+use Rattle.std.specs.List.{list_all, list_any}
+use Rattle.std.proofs.lemmas.Bool.{and_parts, or_cases, or_parts, cond_both, leb-true, lt-ltb, le-ltb, eqb-true, false_from_ne_true}
 use Rattle.std.proofs.lemmas.Bool.Decides.{nat_tests}
 use Rattle.std.proofs.lemmas.Fmt.{hex_one_digit, hex_two_digits}
 use Rattle.std.proofs.lemmas.List.Folds.{list_all-append}
@@ -131,3 +131,65 @@ long_clean c low high =
 separator_clean : are_clean (reference 0x2028) ≡ true
 unfolding reference digits is_in_ranges
 separator_clean = refl
+
+control_clean : (c : ℕ) → is_control c ≡ true → are_clean (reference c) ≡ true
+control_clean c h = ⊎_elim low high (or_cases (nat_le 0x7F c && nat_le c 0x9F) (c == 0x2028) h)
+  where
+    low : (nat_le 0x7F c && nat_le c 0x9F) ≡ true → are_clean (reference c) ≡ true
+    low e =
+        let parts = and_parts (nat_le 0x7F c) (nat_le c 0x9F) e in
+        let above = leb-true 0x7F c parts.0 in
+        let below = leb-true c 0x9F parts.1 in
+        long_clean c (omega arith) (omega arith)
+
+    high : (c == 0x2028) ≡ true → are_clean (reference c) ≡ true
+    high e = let P : ℕ → Type 0 = λ x. are_clean (reference x) ≡ true in subst P (sym (eqb-true c 0x2028 e)) separator_clean
+
+low_clean : (c d : ℕ) → (c == d) ≡ true → d < 16 → are_clean (reference c) ≡ true
+low_clean c d e h = let same = eqb-true c d e in short_clean c (omega arith)
+
+return_clean : (c : ℕ) → (c == 13 || is_control c) ≡ true → are_clean (reference c) ≡ true
+return_clean c h = ⊎_elim (λ e. low_clean c 13 e (omega arith)) (control_clean c) (or_cases (c == 13) (is_control c) h)
+
+space_clean : (c : ℕ) → (c == 9 || c == 10 || c == 13 || is_control c) ≡ true → are_clean (reference c) ≡ true
+space_clean c h = ⊎_elim third (control_clean c) (or_cases ((c == 9 || c == 10) || c == 13) (is_control c) h)
+  where
+    first : (c == 9 || c == 10) ≡ true → are_clean (reference c) ≡ true
+    first x = ⊎_elim (λ e. low_clean c 9 e (omega arith)) (λ e. low_clean c 10 e (omega arith)) (or_cases (c == 9) (c == 10) x)
+
+    third : (c == 9 || c == 10 || c == 13) ≡ true → are_clean (reference c) ≡ true
+    third x = ⊎_elim first (λ e. low_clean c 13 e (omega arith)) (or_cases (c == 9 || c == 10) (c == 13) x)
+
+-- texts and values
+
+itself_clean : (c : ℕ) → is_in_ranges xml_char_ranges c ≡ true → (c == 13) ≡ false → are_clean (c ∷ []) ≡ true
+itself_clean c p e = let x = char_clean c p e in rw x refl
+
+text_char_clean : (c : ℕ) → is_in_ranges xml_char_ranges c ≡ true → are_clean (text_char c) ≡ true
+unfolding text_char is_in_ranges
+text_char_clean c p =
+    let P : List ℕ → Type 0 = λ x. are_clean x ≡ true in
+    cond_both (c == 38) _ _ P (λ _. refl) (λ _. cond_both (c == 60) _ _ P (λ _. refl) (λ _. cond_both (c == 62) _ _ P (λ _. refl) (λ _.
+    cond_both (c == 13 || is_control c) (reference c) (c ∷ []) P (return_clean c) (λ e. itself_clean c p (or_parts (c == 13) (is_control c) e).0))))
+
+value_char_clean : (c : ℕ) → is_in_ranges xml_char_ranges c ≡ true → are_clean (value_char c) ≡ true
+unfolding value_char is_in_ranges
+value_char_clean c p =
+    let P : List ℕ → Type 0 = λ x. are_clean x ≡ true in
+    cond_both (c == 38) _ _ P (λ _. refl) (λ _. cond_both (c == 60) _ _ P (λ _. refl) (λ _. cond_both (c == 34) _ _ P (λ _. refl) (λ _.
+    cond_both (c == 9 || c == 10 || c == 13 || is_control c) (reference c) (c ∷ []) P (space_clean c)
+    (λ e. itself_clean c p (or_parts (c == 9 || c == 10) (c == 13) (or_parts ((c == 9 || c == 10) || c == 13) (is_control c) e).0).1))))
+
+pub escaped_text_clean : (t : List ℕ) → is_xml_text t ≡ true → are_clean (escaped_text t) ≡ true
+unfolding is_xml_text
+escaped_text_clean [] x = refl
+escaped_text_clean (c ∷ cs) x =
+    let parts = and_parts (is_in_ranges xml_char_ranges c) (list_all (is_in_ranges xml_char_ranges) cs) x in
+    clean_join (text_char c) (escaped_text cs) (text_char_clean c parts.0) (escaped_text_clean cs parts.1)
+
+pub escaped_value_clean : (t : List ℕ) → is_xml_text t ≡ true → are_clean (escaped_value t) ≡ true
+unfolding is_xml_text
+escaped_value_clean [] x = refl
+escaped_value_clean (c ∷ cs) x =
+    let parts = and_parts (is_in_ranges xml_char_ranges c) (list_all (is_in_ranges xml_char_ranges) cs) x in
+    clean_join (value_char c) (escaped_value cs) (value_char_clean c parts.0) (escaped_value_clean cs parts.1)

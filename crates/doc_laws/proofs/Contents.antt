@@ -1,5 +1,5 @@
 -- Written content is read back.
-use Rattle.std.proofs.Common.{◌≡◌, ℕ, suc, ◌+◌, ◌^◌, ◌<◌, ◌≤◌, List, [], ◌∷◌, ◌++◌, length, length-append, max, Bool, true, false, not, cond, ◌&&◌, ◌||◌, Option, Some, None, refl, sym, ap, subst, ◌∙◌, arith, codes, append_assoc, append-nil}
+use Rattle.std.proofs.Common.{◌≡◌, ℕ, suc, ◌+◌, ◌^◌, ◌<◌, ◌≤◌, List, [], ◌∷◌, ◌++◌, length, Bool, true, false, not, ◌&&◌, Some, refl, sym, subst, ◌∙◌, arith, codes, append_assoc, append-nil}
 use Rattle.std.specs.List.{list_all}
 use Rattle.std.proofs.lemmas.Bool.{and_parts, not-true}
 use Rattle.xt_names.specs.Allowed.{is_empty_text, xml_uri}
@@ -8,7 +8,7 @@ use Rattle.xt_names.specs.declared.names.Binding.{Binding}
 use Rattle.xt_names.specs.declared.names.Name.{Name}
 use Rattle.xt_tree.specs.declared.attributes.Attribute.{Attribute}
 use Rattle.xt_tree.specs.declared.trees.Tree.{Tree}
-use Rattle.xt_tree.specs.declared.trees.Tree.TheVariants.{Doc, Elem, Text, Comment, Pi, Attr}
+use Rattle.xt_tree.specs.declared.trees.Tree.TheVariants.{Elem, Text, Comment, Pi}
 use Rattle.xt_tree.specs.Forest.{Forest, end, doc, elem, text, comment, pi, attr, forest_size, forest_height}
 use Rattle.xt_tree.specs.Sound.{is_sound_name, are_sound_attributes, is_sound_comment, is_sound_pi, are_sound_behind}
 use Rattle.xt_tree.specs.TreeView.{trees}
@@ -102,7 +102,7 @@ unfolding is_empty_text
 text_alone [] more e = absurd (cc)
 text_alone (c ∷ cs) more e = refl
 
-text_parts : (after : Bool) (t : List ℕ) (rest : Forest) → are_sound_behind after (text t rest) ≡ true → (after ≡ false) × (is_empty_text t ≡ false) × (is_xml_text t ≡ true) × (are_sound_behind true rest ≡ true)
+pub text_parts : (after : Bool) (t : List ℕ) (rest : Forest) → are_sound_behind after (text t rest) ≡ true → (after ≡ false) × (is_empty_text t ≡ false) × (is_xml_text t ≡ true) × (are_sound_behind true rest ≡ true)
 text_parts after t rest s =
     let a = and_parts ((not after && not (is_empty_text t)) && is_xml_text t) (are_sound_behind true rest) s in
     let b = and_parts (not after && not (is_empty_text t)) (is_xml_text t) a.0 in

@@ -1,37 +1,33 @@
 -- Written elements and their content are read back.
-use Rattle.std.proofs.Common.{◌≡◌, ℕ, suc, ◌+◌, ◌^◌, ◌<◌, ◌≤◌, List, [], ◌∷◌, ◌++◌, length, length-append, max, Bool, true, false, not, cond, ◌&&◌, ◌||◌, Option, Some, None, refl, sym, ap, subst, ◌∙◌, arith, codes, append_assoc, append-nil}
+use Rattle.std.proofs.Common.{◌≡◌, ℕ, suc, ◌+◌, ◌^◌, ◌<◌, ◌≤◌, List, [], ◌∷◌, ◌++◌, length, Bool, true, false, not, ◌&&◌, Some, refl, sym, ap, subst, ◌∙◌, codes, append_assoc}
 use Rattle.std.specs.List.{list_all}
-use Rattle.std.proofs.lemmas.Bool.{and_parts, and_from, not-true}
-use Rattle.xt_names.specs.Allowed.{is_empty_text, xml_uri}
-use Rattle.xt_names.specs.Classes.{is_xml_text, is_ncname_text}
+use Rattle.std.proofs.lemmas.Bool.{and_parts, not-true}
+use Rattle.xt_names.specs.Allowed.{xml_uri}
+use Rattle.xt_names.specs.Classes.{is_xml_text}
 use Rattle.xt_names.specs.declared.names.Binding.{Binding}
 use Rattle.xt_names.specs.declared.names.Name.{Name}
 use Rattle.xt_tree.specs.declared.attributes.Attribute.{Attribute}
 use Rattle.xt_tree.specs.declared.trees.Tree.{Tree}
-use Rattle.xt_tree.specs.declared.trees.Tree.TheVariants.{Doc, Elem, Text, Comment, Pi, Attr}
-use Rattle.xt_tree.specs.Forest.{Forest, end, doc, elem, text, comment, pi, attr, forest_size, forest_height}
-use Rattle.xt_tree.specs.Sound.{is_sound_name, is_named_xmlns, is_sound_attribute, names_differ, are_sound_attributes, is_sound_comment, is_sound_pi, are_sound_behind}
-use Rattle.xt_tree.specs.TreeView.{put, forest_of, trees}
+use Rattle.xt_tree.specs.declared.trees.Tree.TheVariants.{Elem}
+use Rattle.xt_tree.specs.Forest.{Forest, end, doc, elem, text, comment, pi, attr}
+use Rattle.xt_tree.specs.Sound.{is_sound_name, is_named_xmlns, is_sound_attribute, names_differ, are_sound_attributes}
+use Rattle.xt_tree.specs.TreeView.{forest_of, trees}
 use Rattle.doc_grammar.specs.Document.{limit, Content, Element, EndTag, element_of, text_nodes}
 use Rattle.doc_grammar.specs.Document as grammar
 use Rattle.doc_grammar.specs.RawNames.{written_name}
-use Rattle.doc_grammar.specs.Scopes.{are_declarations, prefixes_differ, is_binding, Opened, opened}
-use Rattle.doc_grammar.proofs.CharacterFacts.{no}
+use Rattle.doc_grammar.specs.Scopes.{are_declarations, prefixes_differ, is_binding, opened}
 use Rattle.doc_grammar.proofs.Completions.{end_spelled}
-use Rattle.doc_writer.specs.Escapes.{escaped_text}
 use Rattle.doc_writer.specs.Heads.{Head, head_of}
 use Rattle.doc_writer.specs.Readable.{renamed_attributes, as_written_forest}
 use Rattle.doc_writer.specs.Scopes.{bound_uri}
-use Rattle.doc_writer.specs.Written.{qualified, later_prefixes, start_tag, is_end, element_rest, element, written_comment, written_pi, written_forest}
-use Rattle.doc_laws.specs.ReadBack.{has_uri_text, keep_uris}
-use Rattle.doc_laws.proofs.Texts.{text_back}
-use Rattle.doc_laws.proofs.Names.{Stops, is_prefix, raw_name, raw_written}
-use Rattle.doc_laws.proofs.Tags.{are_spelled, is_spelled_attribute, tag_of, IsSpelled, IsTag, tag_back, slash_stops, close_stops}
+use Rattle.doc_writer.specs.Written.{qualified, later_prefixes, start_tag, is_end, element_rest, element, written_forest}
+use Rattle.doc_laws.specs.ReadBack.{has_uri_text}
+use Rattle.doc_laws.proofs.Names.{Stops, raw_name, raw_written}
+use Rattle.doc_laws.proofs.Tags.{are_spelled, tag_of, IsSpelled, IsTag, tag_back, slash_stops, close_stops}
 use Rattle.doc_laws.proofs.Openings.{opened_back}
 use Rattle.doc_laws.proofs.Heads.{allowed, local_name, element_prefix}
-use Rattle.doc_laws.proofs.Suits.{Suits, AreSuited, IsSound, AreSoundNames, IsHead, head_is}
+use Rattle.doc_laws.proofs.Suits.{AreSuited, AreSoundNames, IsHead, head_is}
 use Rattle.doc_laws.proofs.Lookups.{writing, reading, element_named_back, all_fit}
-use Rattle.doc_laws.proofs.Markup.{comment_back, pi_back}
 
 -- attributes that are sound
 

@@ -1,27 +1,23 @@
 -- What a start tag declares binds its prefixes to their uris.
-use Rattle.std.proofs.Common.{◌≡◌, ℕ, ◌+◌, ◌^◌, ◌<◌, ◌≤◌, List, [], ◌∷◌, ◌++◌, length, length-append, Bool, true, false, not, cond, ◌&&◌, ◌||◌, Option, Some, None, refl, sym, ap, subst, ◌∙◌, arith, codes, append_assoc, append-nil, ⊎_elim}
+use Rattle.std.proofs.Common.{◌≡◌, ℕ, List, [], ◌∷◌, ◌++◌, Bool, true, false, not, cond, ◌&&◌, ◌||◌, Option, Some, None, refl, sym, ap, ◌∙◌, codes, append_assoc, append-nil, ⊎_elim}
 use Rattle.std.specs.List.{list_any, list_all}
 use Rattle.std.specs.Option.{is_some}
 use Rattle.std.specs.Str.{bytes_eq}
-use Rattle.std.proofs.lemmas.Bool.{and_parts, or_parts, or_cases, or_left, or_right, false_from_ne_true, not-true}
+use Rattle.std.proofs.lemmas.Bool.{and_parts, or_parts, or_cases, or_right, false_from_ne_true, not-true}
 use Rattle.std.proofs.lemmas.List.Folds.{list_all-append, list_any-append}
-use Rattle.std.proofs.lemmas.Option.{none-some}
 use Rattle.std.proofs.lemmas.Slice.Eq.{bytes_eq-Decides}
 use Rattle.xt_names.specs.Allowed.{is_empty_text, is_prefix_of, keeps_xml, keeps_xmlns, is_allowed_name, same_truth, xml_uri, xmlns_uri}
-use Rattle.xt_names.specs.Classes.{is_xml_text, is_ncname_text, begins_name}
+use Rattle.xt_names.specs.Classes.{is_xml_text, is_ncname_text}
 use Rattle.xt_names.specs.declared.names.Binding.{Binding}
 use Rattle.xt_names.specs.declared.names.Name.{Name}
-use Rattle.xt_tree.specs.declared.attributes.Attribute.{Attribute}
-use Rattle.xt_tree.specs.Sound.{is_sound_name, is_named_xmlns, is_sound_attribute}
+use Rattle.xt_tree.specs.Sound.{is_sound_name}
 use Rattle.doc_grammar.specs.Scopes.{is_binding, prefixes_differ}
 use Rattle.doc_grammar.proofs.CharacterFacts.{no}
-use Rattle.doc_writer.specs.Heads.{Head, with_prefix, with_declared, empty_head, with_element, keeps_prefix, may_declare, with_attribute, with_attributes, head_of}
-use Rattle.doc_writer.specs.Scopes.{binding, bound_uri, uri_of_binding, or_earlier, is_uri, binds_to, binds, numbered_prefix, free_number, free_prefix}
-use Rattle.doc_writer.specs.Written.{later_prefixes}
+use Rattle.doc_writer.specs.Heads.{Head, with_prefix, with_declared, empty_head}
+use Rattle.doc_writer.specs.Scopes.{binding, bound_uri, or_earlier, is_uri, binds_to, binds}
 use Rattle.doc_writer.proofs.ScopeLemmas.{bound_uri_push}
 use Rattle.doc_laws.proofs.Names.{is_prefix}
 use Rattle.doc_laws.proofs.Tags.{is_spelled_binding}
-use Rattle.doc_laws.proofs.Numbers.{prefix_is_free, number_is_name, number_is_not_xml, number_is_not_xmlns, number_low}
 
 -- texts that are the same
 

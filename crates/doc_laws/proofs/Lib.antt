@@ -14,4 +14,5 @@ pub mod Elements
 pub mod Contents
 pub mod Tops
 pub mod Characters
+pub mod WrittenCharacters
 pub mod Documents

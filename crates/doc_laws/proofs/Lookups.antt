@@ -1,17 +1,12 @@
 -- The scope of the writer and that of the reader: the first also binds the empty prefix to no uri.
-use Rattle.std.proofs.Common.{◌≡◌, ℕ, List, [], ◌∷◌, ◌++◌, Bool, true, false, cond, ◌&&◌, ◌||◌, Option, Some, None, refl, sym, ap, subst, ◌∙◌, codes}
-use Rattle.std.specs.List.{list_all}
-use Rattle.std.specs.Str.{bytes_eq}
-use Rattle.std.proofs.lemmas.Option.{none-some, same_Some}
-use Rattle.std.proofs.lemmas.Bool.{and_parts}
-use Rattle.xt_names.specs.Allowed.{is_empty_text}
-use Rattle.xt_names.specs.Classes.{is_xml_text, is_ncname_text}
+use Rattle.std.proofs.Common.{◌≡◌, ℕ, List, [], ◌∷◌, ◌++◌, true, false, Option, Some, None, refl, ◌∙◌, codes}
+use Rattle.std.proofs.lemmas.Option.{same_Some}
+use Rattle.xt_names.specs.Allowed.{is_empty_text, xml_uri}
 use Rattle.xt_names.specs.declared.names.Binding.{Binding}
 use Rattle.xt_names.specs.declared.names.Name.{Name}
 use Rattle.xt_tree.specs.declared.attributes.Attribute.{Attribute}
 use Rattle.doc_grammar.specs.Scopes.{top_scope, bound_later, or_no_uri, element_name, attribute_name}
 use Rattle.doc_grammar.specs.Scopes as grammar
-use Rattle.doc_writer.specs.Readable.{renamed}
 use Rattle.doc_writer.specs.Scopes.{first_scope, binding, bound_uri, uri_of_binding, or_earlier}
 use Rattle.doc_laws.proofs.Names.{raw_name}
 use Rattle.doc_laws.proofs.Openings.{IsFit, AreFit}
@@ -37,11 +32,7 @@ same_bound (b ∷ scope) p = rw (same_bound scope p) (same_step (bound_uri scope
 full_bound : (ds : List Binding) (c : ℕ) (cs uri : List ℕ) → bound_uri (writing ds) (c ∷ cs) ≡ Some uri → grammar.bound_uri (reading ds) (c ∷ cs) ≡ Some uri
 full_bound ds c cs uri e = same_bound (reading ds) (c ∷ cs) ∙ go (bound_uri ds (c ∷ cs)) e
   where
-    last : Option (List ℕ)
-    last = uri_of_binding (binding (codes "xml") (codes "http://www.w3.org/XML/1998/namespace")) (c ∷ cs)
-
-    go : (o : Option (List ℕ)) → or_earlier (or_earlier o None) (uri_of_binding (binding (codes "xml") (codes "http://www.w3.org/XML/1998/namespace")) (c ∷ cs)) ≡ Some uri
-        → or_earlier o (uri_of_binding (binding (codes "xml") (codes "http://www.w3.org/XML/1998/namespace")) (c ∷ cs)) ≡ Some uri
+    go : (o : Option (List ℕ)) → or_earlier (or_earlier o None) (uri_of_binding (binding (codes "xml") xml_uri) (c ∷ cs)) ≡ Some uri → or_earlier o (uri_of_binding (binding (codes "xml") xml_uri) (c ∷ cs)) ≡ Some uri
     go None d = d
     go (Some u) d = d
 

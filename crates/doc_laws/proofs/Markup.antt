@@ -1,5 +1,5 @@
 -- Comments and processing instructions are read back.
-use Rattle.std.proofs.Common.{◌≡◌, ℕ, List, [], ◌∷◌, ◌++◌, Bool, true, false, not, cond, ◌&&◌, ◌||◌, ◌==◌, refl, sym, ap, subst, ◌∙◌, codes, append_assoc, append-nil}
+use Rattle.std.proofs.Common.{◌≡◌, ℕ, List, [], ◌∷◌, ◌++◌, Bool, true, false, not, cond, ◌&&◌, ◌==◌, refl, sym, subst, ◌∙◌, append_assoc, append-nil}
 use Rattle.std.specs.List.{list_all}
 use Rattle.std.proofs.lemmas.Bool.{and_parts, or_parts, not-true, eqb-true}
 use Rattle.xt_names.specs.Allowed.{is_empty_text}
@@ -13,6 +13,7 @@ use Rattle.doc_grammar.specs.Lexemes.{Ends, UpTo, begins_with, instruction_close
 use Rattle.doc_grammar.specs.Lexemes as lexemes
 use Rattle.doc_grammar.proofs.CharacterFacts.{mark_name, space_name}
 use Rattle.doc_writer.specs.Written.{written_comment, written_pi}
+use Rattle.doc_laws.proofs.Tags.{a_blank}
 use Rattle.doc_laws.proofs.Names.{ncname_back}
 
 first_char : (c : ℕ) (t : List ℕ) → is_xml_text (c ∷ t) ≡ true → (is_char c ≡ true) × (is_xml_text t ≡ true)
@@ -137,10 +138,6 @@ instruction_parts target t s =
 no_white : (c : ℕ) (t : List ℕ) → begins_white (c ∷ t) ≡ false → is_space c ≡ false
 unfolding begins_white is_space
 no_white c t e = e
-
-a_blank : is_space 32 ≡ true
-unfolding is_space
-a_blank = refl
 
 instruction_back : (target t rest : List ℕ) → IsInstruction target t → Misc (60 ∷ 63 ∷ (target ++ (cond (is_empty_text t) [] (32 ∷ t) ++ ending rest))) (Pi target t) rest
 unfolding is_empty_text

@@ -1,5 +1,5 @@
 -- The first of ns0, ns1 and so on that a scope leaves free is not bound there.
-use Rattle.std.proofs.Common.{◌≡◌, ℕ, zero, suc, ◌+◌, ◌^◌, ◌%◌, ◌<◌, ◌≤◌, List, [], ◌∷◌, ◌++◌, length, Bool, true, false, cond, ◌||◌, Option, Some, None, refl, sym, ◌∙◌, subst, arith, rules, codes, ◌⊎◌, inl, inr, ⊎_elim}
+use Rattle.std.proofs.Common.{◌≡◌, ℕ, zero, suc, ◌+◌, ◌^◌, ◌%◌, ◌<◌, ◌≤◌, List, [], ◌∷◌, length, Bool, true, false, cond, ◌||◌, Option, Some, None, refl, sym, ◌∙◌, arith, codes, ◌⊎◌, inl, inr, ⊎_elim}
 use Rattle.std.specs.Fmt.{decimal}
 use Rattle.std.specs.List.{list_all}
 use Rattle.std.specs.Option.{is_some}
@@ -11,7 +11,7 @@ use Rattle.std.proofs.lemmas.Slice.Eq.{bytes_eq-Decides}
 use Rattle.xt_names.specs.Classes.{is_in_ranges, ncname_char_ranges, begins_name, is_ncname_text}
 use Rattle.xt_names.specs.declared.names.Binding.{Binding}
 use Rattle.doc_laws.proofs.Ranges.{in_range}
-use Rattle.doc_writer.specs.Scopes.{bound_uri, uri_of_binding, or_earlier, binds, numbered_prefix, free_number, free_prefix}
+use Rattle.doc_writer.specs.Scopes.{bound_uri, or_earlier, binds, numbered_prefix, free_number, free_prefix}
 
 -- how many numbers below k pass
 abbrev count : (ℕ → Bool) → ℕ → ℕ

@@ -1,5 +1,5 @@
 -- What a written start tag opens: the element with the prefixes that are written.
-use Rattle.std.proofs.Common.{◌≡◌, ℕ, List, [], ◌∷◌, ◌++◌, Bool, true, false, not, cond, ◌&&◌, Option, Some, None, refl, sym, subst, ◌∙◌, codes, append-nil}
+use Rattle.std.proofs.Common.{◌≡◌, ℕ, List, [], ◌∷◌, ◌++◌, true, false, Option, Some, None, refl, ◌∙◌, codes, append-nil}
 use Rattle.std.specs.List.{list_any}
 use Rattle.std.specs.Str.{bytes_eq}
 use Rattle.xt_names.specs.Allowed.{is_empty_text}
@@ -7,8 +7,8 @@ use Rattle.xt_names.specs.declared.names.Binding.{Binding}
 use Rattle.xt_names.specs.declared.names.Name.{Name}
 use Rattle.xt_tree.specs.declared.attributes.Attribute.{Attribute}
 use Rattle.xt_tree.specs.Sound.{same_name, names_differ}
-use Rattle.doc_grammar.specs.RawNames.{RawName, RawAttribute, RawTag}
-use Rattle.doc_grammar.specs.Scopes.{declared_by, declarations, are_declarations, element_name, attribute_name, behind_named, named_attributes, Opened, opened}
+use Rattle.doc_grammar.specs.RawNames.{RawAttribute}
+use Rattle.doc_grammar.specs.Scopes.{declared_by, declarations, are_declarations, element_name, attribute_name, behind_named, named_attributes, opened}
 use Rattle.doc_writer.specs.Readable.{renamed, renamed_attributes}
 use Rattle.doc_laws.proofs.Names.{raw_name}
 use Rattle.doc_laws.proofs.Tags.{declaring_name, raw_declarations, raw_attributes, tag_of}

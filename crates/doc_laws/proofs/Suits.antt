@@ -1,15 +1,14 @@
 -- Each attribute is written with a prefix that is bound to its uri.
-use Rattle.std.proofs.Common.{◌≡◌, ℕ, suc, ◌+◌, ◌^◌, ◌<◌, ◌≤◌, List, [], ◌∷◌, ◌++◌, length, length-append, Bool, true, false, not, cond, ◌&&◌, ◌||◌, Option, Some, None, refl, sym, ap, subst, ◌∙◌, arith, codes, append_assoc, append-nil, ⊎_elim}
-use Rattle.std.specs.List.{list_any, list_all}
+use Rattle.std.proofs.Common.{◌≡◌, ℕ, ◌+◌, ◌^◌, ◌<◌, ◌≤◌, List, [], ◌∷◌, ◌++◌, length, length-append, Bool, true, false, not, cond, ◌&&◌, Option, Some, None, refl, sym, ap, subst, ◌∙◌, arith, codes, append_assoc, append-nil, ⊎_elim}
 use Rattle.std.specs.Option.{is_some}
 use Rattle.std.specs.Str.{bytes_eq}
 use Rattle.std.proofs.lemmas.Bool.{and_parts, or_cases, or_right, false_from_ne_true, not-true}
-use Rattle.xt_names.specs.Allowed.{is_empty_text, is_prefix_of, keeps_xml, keeps_xmlns, same_truth, xml_uri, xmlns_uri}
-use Rattle.xt_names.specs.Classes.{is_xml_text, is_ncname_text, begins_name}
+use Rattle.xt_names.specs.Allowed.{is_empty_text, keeps_xml, keeps_xmlns, same_truth, xml_uri, xmlns_uri}
+use Rattle.xt_names.specs.Classes.{is_xml_text, is_ncname_text}
 use Rattle.xt_names.specs.declared.names.Binding.{Binding}
 use Rattle.xt_names.specs.declared.names.Name.{Name}
 use Rattle.xt_tree.specs.declared.attributes.Attribute.{Attribute}
-use Rattle.xt_tree.specs.Sound.{is_sound_name, is_named_xmlns, is_sound_attribute}
+use Rattle.xt_tree.specs.Sound.{is_named_xmlns}
 use Rattle.doc_grammar.specs.Scopes.{is_binding}
 use Rattle.doc_grammar.proofs.CharacterFacts.{no}
 use Rattle.doc_writer.specs.Heads.{Head, with_prefix, with_declared, empty_head, with_element, keeps_prefix, may_declare, with_attribute, with_attributes, head_of}
@@ -17,7 +16,7 @@ use Rattle.doc_writer.specs.Scopes.{binding, bound_uri, uri_of_binding, or_earli
 use Rattle.doc_writer.specs.Written.{later_prefixes}
 use Rattle.doc_laws.proofs.Names.{is_prefix}
 use Rattle.doc_laws.proofs.Numbers.{prefix_is_free, number_is_name, number_is_not_xml, number_is_not_xmlns, number_low}
-use Rattle.doc_laws.proofs.Heads.{is_used, is_declared, same_text, text_same, bound_from, bound_binds, pushed_same, pushed_other, IsAllowed, allowed, prefix_of_name, name_binding, not_xmlns, Settled, settled_start, settled_used, IsNew, settled_new, used_front, used_last, not_new}
+use Rattle.doc_laws.proofs.Heads.{is_used, is_declared, same_text, bound_from, bound_binds, pushed_same, pushed_other, IsAllowed, prefix_of_name, name_binding, not_xmlns, Settled, settled_start, settled_used, IsNew, settled_new, used_front, used_last, not_new}
 
 -- the prefix suits an attribute of this name
 pub record Suits (scope : List Binding) (p : List ℕ) (name : Name) : Type 0 where

@@ -1,5 +1,5 @@
 -- A written start tag is read back with its declarations and attributes.
-use Rattle.std.proofs.Common.{◌≡◌, ℕ, List, [], ◌∷◌, ◌++◌, ◌∙◌, Bool, true, false, cond, ◌||◌, ◌&&◌, refl, ap, sym, subst, append_assoc, append-nil, codes}
+use Rattle.std.proofs.Common.{◌≡◌, ℕ, List, [], ◌∷◌, ◌++◌, ◌∙◌, Bool, true, false, cond, ◌&&◌, refl, ap, sym, subst, append_assoc, append-nil, codes}
 use Rattle.std.proofs.lemmas.Bool.{and_parts}
 use Rattle.std.specs.List.{list_all}
 use Rattle.xt_names.specs.Allowed.{is_empty_text}
@@ -7,8 +7,8 @@ use Rattle.xt_names.specs.Classes.{is_in_ranges, is_xml_text, begins_name, is_nc
 use Rattle.xt_names.specs.declared.names.Binding.{Binding}
 use Rattle.xt_names.specs.declared.names.Name.{Name}
 use Rattle.xt_tree.specs.declared.attributes.Attribute.{Attribute}
-use Rattle.doc_grammar.specs.Characters.{is_space, is_quote, starts_name, is_name_char, is_colon}
-use Rattle.doc_grammar.specs.RawNames.{RawName, plain_name, prefixed_name, RawAttribute, RawTag, with_attribute, tag_named}
+use Rattle.doc_grammar.specs.Characters.{is_space, is_quote, is_name_char}
+use Rattle.doc_grammar.specs.RawNames.{RawName, plain_name, prefixed_name, RawAttribute, RawTag, tag_named}
 use Rattle.doc_grammar.specs.Lexemes.{Ends, Spaces}
 use Rattle.doc_grammar.specs.Lexemes as lexemes
 use Rattle.doc_grammar.specs.Document.{QName, Equals, Valued, Attributes, AtEnd}
@@ -74,7 +74,7 @@ close_stops rest = record { no_name = refl; no_colon = refl }
 
 -- one attribute
 
-a_blank : is_space 32 ≡ true
+pub a_blank : is_space 32 ≡ true
 unfolding is_space
 a_blank = refl
 

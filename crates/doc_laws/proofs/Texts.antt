@@ -1,7 +1,7 @@
 -- What is written for a text or a value is read back as that.
-use Rattle.std.proofs.Common.{◌≡◌, ℕ, ◌<◌, List, [], ◌∷◌, ◌++◌, Bool, true, false, not, cond, ◌&&◌, ◌||◌, ◌==◌, refl, sym, subst, arith, codes, append_assoc, append-nil, ◌⊎◌, ⊎_elim}
+use Rattle.std.proofs.Common.{◌≡◌, ℕ, ◌<◌, List, [], ◌∷◌, ◌++◌, Bool, true, false, cond, ◌||◌, ◌==◌, refl, sym, subst, arith, codes, append_assoc, append-nil, ⊎_elim}
 use Rattle.std.proofs.lemmas.Bool.{or_cases, or_parts, eqb-true}
-use Rattle.xt_names.specs.Classes.{is_in_ranges, xml_char_ranges, is_xml_text}
+use Rattle.xt_names.specs.Classes.{is_xml_text}
 use Rattle.xt_names.specs.declared.names.Binding.{Binding}
 use Rattle.xt_tree.specs.declared.trees.Tree.{Tree}
 use Rattle.doc_grammar.specs.Characters.{is_space, is_char, is_text, is_value, as_value, may_stand, brackets_behind}

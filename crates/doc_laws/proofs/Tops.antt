@@ -1,11 +1,10 @@
 -- A written document is read back.
-use Rattle.std.proofs.Common.{◌≡◌, ℕ, suc, ◌+◌, List, [], ◌∷◌, ◌++◌, Bool, true, false, ◌&&◌, refl, sym, subst, arith, codes, append_assoc, append-nil}
+use Rattle.std.proofs.Common.{◌≡◌, ℕ, List, [], ◌∷◌, ◌++◌, true, false, refl, sym, subst, arith, append_assoc, append-nil}
 use Rattle.std.proofs.lemmas.Bool.{and_parts}
-use Rattle.xt_names.specs.declared.names.Binding.{Binding}
 use Rattle.xt_names.specs.declared.names.Name.{Name}
 use Rattle.xt_tree.specs.declared.attributes.Attribute.{Attribute}
 use Rattle.xt_tree.specs.declared.trees.Tree.{Tree}
-use Rattle.xt_tree.specs.declared.trees.Tree.TheVariants.{Doc, Elem, Text, Comment, Pi, Attr}
+use Rattle.xt_tree.specs.declared.trees.Tree.TheVariants.{Doc, Elem, Comment, Pi}
 use Rattle.xt_tree.specs.Forest.{Forest, end, doc, elem, text, comment, pi, attr}
 use Rattle.xt_tree.specs.Sound.{is_sound_comment, is_sound_pi, are_sound_behind}
 use Rattle.xt_tree.specs.TreeView.{forest_of, trees}
@@ -18,8 +17,8 @@ use Rattle.doc_writer.specs.Readable.{renamed_attributes, as_written_forest, ele
 use Rattle.doc_writer.specs.Scopes.{first_scope}
 use Rattle.doc_writer.specs.Written.{later_prefixes, start_tag, is_end, element, written_comment, written_pi, written_forest}
 use Rattle.doc_laws.proofs.Markup.{comment_back, pi_back}
-use Rattle.doc_laws.proofs.Elements.{opens, KidsBack, element_back, forest_same}
-use Rattle.doc_laws.proofs.Contents.{Allows, element_parts, element_ready, kids_allowed, rest_allowed, not_deep, less, content_back}
+use Rattle.doc_laws.proofs.Elements.{opens, KidsBack, element_back}
+use Rattle.doc_laws.proofs.Contents.{Allows, element_parts, element_ready, kids_allowed, not_deep, less, content_back}
 
 -- the rest of a document, behind these children
 abbrev TopBack : Level → List Tree → Forest → Type 0

@@ -1,12 +1,11 @@
 -- What it means that what is written is read back.
-use Rattle.std.specs.Prelude.{◌≡◌, ℕ, List, ◌++◌, Bool, true, false, ◌&&◌, Some}
+use Rattle.std.specs.Prelude.{◌≡◌, ℕ, List, ◌++◌, Bool, true, ◌&&◌, Some}
 use Rattle.std.specs.List.{list_all}
 use Rattle.xt_names.specs.Classes.{is_xml_text}
 use Rattle.xt_names.specs.declared.names.Binding.{Binding}
 use Rattle.xt_names.specs.declared.names.Name.{Name}
 use Rattle.xt_tree.specs.Forest.{Forest, end, doc, elem, text, comment, pi, attr}
 use Rattle.xt_tree.specs.TreeView.{alone}
-use Rattle.xt_tree.specs.declared.attributes.Attribute.{Attribute}
 use Rattle.xt_tree.specs.declared.trees.Tree.{Tree}
 use Rattle.doc_grammar.specs.Document.{Rules, Content, IsDocument}
 use Rattle.doc_writer.specs.Escapes.{escaped_text}
