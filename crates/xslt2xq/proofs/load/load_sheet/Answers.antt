@@ -18,4 +18,4 @@ returns-in-Ok-clause-sheet g c =
 pub returns-in-Ok-clause-refused : goal.returns-in-Ok-clause-refused
 returns-in-Ok-clause-refused g c =
     IfErr-weaker c.sheet_of.result _ _
-    (λ status k. other_form c.args.name.now _ _ c.args.name.now _ _ _ status c.deref.ensures.value c.in_ok-bytes.ensures.held c.in-Ok.ensures.found k) c.sheet_of.ensures.refused
+    (λ status k. other_form c.args.name.now (g.F.Files.state c.args.files.now) (g.F.Files.state c.load.new.files) c.args.name.now _ _ _ status c.deref.ensures.value c.in_ok-bytes.ensures.held c.in-Ok.ensures.found k) c.sheet_of.ensures.refused
