@@ -18,6 +18,7 @@ mod classes;
 mod elements;
 mod faults;
 mod lines;
+mod lists;
 mod names;
 mod prolog;
 mod readers;
