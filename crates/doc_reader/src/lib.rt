@@ -1,9 +1,10 @@
 //! Reads the text of a document as a tree.
 #![tactic(auto)]
 
-ghost use Rattle.std.specs.Prelude.{◌≡◌, ◌≤◌, ◌<◌, ◌+◌, ◌-◌, false, length, take, IfOk, IfErr, MatchResult};
+ghost use Rattle.std.specs.Prelude.{◌≡◌, ◌≤◌, ◌<◌, ◌+◌, ◌-◌, true, false, length, take, IfOk, IfErr, MatchResult};
 ghost use Rattle.std.specs.Str.{chars, IsUtf8};
 ghost use Rattle.std.specs.Str.Lossy.{utf8_valid_len};
+ghost use Rattle.xt_tree.specs.Sound.{is_sound_tree};
 ghost use Rattle.doc_grammar.specs.Scopes.{opened};
 ghost use Rattle.doc_grammar.specs.Lines.{lines, text_of, without_mark, mark_bytes, bytes_before, offset};
 ghost use Rattle.doc_grammar.specs.Document.{IsDocument};
@@ -50,6 +51,7 @@ pub struct Scoped {
 /// bytes, with the first spot where they fail.
 pub fn read(alloc: Global, bytes: &[u8]) -> Result<Tree, ReadFault>
     ensures found { IfOk result (λ tree. IsDocument bytes.now tree) }
+    ensures sound { IfOk result (λ tree. is_sound_tree tree ≡ true) }
     ensures refused { IfErr result (HasReadCause bytes.now) }
 {
     let scoped = read_scoped(alloc, bytes)?;
@@ -59,6 +61,7 @@ pub fn read(alloc: Global, bytes: &[u8]) -> Result<Tree, ReadFault>
 /// The tree of a text, and the namespace declarations of each of its elements. It refuses what `read` refuses.
 pub fn read_scoped(alloc: Global, bytes: &[u8]) -> Result<Scoped, ReadFault>
     ensures found { IfOk result (λ scoped. IsDocument bytes.now scoped.tree) }
+    ensures sound { IfOk result (λ scoped. is_sound_tree scoped.tree ≡ true) }
     ensures declared { IfOk result (λ scoped. run opened (text_of (chars bytes.now)) start ≡ whole scoped.tree scoped.declared) }
     ensures refused { IfErr result (HasReadCause bytes.now) }
 {

@@ -1,3 +1,5 @@
+use Rattle.std.proofs.Common.{arith}
+use Rattle.doc_grammar.proofs.SoundDocuments.{document_sound}
 use Rattle.doc_reader.proofs.TextLemmas.{as_document, as_fault}
 use Rattle.doc_reader.proofs.read_scoped.Goals as goal
 
@@ -8,3 +10,7 @@ returns-in-Ok-2-clause-found c =
 pub returns-in-Err-2-clause-refused : goal.returns-in-Err-2-clause-refused
 returns-in-Err-2-clause-refused c =
     as_fault _ _ _ c.in-Ok.ensures.cases.0 c.in-Ok.ensures.cases.1 (rw c.in-Err-2.is at c.in_ok-whole-in-Ok.ensures)
+
+pub returns-in-Ok-2-clause-sound : goal.returns-in-Ok-2-clause-sound
+returns-in-Ok-2-clause-sound c =
+    document_sound c.args.bytes.now _ (omega arith) (as_document _ _ _ _ c.in-Ok.ensures.cases.0 c.in-Ok.ensures.cases.1 (rw c.in-Ok-2.is at c.in_ok-whole-in-Ok.ensures))
