@@ -1,7 +1,7 @@
 ghost use Rattle.std.specs.Prelude.{◌≡◌, ◌++◌, IfOk, OnOk, min, slice_get};
 ghost use Rattle.std.specs.Option.{option_copied};
 ghost use Rattle.xt_tree.specs.Forest.{texts};
-ghost use Rattle.xt_tree.specs.TreeView.{forest_of, trees, kids_of, attributes_of, tree_height, tree_size, string_value_of};
+ghost use Rattle.xt_tree.specs.TreeView.{forest_of, trees, kids_of, attributes_of, tree_height, tree_depth, tree_size, string_value_of};
 
 use crate::attributes::{Attribute, Attrs};
 use std::alloc::{AllocError, Global};
@@ -27,12 +27,13 @@ pub enum Tree {
     Attr(Name, Text),
 }
 
-/// A shared list of trees, which knows its height and its size.
+/// A shared list of trees, which knows its height, its depth and its size.
 #[derive(Drop)]
 #[cycle(tree)]
 pub struct Kids {
     shared: Rc<Vec<Tree>>,
     height: u32,
+    depth: u32,
     size: u64,
 }
 
@@ -48,7 +49,7 @@ impl Model for Kids {
 
     ghost view = { λ k. forest_of k.shared.value.items };
 
-    ghost invariant = { λ k. IsCached (forest_of k.shared.value.items) k.height k.size };
+    ghost invariant = { λ k. IsCached (forest_of k.shared.value.items) k.height k.depth k.size };
 
     ghost size = { forest_size };
 
@@ -64,15 +65,18 @@ impl Kids {
         ensures { IfOk result (λ kids. kids ≡ forest_of items) }
     {
         let mut height: u32 = 0;
+        let mut depth: u32 = 0;
         let mut size: u64 = 0;
         for tree in items.as_slice() {
             height = height.max(tree.height());
+            depth = depth.max(tree.depth().saturating_add(1));
             size = size.saturating_add(tree.size());
         }
         let shared = Rc::new(alloc, items.into_vec())?;
         Ok(Kids {
             shared,
             height,
+            depth,
             size,
         })
     }
@@ -93,6 +97,7 @@ impl Kids {
         Ok(Kids {
             shared,
             height: self.height,
+            depth: self.depth,
             size: self.size,
         })
     }
@@ -133,6 +138,16 @@ impl Tree {
         match self {
             Tree::Doc(kids) => kids.height,
             Tree::Elem(_, _, kids) => kids.height.saturating_add(1),
+            _ => 0,
+        }
+    }
+
+    /// How many steps the longest way down from the root has, or the greatest number where there are more.
+    pub fn depth(&self) -> u32
+        ensures { result ≡ min (tree_depth self.now) u32.MAX }
+    {
+        match self {
+            Tree::Doc(kids) | Tree::Elem(_, _, kids) => kids.depth,
             _ => 0,
         }
     }
