@@ -59,7 +59,7 @@ impl Model for Kids {
 }
 
 impl Kids {
-    /// The list of these trees, which are not copied. It takes no walk over them.
+    /// The list of these trees, which are not copied; spare room is given back. It takes no walk below them.
     pub fn make(alloc: Global, items: List<Tree>) -> Result<Kids, AllocError>
         ensures { IfOk result (λ kids. kids ≡ forest_of items) }
     {
@@ -69,7 +69,9 @@ impl Kids {
             height = height.max(tree.height());
             size = size.saturating_add(tree.size());
         }
-        let shared = Rc::new(alloc, items.into_vec())?;
+        let mut trees = items.into_vec();
+        trees.shrink_to_fit();
+        let shared = Rc::new(alloc, trees)?;
         Ok(Kids {
             shared,
             height,
