@@ -18,6 +18,7 @@ mod nodes;
 mod orders;
 mod soundness;
 mod trees;
+mod whites;
 
 pub use attributes::{Attribute, Attrs, copy_attribute_list, copy_attrs_list};
 pub use kinds::Kind;
@@ -25,6 +26,7 @@ pub use nodes::{Node, copy_node_list};
 pub use orders::{order, order_all, order_is_that_of_a_walk, same_node};
 pub use soundness::names_differ;
 pub use trees::{Kids, Tree, copy_kids_list, copy_tree_list};
+pub use whites::is_white;
 
 #[cfg(test)]
 mod tests;

@@ -1,6 +1,6 @@
 ghost use Rattle.std.specs.Prelude.{◌≡◌, ◌+◌, ◌<◌, ◌≤◌, [], None, Some, IfOk, IsTrue, length, option_and_then, option_map};
 ghost use Rattle.std.specs.Option.{option_copied, SomeIff};
-ghost use Rattle.xt_tree.specs.Kinds.{kind_of, name_of};
+ghost use Rattle.xt_tree.specs.Kinds.{kind_of, name_of, target_of};
 ghost use Rattle.xt_tree.specs.Place.{subtree_at, children_of, attributes_at, child_place, attribute_place, parent_of, above_place, subtree_of, attribute_tree, has_place, has_attribute, Place};
 ghost use Rattle.xt_tree.specs.TreeView.{string_value_of};
 
@@ -139,6 +139,16 @@ impl Node {
         match self.attribute {
             Some(place) => Some(&self.own_attribute(place).name),
             None => self.spot().name(),
+        }
+    }
+
+    /// The target of a processing instruction; None at any other node (XDM 5.11).
+    pub fn target(&self) -> Option<&Text>
+        ensures { option_copied result ≡ option_and_then target_of (subtree_of self.now) }
+    {
+        match self.attribute {
+            Some(_) => None,
+            None => self.spot().target(),
         }
     }
 
