@@ -1,0 +1,6 @@
+//! The axes of a path, walked node by node (XPath 2.0, 3.2.1.1).
+#![tactic(auto)]
+
+mod steps;
+
+pub use steps::Steps;
