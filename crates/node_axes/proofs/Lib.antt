@@ -1,3 +1,4 @@
 pub mod PathLemmas
 pub mod FilterLemmas
 pub mod MoveLemmas
+pub mod LoopLemmas

@@ -12,7 +12,7 @@ use Rattle.xt_tree.specs.TreeView.{kids_of, trees, tree_depth}
 use Rattle.xt_tree.proofs.PlaceLemmas.{subtree_at-append, kid_exists}
 use Rattle.node_axes.specs.Paths.{Stands, before, above, same, below, after, then_stands, stands, is_before_all, is_earlier, is_not_later, is_over, has_path}
 use Rattle.node_axes.specs.Moves.{count_at, Down, Right, NoRight, Left, NoLeft, Up, Skips, AllBehind, Backs, NoneBack}
-use Rattle.node_axes.proofs.PathLemmas.{cmp_less, stands-append, stands-push, last_child, next_child, first_child, leaf, child_before, parent_before}
+use Rattle.node_axes.proofs.PathLemmas.{cmp_less, stands-append, stands-push, last_child, next_child, first_child, leaf, kid_within, child_before, parent_before}
 
 -- a way is no longer than the longest
 in_forest : (f : Forest) (i : ℕ) (k : Tree) → slice_get (trees f) i ≡ Some k → tree_depth k + 1 ≤ forest_depth f
@@ -97,8 +97,10 @@ no_rights t old rest place e l front i g =
     let h = push_inj rest front place i (sym e ∙ g) in
     let c : count_at t rest ≡ count_at t front = ap (count_at t) h.0 in omega arith
 
-pub lefts : (t : Tree) (old rest new : List ℕ) (place j : ℕ) → has_path t old ≡ true → old ≡ rest ++ place ∷ [] → place ≡ j + 1 → new ≡ rest ++ j ∷ [] → place < count_at t rest → Left t old new
-lefts t old rest new place j has e p f l = record {
+pub lefts : (t : Tree) (old rest new : List ℕ) (place j : ℕ) → has_path t old ≡ true → old ≡ rest ++ place ∷ [] → place ≡ j + 1 → new ≡ rest ++ j ∷ [] → Left t old new
+lefts t old rest new place j has e p f =
+    let g : has_path t (rest ++ place ∷ []) ≡ true = subst (λ z. has_path t z ≡ true) e has in
+    let l = kid_within t rest place [] g in record {
   to = λ front i g. let h = push_inj rest front place i (sym e ∙ g) in (j, sym h.1 ∙ p, f ∙ ap (λ z. z ++ j ∷ []) h.0);
   exists = subst (λ z. has_path t z ≡ true) (sym f) (has_kid t rest j (omega arith));
 }

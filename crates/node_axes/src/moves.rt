@@ -1,5 +1,6 @@
 // Moves from place to place in a tree. A path has room for the longest way down, so no move takes memory.
 ghost use Rattle.std.specs.Prelude.{◌≡◌, ◌+◌, ◌<◌, ◌≤◌, ◌++◌, ◌∷◌, [], true, false, length, nat_lt, List, ℕ};
+ghost use Rattle.std.specs.Option.{SomeIff};
 ghost use Rattle.std.specs.Vec.{vec_len, vec_capacity};
 ghost use Rattle.xt_tree.specs.TreeView.{tree_depth};
 ghost use Rattle.node_axes.specs.Moves.{count_at, attribute_count_at, Down, Right, NoRight, Left, NoLeft, Up, Skips, AllBehind, Backs, NoneBack};
@@ -28,12 +29,16 @@ pub(crate) fn attribute_count(tree: &Tree, path: &[usize]) -> usize
     }
 }
 
-/// Whether the node at the path has a child behind the place.
-fn has_next(tree: &Tree, path: &[usize], place: usize) -> bool
-    ensures { result ≡ nat_lt (place + 1) (count_at tree.now path.now) }
+/// The place of the child behind the place; None where there is none.
+fn next_place(tree: &Tree, path: &[usize], place: usize) -> Option<usize>
+    ensures { SomeIff result (place + 1 < count_at tree.now path.now) (place + 1) }
 {
     let count = child_count(tree, path);
-    count > 0 && place < count - 1
+    if count > 0 && place < count - 1 {
+        Some(place + 1)
+    } else {
+        None
+    }
 }
 
 /// One step more, for which there is room.
@@ -72,13 +77,13 @@ pub(crate) fn go_right(tree: &Tree, path: &mut Vec<usize>) -> bool
     ensures room { vec_capacity path.old ≤ vec_capacity path.new }
 {
     match path.pop() {
-        Some(place) => {
-            if !has_next(tree, path.as_slice(), place) {
-                return false;
+        Some(place) => match next_place(tree, path.as_slice(), place) {
+            Some(next) => {
+                push(path, next);
+                true
             }
-            push(path, place + 1);
-            true
-        }
+            None => false,
+        },
         None => false,
     }
 }
@@ -111,7 +116,10 @@ pub(crate) fn go_up(tree: &Tree, path: &mut Vec<usize>) -> bool
     ensures room { vec_capacity path.old ≤ vec_capacity path.new }
 {
     let _ = tree;
-    path.pop().is_some()
+    match path.pop() {
+        Some(_) => true,
+        None => false,
+    }
 }
 
 /// To the first node behind all that is below the node, whose way has more steps than so many; false where there is none.
@@ -125,8 +133,8 @@ pub(crate) fn skip(tree: &Tree, path: &mut Vec<usize>, base: usize) -> bool
 {
     while path.len() > base {
         if let Some(place) = path.pop() {
-            if has_next(tree, path.as_slice(), place) {
-                push(path, place + 1);
+            if let Some(next) = next_place(tree, path.as_slice(), place) {
+                push(path, next);
                 return true;
             }
         }
