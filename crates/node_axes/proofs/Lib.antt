@@ -2,3 +2,4 @@ pub mod PathLemmas
 pub mod FilterLemmas
 pub mod MoveLemmas
 pub mod LoopLemmas
+pub mod StartLemmas

@@ -6,7 +6,7 @@ use Rattle.std.specs.declared.cmp.Ordering.TheVariants.{Less}
 use Rattle.xt_tree.specs.declared.trees.Tree.{Tree}
 use Rattle.node_axes.specs.Paths.{Stands, before, above, same, below, after, then_stands, stands, is_before_all, is_earlier, is_not_later, is_over, has_path}
 use Rattle.node_axes.specs.Moves.{count_at, Down, Skips, AllBehind, Backs, NoneBack}
-use Rattle.node_axes.proofs.PathLemmas.{flip, stands-flip, cmp_less, cmp_equal, stands-append, same_is, last_child, next_child, first_child, leaf, child_before, parent_before}
+use Rattle.node_axes.proofs.PathLemmas.{flip, stands-flip, cmp_less, cmp_equal, stands-append, same_is, last_child, next_child, first_child, leaf, kid_within, child_before, parent_before}
 use Rattle.node_axes.proofs.MoveLemmas.{has_begin, has_kid, has_room, has_depth}
 
 pub before_is_earlier : (s : Stands) → is_before_all s ≡ true → is_earlier s ≡ true
@@ -217,3 +217,41 @@ pub back_end : (t : Tree) (start old now : List ℕ) → Back t start old now �
 back_end t start old now b e m g a = false_from_ne_true (is_earlier (stands m old)) (λ w.
     let x : is_earlier (stands m []) ≡ true = subst (λ z. is_earlier (stands m z) ≡ true) e (b.last m g a w) in
     both_ways (is_earlier (stands m [])) (no_way_back m) x)
+
+-- what each loop keeps
+pub record Climbing (t : Tree) (base : ℕ) (old now : List ℕ) (room_old room_now : ℕ) : Type 0 where
+  pub climb : Climb t base old now
+  pub room : room_old ≤ room_now
+
+pub record Sinking (t : Tree) (old now : List ℕ) (count room_old room_now : ℕ) : Type 0 where
+  pub sinks : Sinks t old now
+  pub counted : count ≡ count_at t now
+  pub room : room_old ≤ room_now
+
+pub record Backing (t : Tree) (start old now : List ℕ) (room_old room_now : ℕ) : Type 0 where
+  pub back : Back t start old now
+  pub room : room_old ≤ room_now
+
+pub mid_exists : (t : Tree) (now rest mid : List ℕ) (i : ℕ) → has_path t now ≡ true → now ≡ rest ++ i ∷ [] → mid ≡ rest ++ (i - 1) ∷ [] → has_path t mid ≡ true
+mid_exists t now rest mid i h e f =
+    let w = kid_within t rest i [] (subst (λ z. has_path t z ≡ true) e h) in
+    subst (λ z. has_path t z ≡ true) (sym f) (has_kid t rest (i - 1) (omega arith))
+
+pub back_left_at : (t : Tree) (start old now rest mid new : List ℕ) (i : ℕ) → has_path t start ≡ true → has_path t old ≡ true → Back t start old now → now ≡ rest ++ i ∷ [] → 0 < i
+    → mid ≡ rest ++ (i - 1) ∷ [] → Sinks t mid new → count_at t new ≡ 0 → Backs t start old new
+back_left_at t start old now rest mid new i hs ho b e l f s n =
+    let p : i ≡ i - 1 + 1 = omega arith in
+    back_left t start old now rest mid new (i - 1) hs ho b (e ∙ ap (λ z. rest ++ z ∷ []) p) f s n
+
+pub at_first : (now rest : List ℕ) (i : ℕ) → now ≡ rest ++ i ∷ [] → i ≤ 0 → now ≡ rest ++ 0 ∷ []
+at_first now rest i e l = let z : i ≡ 0 = omega arith in e ∙ ap (λ j. rest ++ j ∷ []) z
+
+pub no_length : (xs : List ℕ) → length xs ≡ 0 → xs ≡ []
+no_length [] e = refl
+no_length (x ∷ xs) e = absurd (omega arith)
+
+pub on_skip_from : (t : Tree) (base : ℕ) (old mid new : List ℕ) → mid ≡ old → count_at t old ≡ 0 → Skips is_before_all t base mid new → Skips is_earlier t base old new
+on_skip_from t base old mid new e n s = on_skip t base old new n (subst (λ z. Skips is_before_all t base z new) e s)
+
+pub on_end_from : (t : Tree) (base : ℕ) (old mid : List ℕ) → mid ≡ old → count_at t old ≡ 0 → AllBehind is_before_all t base mid → AllBehind is_earlier t base old
+on_end_from t base old mid e n s = on_end t base old n (subst (λ z. AllBehind is_before_all t base z) e s)
