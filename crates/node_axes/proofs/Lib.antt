@@ -3,3 +3,4 @@ pub mod FilterLemmas
 pub mod MoveLemmas
 pub mod LoopLemmas
 pub mod StartLemmas
+pub mod AxisLemmas

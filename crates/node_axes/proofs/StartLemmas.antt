@@ -21,7 +21,7 @@ eq_places i j (inr (inr h)) = ne_eqb i j (λ e. omega arith) ∙ sym (ap is_equa
 pub eq_cmp : (i j : ℕ) → nat_eq i j ≡ is_equal (nat_cmp i j)
 eq_cmp i j = eq_places i j (places i j)
 
-over_step : (o : Ordering) (b : Bool) (s : Stands) → b ≡ is_over s → (is_equal o && b) ≡ is_over (then_stands o s)
+pub over_step : (o : Ordering) (b : Bool) (s : Stands) → b ≡ is_over s → (is_equal o && b) ≡ is_over (then_stands o s)
 over_step Less b s e = refl
 over_step Equal b s e = e
 over_step Greater b s e = refl
