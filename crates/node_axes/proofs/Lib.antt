@@ -4,3 +4,4 @@ pub mod MoveLemmas
 pub mod LoopLemmas
 pub mod StartLemmas
 pub mod AxisLemmas
+pub mod LandLemmas

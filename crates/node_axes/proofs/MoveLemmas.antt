@@ -88,6 +88,7 @@ downs t old new l e = record { to = e; exists = subst (λ z. has_path t z ≡ tr
 
 pub rights : (t : Tree) (old rest new : List ℕ) (place : ℕ) → old ≡ rest ++ place ∷ [] → place + 1 < count_at t rest → new ≡ rest ++ (place + 1) ∷ [] → Right t old new
 rights t old rest new place e l f = record {
+  from = (rest, place, e);
   to = λ front i g. let h = push_inj rest front place i (sym e ∙ g) in f ∙ (let u = h.0 in let v = h.1 in cc);
   exists = subst (λ z. has_path t z ≡ true) (sym f) (has_kid t rest (place + 1) l);
 }
@@ -101,6 +102,7 @@ pub lefts : (t : Tree) (old rest new : List ℕ) (place j : ℕ) → has_path t 
 lefts t old rest new place j has e p f =
     let g : has_path t (rest ++ place ∷ []) ≡ true = subst (λ z. has_path t z ≡ true) e has in
     let l = kid_within t rest place [] g in record {
+  from = (rest, place, e);
   to = λ front i g. let h = push_inj rest front place i (sym e ∙ g) in (j, sym h.1 ∙ p, f ∙ ap (λ z. z ++ j ∷ []) h.0);
   exists = subst (λ z. has_path t z ≡ true) (sym f) (has_kid t rest j (omega arith));
 }

@@ -21,6 +21,7 @@ pub record Down (t : Tree) (old new : List ℕ) : Type 0 where
 
 -- to the next child
 pub record Right (t : Tree) (old new : List ℕ) : Type 0 where
+  pub from : (front : List ℕ) × (i : ℕ) × (old ≡ front ++ i ∷ [])
   pub to : (front : List ℕ) (i : ℕ) → old ≡ front ++ i ∷ [] → new ≡ front ++ (i + 1) ∷ []
   pub exists : has_path t new ≡ true
 
@@ -30,6 +31,7 @@ NoRight t old = (front : List ℕ) (i : ℕ) → old ≡ front ++ i ∷ [] → c
 
 -- to the child before
 pub record Left (t : Tree) (old new : List ℕ) : Type 0 where
+  pub from : (front : List ℕ) × (i : ℕ) × (old ≡ front ++ i ∷ [])
   pub to : (front : List ℕ) (i : ℕ) → old ≡ front ++ i ∷ [] → (j : ℕ) × (i ≡ j + 1) × (new ≡ front ++ j ∷ [])
   pub exists : has_path t new ≡ true
 
