@@ -16,7 +16,7 @@ use Rattle.node_axes.proofs.MoveLemmas.{push_inj}
 use Rattle.node_axes.proofs.LoopLemmas.{before_is_earlier, stands-same, stands-longer, next_stands}
 use Rattle.node_axes.proofs.AxisLemmas.{is_up, is_one, earlier_spot, before_is, same_path_is, descendant_is, following_is, attribute_following_is, child_parts, child_on, Siblings, siblings_parts, siblings_on}
 
-no_one : {A : Type 0} → false ≡ true → A
+pub no_one : {A : Type 0} → false ≡ true → A
 no_one e = cc
 
 none_earlier : (s : Stands) → earlier_spot None None s ≡ is_earlier s
@@ -225,7 +225,7 @@ unfolding is_further is_reverse
 sibling_further u v = plain_before u v
 
 -- the place of a later sibling under the same parent
-same_front : (p u f : List ℕ) (i : ℕ) → p ≡ f ++ i ∷ [] → Siblings p u → (l : ℕ) × (u ≡ f ++ l ∷ []) × (i < l)
+pub same_front : (p u f : List ℕ) (i : ℕ) → p ≡ f ++ i ∷ [] → Siblings p u → (l : ℕ) × (u ≡ f ++ l ∷ []) × (i < l)
 same_front p u f i e s =
     let x = push_inj f s.front i s.left (sym e ∙ s.left_is) in
     let r : u ≡ f ++ s.right ∷ [] = s.right_is ∙ ap (λ z. z ++ s.right ∷ []) (sym x.0) in
@@ -255,11 +255,11 @@ sibling_next t p q new o r = sibling_step t p q new (near_siblings p q (siblings
 pub sibling_end : (t : Tree) (p q : List ℕ) → on_axis FollowingSibling (p, None) (q, None) ≡ true → NoRight t q → Ends FollowingSibling t (p, None) (is_further FollowingSibling (q, None))
 sibling_end t p q o r = sibling_stop t p q (near_siblings p q (siblings_parts p q (sym (sibling_axis p q) ∙ o))) r
 
-siblings_later : (p u : List ℕ) → Siblings p u → is_earlier (stands p u) ≡ true
+pub siblings_later : (p u : List ℕ) → Siblings p u → is_earlier (stands p u) ≡ true
 siblings_later p u s =
     ap (λ z. is_earlier (stands z u)) s.left_is ∙ ap (λ z. is_earlier (stands (s.front ++ s.left ∷ []) z)) s.right_is ∙ ap is_earlier (before_beside s.front s.left s.right s.order)
 
-spot_first : (t : Tree) (n : Spot) (b : Spot → Bool) (axis : Axis) (new : Spot) (u : List ℕ) → Lands axis t n b new → has_path t u ≡ true → on_axis axis n (u, None) ≡ true → b (u, None) ≡ true → is_further axis (u, None) new ≡ false
+pub spot_first : (t : Tree) (n : Spot) (b : Spot → Bool) (axis : Axis) (new : Spot) (u : List ℕ) → Lands axis t n b new → has_path t u ≡ true → on_axis axis n (u, None) ≡ true → b (u, None) ≡ true → is_further axis (u, None) new ≡ false
 unfolding has_path has_spot
 spot_first t n b axis new u s h o g = s.first (u, None) h o g
 

@@ -5,3 +5,5 @@ pub mod LoopLemmas
 pub mod StartLemmas
 pub mod AxisLemmas
 pub mod LandLemmas
+pub mod DownLemmas
+pub mod UpLemmas
