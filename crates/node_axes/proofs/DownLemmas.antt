@@ -110,7 +110,7 @@ no_attribute_below : (p u : List ℕ) (k : ℕ) → on_axis Descendant (p, None)
 unfolding on_axis is_descendant is_attribute
 no_attribute_below p u k = refl
 
-below_axis : (p u : List ℕ) → on_axis Descendant (p, None) (u, None) ≡ is_up (stands p u)
+pub below_axis : (p u : List ℕ) → on_axis Descendant (p, None) (u, None) ≡ is_up (stands p u)
 unfolding on_axis
 below_axis p u = descendant_is p u
 
@@ -216,7 +216,7 @@ with_cases same = refl
 with_cases below = refl
 with_cases after = refl
 
-with_axis : (p u : List ℕ) → on_axis DescendantOrSelf (p, None) (u, None) ≡ is_over (stands p u)
+pub with_axis : (p u : List ℕ) → on_axis DescendantOrSelf (p, None) (u, None) ≡ is_over (stands p u)
 unfolding on_axis is_itself same_attribute
 with_axis p u = ap (λ b. (b && true) || is_descendant (p, None) (u, None)) (same_path_is p u) ∙ ap (λ b. (is_one (stands p u) && true) || b) (descendant_is p u) ∙ with_cases (stands p u)
 

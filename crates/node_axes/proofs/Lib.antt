@@ -7,3 +7,6 @@ pub mod AxisLemmas
 pub mod LandLemmas
 pub mod DownLemmas
 pub mod UpLemmas
+pub mod TopLemmas
+pub mod AnyLemmas
+pub mod CourseLemmas

@@ -26,10 +26,10 @@ one_is same h = refl
 one_is below h = no_one h
 one_is after h = no_one h
 
-path_is : (p u : List ℕ) → same_path p u ≡ true → p ≡ u
+pub path_is : (p u : List ℕ) → same_path p u ≡ true → p ≡ u
 path_is p u h = same_is p u (one_is (stands p u) (sym (same_path_is p u) ∙ h))
 
-attribute_is : (a b : Option ℕ) → same_attribute a b ≡ true → a ≡ b
+pub attribute_is : (a b : Option ℕ) → same_attribute a b ≡ true → a ≡ b
 unfolding same_attribute
 attribute_is None None h = refl
 attribute_is None (Some y) h = no_one h
@@ -39,7 +39,7 @@ attribute_is (Some x) (Some y) h = ap (λ z. Some z) (eqb-true x y h)
 pair_is : (s : Spot) (p : List ℕ) (a : Option ℕ) → p ≡ s.0 → a ≡ s.1 → s ≡ (p, a)
 pair_is s p a i j = rw (i, j)
 
-itself_is : (n m : Spot) → is_itself n m ≡ true → n ≡ m
+pub itself_is : (n m : Spot) → is_itself n m ≡ true → n ≡ m
 unfolding is_itself
 itself_is (p, a) (u, b) h =
     let x = and_parts (same_path p u) (same_attribute a b) h in pair_is (p, a) u b (sym (path_is p u x.0)) (sym (attribute_is a b x.1))
@@ -62,10 +62,10 @@ not_less (Some x) = le-ltb x x (omega arith)
 pub not_before_itself : (n : Spot) → is_before n n ≡ false
 not_before_itself (p, a) = before_is p p a a ∙ ap (earlier_spot a a) (stands-same p) ∙ not_less a
 
-not_before_same : (n m : Spot) → is_itself n m ≡ true → is_before m n ≡ false
+pub not_before_same : (n m : Spot) → is_itself n m ≡ true → is_before m n ≡ false
 not_before_same n m h = let e = itself_is n m h in subst (λ z. is_before z n ≡ false) e (not_before_itself n)
 
-not_after_same : (n m : Spot) → is_itself n m ≡ true → is_before n m ≡ false
+pub not_after_same : (n m : Spot) → is_itself n m ≡ true → is_before n m ≡ false
 not_after_same n m h = let e = itself_is n m h in subst (λ z. is_before n z ≡ false) e (not_before_itself n)
 
 pub itself_first : (t : Tree) (n : Spot) → has_spot t n ≡ true → Lands Itself t n every n
@@ -86,10 +86,10 @@ over_flip same h = refl
 over_flip below h = no_one h
 over_flip after h = no_one h
 
-under_not_earlier : (p u : List ℕ) → is_over (stands u p) ≡ true → is_earlier (stands p u) ≡ false
+pub under_not_earlier : (p u : List ℕ) → is_over (stands u p) ≡ true → is_earlier (stands p u) ≡ false
 under_not_earlier p u h = ap is_earlier (stands-flip u p) ∙ over_flip (stands u p) h
 
-over_attribute : (k : ℕ) (s : Stands) → is_over s ≡ true → earlier_spot (Some k) None (flip s) ≡ false
+pub over_attribute : (k : ℕ) (s : Stands) → is_over s ≡ true → earlier_spot (Some k) None (flip s) ≡ false
 over_attribute k before h = no_one h
 over_attribute k above h = refl
 over_attribute k same h = refl
@@ -208,11 +208,11 @@ unfolding is_ancestor is_attribute
 no_attribute_over n u k = refl
 
 -- an ancestor is over the node, or over the element of an attribute
-over_parts : (p u : List ℕ) (a : Option ℕ) → is_ancestor (p, a) (u, None) ≡ true → is_over (stands u p) ≡ true
+pub over_parts : (p u : List ℕ) (a : Option ℕ) → is_ancestor (p, a) (u, None) ≡ true → is_over (stands u p) ≡ true
 over_parts p u None h = up_is_over (stands u p) (sym (ancestor_is p u) ∙ h)
 over_parts p u (Some k) h = sym (attribute_ancestor_is p u k) ∙ h
 
-over_on : (p u : List ℕ) (a : Option ℕ) → stands u p ≡ above → is_ancestor (p, a) (u, None) ≡ true
+pub over_on : (p u : List ℕ) (a : Option ℕ) → stands u p ≡ above → is_ancestor (p, a) (u, None) ≡ true
 over_on p u None h = ancestor_is p u ∙ ap is_up h
 over_on p u (Some k) h = attribute_ancestor_is p u k ∙ ap is_over h
 
@@ -227,7 +227,7 @@ over_split p q below e h = no_one h
 over_split p q after e h = no_one h
 
 -- the parent of what is over a node is above it
-above_over : (p q new : List ℕ) (i : ℕ) → q ≡ new ++ i ∷ [] → is_over (stands q p) ≡ true → stands new p ≡ above
+pub above_over : (p q new : List ℕ) (i : ℕ) → q ≡ new ++ i ∷ [] → is_over (stands q p) ≡ true → stands new p ≡ above
 above_over p q new i e o =
     let x = over_split p q (stands q p) refl o in
     let f : p ≡ new ++ i ∷ x.0 = x.1 ∙ ap (λ z. z ++ x.0) e ∙ append_assoc new (i ∷ []) x.0 in
@@ -258,7 +258,7 @@ over_or_same p q u same e h o b =
 over_or_same p q u below e h o b = no_one h
 over_or_same p q u after e h o b = no_one h
 
-both_over : (p q u : List ℕ) → is_over (stands u p) ≡ true → is_over (stands q p) ≡ true → is_earlier (stands u q) ≡ true → stands u q ≡ above
+pub both_over : (p q u : List ℕ) → is_over (stands u p) ≡ true → is_over (stands q p) ≡ true → is_earlier (stands u q) ≡ true → stands u q ≡ above
 both_over p q u o o' h = earlier_cases (stands u q) h (λ b. over_or_same p q u (stands q p) refl o' o b)
 
 -- nothing that is above a node is behind its parent
@@ -276,7 +276,7 @@ not_crossing u new q i e a b =
     let y : is_before_all (stands new q) ≡ false = ap (λ z. is_before_all (stands new z)) e ∙ ap is_before_all (stands-longer new i []) in
     both_ways (is_before_all (stands new q)) y x
 
-nothing_between : (u new q : List ℕ) (i : ℕ) → q ≡ new ++ i ∷ [] → stands u q ≡ above → is_earlier (stands new u) ≡ false
+pub nothing_between : (u new q : List ℕ) (i : ℕ) → q ≡ new ++ i ∷ [] → stands u q ≡ above → is_earlier (stands new u) ≡ false
 nothing_between u new q i e a = false_from_ne_true (is_earlier (stands new u)) (λ h.
     no_longer u new q i e a (earlier_cases (stands new u) h (λ b. not_crossing u new q i e a b)))
 
@@ -304,7 +304,7 @@ ancestor_first t p new s =
         let x = up_above (stands u p) (sym (ancestor_is p u) ∙ sym (ancestor_axis (p, None) (u, None)) ∙ o) in
         ancestor_further u new ∙ nothing_between u new p s.to.0 s.to.1 x)
 
-root_is_top : (u : List ℕ) → is_earlier (stands u []) ≡ false
+pub root_is_top : (u : List ℕ) → is_earlier (stands u []) ≡ false
 unfolding stands
 root_is_top [] = refl
 root_is_top (i ∷ u) = refl

@@ -1,6 +1,7 @@
 //! The axes of a path, walked node by node (XPath 2.0, 3.2.1.1).
 #![tactic(auto)]
 
+mod axis_steps;
 mod laws;
 mod moves;
 mod steps;
