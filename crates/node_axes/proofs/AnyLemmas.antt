@@ -8,8 +8,9 @@ use Rattle.xt_types.specs.declared.axes.Axis.TheVariants.{Child, Descendant, Att
 use Rattle.node_axes.specs.Axes.{on_axis}
 use Rattle.node_axes.specs.Course.{is_further}
 use Rattle.node_axes.specs.Paths.{Stands, before, above, same, below, after, stands, is_over, has_path}
-use Rattle.node_axes.specs.Moves.{count_at, Right, NoRight, Left, NoLeft, Skips, AllBehind, has_spot, Lands, Ends, every}
-use Rattle.node_axes.specs.Paths.{is_earlier}
+use Rattle.node_axes.specs.Moves.{count_at, Right, NoRight, Left, NoLeft, Skips, AllBehind, Backs, NoneBack, has_spot, Lands, Ends, every}
+use Rattle.node_axes.specs.Paths.{is_earlier, is_not_later}
+use Rattle.node_axes.proofs.LoopLemmas.{stands-same}
 use Rattle.node_axes.proofs.PathLemmas.{above_is, same_is}
 use Rattle.node_axes.proofs.LandLemmas.{no_one, child_next, child_end, sibling_next, sibling_end}
 use Rattle.node_axes.proofs.DownLemmas.{left_next, left_end, below_next, below_end, with_next, with_end, below_axis, with_axis, up_is_over}
@@ -88,3 +89,43 @@ start_ends axis t b p old a c e f l =
 pub plain_spot : (t : Tree) (p : List ℕ) → has_path t p ≡ true → has_spot t (p, None) ≡ true
 unfolding has_path has_spot
 plain_spot t p h = h
+
+pub at_lands : (axis ax : Axis) (t t' : Tree) (p old : List ℕ) (a c : Option ℕ) (b : Spot → Bool) (new : Spot) → axis ≡ ax → t' ≡ t → old ≡ p → a ≡ c → Lands ax t' (old, c) b new → Lands axis t (p, a) b new
+at_lands axis ax t t' p old a c b new h g e f l =
+    subst (λ z. Lands z t (p, a) b new) (sym h) (subst (λ z. Lands ax z (p, a) b new) g (start_lands ax t' b p old a c new e f l))
+
+pub at_ends : (axis ax : Axis) (t t' : Tree) (p old : List ℕ) (a c : Option ℕ) (b : Spot → Bool) → axis ≡ ax → t' ≡ t → old ≡ p → a ≡ c → Ends ax t' (old, c) b → Ends axis t (p, a) b
+at_ends axis ax t t' p old a c b h g e f l =
+    subst (λ z. Ends z t (p, a) b) (sym h) (subst (λ z. Ends ax z (p, a) b) g (start_ends ax t' b p old a c e f l))
+
+pub on_next : (axis ax : Axis) (t t' : Tree) (n s new : Spot) → axis ≡ ax → t' ≡ t → Lands ax t' n (is_further ax s) new → Lands axis t n (is_further axis s) new
+on_next axis ax t t' n s new h g l =
+    subst (λ z. Lands z t n (is_further z s) new) (sym h) (subst (λ z. Lands ax z n (is_further ax s) new) g l)
+
+pub on_end : (axis ax : Axis) (t t' : Tree) (n s : Spot) → axis ≡ ax → t' ≡ t → Ends ax t' n (is_further ax s) → Ends axis t n (is_further axis s)
+on_end axis ax t t' n s h g l =
+    subst (λ z. Ends z t n (is_further z s)) (sym h) (subst (λ z. Ends ax z n (is_further ax s)) g l)
+
+pub on_as : (axis ax : Axis) (n s : Spot) → axis ≡ ax → on_axis axis n s ≡ true → on_axis ax n s ≡ true
+on_as axis ax n s h o = subst (λ z. on_axis z n s ≡ true) h o
+
+pub base_skips : (t : Tree) (base : ℕ) (p q new : List ℕ) → base ≡ length p → Skips is_earlier t base q new → Skips is_earlier t (length p) q new
+base_skips t base p q new e s = subst (λ z. Skips is_earlier t z q new) e s
+
+pub base_behind : (t : Tree) (base : ℕ) (p q : List ℕ) → base ≡ length p → AllBehind is_earlier t base q → AllBehind is_earlier t (length p) q
+base_behind t base p q e s = subst (λ z. AllBehind is_earlier t z q) e s
+
+pub backs_at : (t : Tree) (s p old new : List ℕ) → s ≡ p → Backs t s old new → Backs t p old new
+backs_at t s p old new e b = subst (λ z. Backs t z old new) e b
+
+pub none_back_at : (t : Tree) (s p old : List ℕ) → s ≡ p → NoneBack t s old → NoneBack t p old
+none_back_at t s p old e b = subst (λ z. NoneBack t z old) e b
+
+pub same_not_later : (p q : List ℕ) → p ≡ q → is_not_later (stands p q) ≡ true
+same_not_later p q e = ap (λ z. is_not_later (stands p z)) (sym e) ∙ ap is_not_later (stands-same p)
+
+pub clear_at : (s p q : List ℕ) → s ≡ p → is_not_later (stands q p) ≡ true → is_not_later (stands q s) ≡ true
+clear_at s p q e h = ap (λ z. is_not_later (stands q z)) e ∙ h
+
+pub base_at : (s p q : List ℕ) → s ≡ p → length p ≤ length q → length s ≤ length q
+base_at s p q e h = let l = ap length e in omega arith
