@@ -4,6 +4,7 @@ use Rattle.std.proofs.lemmas.List.{reverse-append}
 use Rattle.std.proofs.lemmas.List.Elements.{filter_agree}
 use Rattle.std.proofs.lemmas.Cmp.{nat_cmp_total}
 use Rattle.std.specs.List.{filter, AllPairs}
+use Rattle.std.specs.Option.{option_to_list}
 use Rattle.std.specs.declared.cmp.Ordering.{Ordering}
 use Rattle.std.specs.declared.cmp.Ordering.TheVariants.{Less, Equal, Greater}
 use Rattle.std.specs.Ordering.{nat_cmp, ordering_reverse}
@@ -16,7 +17,7 @@ use Rattle.xt_tree.proofs.WalkLemmas.{walk_rises}
 use Rattle.xt_tree.proofs.WalkPlaces.{walk_is_exact}
 use Rattle.xt_types.specs.declared.axes.Axis.{Axis}
 use Rattle.node_axes.specs.Axes.{is_less, is_before, is_reverse, in_axis_order, on_axis, spot_of, place_at, axis_nodes}
-use Rattle.node_axes.specs.Course.{is_further, nodes_after, come_after}
+use Rattle.node_axes.specs.Course.{is_further, nodes_after, come_after, present_at}
 use Rattle.node_axes.specs.Moves.{has_spot, Lands, Ends, every}
 use Rattle.node_axes.proofs.FilterLemmas.{In, Rising, Contains-from_In, In-from_Contains, Rising-from_pairs, none_pass, first_passing, last_passing}
 use Rattle.node_axes.proofs.LandLemmas.{no_one}
@@ -156,3 +157,60 @@ next_lands axis n m new l =
 pub next_ends : (axis : Axis) (n m : Place) → Ends axis n.tree (spot_of n) (is_further axis (spot_of m)) → nodes_after axis n m ≡ []
 unfolding nodes_after spot_of
 next_ends axis n m e = ap (map (place_at n)) (ended axis n.tree (spot_of n) (is_further axis (spot_of m)) e)
+
+-- what is to come at each step of a walk
+pub walk_first_from : (axis : Axis) (n : Place) (p q : List ℕ) (a c : Option ℕ) → Lands axis n.tree (spot_of n) every (p, a)
+    → come_after axis n false (present_at false n q c) ≡ option_to_list (present_at true n p a) ++ come_after axis n true (present_at true n p a)
+unfolding come_after present_at
+walk_first_from axis n p q a c l = first_lands axis n (p, a) l
+
+pub walk_next : (axis : Axis) (n : Place) (q : List ℕ) (c : Option ℕ) (p : List ℕ) (a : Option ℕ) → Lands axis n.tree (spot_of n) (is_further axis (q, c)) (p, a)
+    → come_after axis n true (present_at true n q c) ≡ option_to_list (present_at true n p a) ++ come_after axis n true (present_at true n p a)
+unfolding come_after present_at
+walk_next axis n q c p a l = next_lands axis n (place_at n (q, c)) (p, a) l
+
+pub walk_none : (axis : Axis) (n : Place) (p q : List ℕ) (a c : Option ℕ) → Ends axis n.tree (spot_of n) every
+    → come_after axis n false (present_at false n q c) ≡ option_to_list (present_at false n p a) ++ come_after axis n true (present_at false n p a)
+unfolding come_after present_at
+walk_none axis n p q a c e = first_ends axis n e
+
+pub walk_end : (axis : Axis) (n : Place) (p q : List ℕ) (a c : Option ℕ) → Ends axis n.tree (spot_of n) (is_further axis (q, c))
+    → come_after axis n true (present_at true n q c) ≡ option_to_list (present_at false n p a) ++ come_after axis n true (present_at false n p a)
+unfolding come_after present_at
+walk_end axis n p q a c e = next_ends axis n (place_at n (q, c)) e
+
+pub walk_past : (axis : Axis) (n : Place) (p q : List ℕ) (a c : Option ℕ)
+    → come_after axis n true (present_at false n q c) ≡ option_to_list (present_at false n p a) ++ come_after axis n true (present_at false n p a)
+unfolding come_after present_at
+walk_past axis n p q a c = refl
+
+begun_of : (begun here : Bool) → (begun ≡ false → here ≡ false) → here ≡ true → begun ≡ true
+begun_of true here f h = refl
+begun_of false here f h = no_one (sym (f refl) ∙ h)
+
+here_cases : (axis : Axis) (n : Place) (r : Bool) (q p : List ℕ) (c a : Option ℕ) → (r ≡ true → Lands axis n.tree (spot_of n) (is_further axis (q, c)) (p, a)) → (r ≡ false → Ends axis n.tree (spot_of n) (is_further axis (q, c)))
+    → come_after axis n true (present_at true n q c) ≡ option_to_list (present_at r n p a) ++ come_after axis n true (present_at r n p a)
+here_cases axis n true q p c a yes no = walk_next axis n q c p a (yes refl)
+here_cases axis n false q p c a yes no = walk_end axis n p q a c (no refl)
+
+pub walk_here : (axis : Axis) (n : Place) (begun here r : Bool) (q p : List ℕ) (c a : Option ℕ) → (begun ≡ false → here ≡ false) → here ≡ true
+    → (r ≡ true → Lands axis n.tree (spot_of n) (is_further axis (q, c)) (p, a)) → (r ≡ false → Ends axis n.tree (spot_of n) (is_further axis (q, c)))
+    → come_after axis n begun (present_at here n q c) ≡ option_to_list (present_at r n p a) ++ come_after axis n true (present_at r n p a)
+walk_here axis n begun here r q p c a f h yes no =
+    ap (λ z. come_after axis n z (present_at here n q c)) (begun_of begun here f h) ∙ ap (λ z. come_after axis n true (present_at z n q c)) h ∙ here_cases axis n r q p c a yes no
+
+pub walk_over : (axis : Axis) (n : Place) (begun here : Bool) (q : List ℕ) (c : Option ℕ) → begun ≡ true → here ≡ false
+    → come_after axis n begun (present_at here n q c) ≡ option_to_list (present_at false n q c) ++ come_after axis n true (present_at false n q c)
+walk_over axis n begun here q c g h =
+    ap (λ z. come_after axis n z (present_at here n q c)) g ∙ ap (λ z. come_after axis n true (present_at z n q c)) h ∙ walk_past axis n q q c c
+
+begin_cases : (axis : Axis) (n : Place) (r : Bool) (q p : List ℕ) (c a : Option ℕ) → (r ≡ true → Lands axis n.tree (spot_of n) every (p, a)) → (r ≡ false → Ends axis n.tree (spot_of n) every)
+    → come_after axis n false (present_at false n q c) ≡ option_to_list (present_at r n p a) ++ come_after axis n true (present_at r n p a)
+begin_cases axis n true q p c a yes no = walk_first_from axis n p q a c (yes refl)
+begin_cases axis n false q p c a yes no = walk_none axis n p q a c (no refl)
+
+pub walk_begin : (axis : Axis) (n : Place) (begun here r : Bool) (q p : List ℕ) (c a : Option ℕ) → begun ≡ false → here ≡ false
+    → (r ≡ true → Lands axis n.tree (spot_of n) every (p, a)) → (r ≡ false → Ends axis n.tree (spot_of n) every)
+    → come_after axis n begun (present_at here n q c) ≡ option_to_list (present_at r n p a) ++ come_after axis n true (present_at r n p a)
+walk_begin axis n begun here r q p c a g h yes no =
+    ap (λ z. come_after axis n z (present_at here n q c)) g ∙ ap (λ z. come_after axis n false (present_at z n q c)) h ∙ begin_cases axis n r q p c a yes no

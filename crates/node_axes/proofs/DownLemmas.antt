@@ -252,7 +252,7 @@ mid_false : (x y : Bool) → (x && false && y) ≡ false
 mid_false true y = refl
 mid_false false y = refl
 
-no_attribute_follows : (n : Spot) (u : List ℕ) (k : ℕ) → on_axis Following n (u, Some k) ≡ false
+pub no_attribute_follows : (n : Spot) (u : List ℕ) (k : ℕ) → on_axis Following n (u, Some k) ≡ false
 unfolding on_axis is_following is_attribute
 no_attribute_follows n u k = mid_false (is_before n (u, Some k)) (not (is_descendant n (u, Some k)))
 
@@ -308,7 +308,7 @@ follows_end t n q s =
     (λ u h o. follows_further q u ∙ false_from_ne_true (is_earlier (stands q u)) (λ g. no_one (sym (root_not_before u) ∙ s u h g)))
 
 -- ---- what precedes
-no_attribute_precedes : (n : Spot) (u : List ℕ) (k : ℕ) → on_axis Preceding n (u, Some k) ≡ false
+pub no_attribute_precedes : (n : Spot) (u : List ℕ) (k : ℕ) → on_axis Preceding n (u, Some k) ≡ false
 unfolding on_axis is_preceding is_attribute
 no_attribute_precedes n u k = mid_false (is_before (u, Some k) n) _
 

@@ -9,4 +9,5 @@ pub mod DownLemmas
 pub mod UpLemmas
 pub mod TopLemmas
 pub mod AnyLemmas
+pub mod EndLemmas
 pub mod CourseLemmas

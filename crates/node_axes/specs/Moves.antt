@@ -1,7 +1,8 @@
 -- What one move in a tree gives.
 use Rattle.std.specs.Prelude.{◌≡◌, ℕ, ◌+◌, ◌<◌, ◌≤◌, List, [], ◌∷◌, ◌++◌, length, take, Bool, true, false, Option, Some, None}
 use Rattle.xt_tree.specs.declared.trees.Tree.{Tree}
-use Rattle.xt_tree.specs.Place.{subtree_at, subtree_kids, subtree_attributes, has_attribute}
+use Rattle.xt_tree.specs.Place.{Place, subtree_at, subtree_kids, subtree_attributes, has_attribute}
+use Rattle.xt_tree.specs.TreeView.{tree_depth}
 use Rattle.xt_tree.specs.Walk.{Spot}
 use Rattle.xt_types.specs.declared.axes.Axis.{Axis}
 use Rattle.node_axes.specs.Axes.{on_axis}
@@ -79,6 +80,16 @@ pub record Lands (axis : Axis) (t : Tree) (n : Spot) (passing : Spot → Bool) (
 -- none passes
 abbrev pub Ends : Axis → Tree → Spot → (Spot → Bool) → Type 0
 Ends axis t n passing = (m : Spot) → has_spot t m ≡ true → on_axis axis n m ≡ true → passing m ≡ false
+
+-- Where a walk along an axis stands: before its first step at the start, and later on a node of the axis or past its end.
+pub record IsSteady (axis : Axis) (n : Place) (begun here : Bool) (path : List ℕ) (attribute : Option ℕ) (room : ℕ) : Type 0 where
+  pub start : has_spot n.tree (n.path, n.attribute) ≡ true
+  pub room_is : tree_depth n.tree ≤ room
+  pub ahead : begun ≡ false → here ≡ false
+  pub path_is : begun ≡ false → path ≡ n.path
+  pub attribute_is : begun ≡ false → attribute ≡ n.attribute
+  pub exists : here ≡ true → has_spot n.tree (path, attribute) ≡ true
+  pub on : here ≡ true → on_axis axis (n.path, n.attribute) (path, attribute) ≡ true
 
 abbrev pub every : Spot → Bool
 every s = true

@@ -2,9 +2,11 @@
 #![tactic(auto)]
 
 mod axis_steps;
+mod cursors;
 mod laws;
 mod moves;
 mod steps;
 pub use laws::law;
 
+pub use cursors::Cursor;
 pub use steps::Steps;
