@@ -190,14 +190,14 @@ begun_of false here f h = no_one (sym (f refl) ∙ h)
 
 here_cases : (axis : Axis) (n : Place) (r : Bool) (q p : List ℕ) (c a : Option ℕ) → (r ≡ true → Lands axis n.tree (spot_of n) (is_further axis (q, c)) (p, a)) → (r ≡ false → Ends axis n.tree (spot_of n) (is_further axis (q, c)))
     → come_after axis n true (present_at true n q c) ≡ option_to_list (present_at r n p a) ++ come_after axis n true (present_at r n p a)
-here_cases axis n true q p c a yes no = walk_next axis n q c p a (yes refl)
-here_cases axis n false q p c a yes no = walk_end axis n p q a c (no refl)
+here_cases axis n true q p c a found none = walk_next axis n q c p a (found refl)
+here_cases axis n false q p c a found none = walk_end axis n p q a c (none refl)
 
 pub walk_here : (axis : Axis) (n : Place) (begun here r : Bool) (q p : List ℕ) (c a : Option ℕ) → (begun ≡ false → here ≡ false) → here ≡ true
     → (r ≡ true → Lands axis n.tree (spot_of n) (is_further axis (q, c)) (p, a)) → (r ≡ false → Ends axis n.tree (spot_of n) (is_further axis (q, c)))
     → come_after axis n begun (present_at here n q c) ≡ option_to_list (present_at r n p a) ++ come_after axis n true (present_at r n p a)
-walk_here axis n begun here r q p c a f h yes no =
-    ap (λ z. come_after axis n z (present_at here n q c)) (begun_of begun here f h) ∙ ap (λ z. come_after axis n true (present_at z n q c)) h ∙ here_cases axis n r q p c a yes no
+walk_here axis n begun here r q p c a f h found none =
+    ap (λ z. come_after axis n z (present_at here n q c)) (begun_of begun here f h) ∙ ap (λ z. come_after axis n true (present_at z n q c)) h ∙ here_cases axis n r q p c a found none
 
 pub walk_over : (axis : Axis) (n : Place) (begun here : Bool) (q : List ℕ) (c : Option ℕ) → begun ≡ true → here ≡ false
     → come_after axis n begun (present_at here n q c) ≡ option_to_list (present_at false n q c) ++ come_after axis n true (present_at false n q c)
@@ -206,11 +206,11 @@ walk_over axis n begun here q c g h =
 
 begin_cases : (axis : Axis) (n : Place) (r : Bool) (q p : List ℕ) (c a : Option ℕ) → (r ≡ true → Lands axis n.tree (spot_of n) every (p, a)) → (r ≡ false → Ends axis n.tree (spot_of n) every)
     → come_after axis n false (present_at false n q c) ≡ option_to_list (present_at r n p a) ++ come_after axis n true (present_at r n p a)
-begin_cases axis n true q p c a yes no = walk_first_from axis n p q a c (yes refl)
-begin_cases axis n false q p c a yes no = walk_none axis n p q a c (no refl)
+begin_cases axis n true q p c a found none = walk_first_from axis n p q a c (found refl)
+begin_cases axis n false q p c a found none = walk_none axis n p q a c (none refl)
 
 pub walk_begin : (axis : Axis) (n : Place) (begun here r : Bool) (q p : List ℕ) (c a : Option ℕ) → begun ≡ false → here ≡ false
     → (r ≡ true → Lands axis n.tree (spot_of n) every (p, a)) → (r ≡ false → Ends axis n.tree (spot_of n) every)
     → come_after axis n begun (present_at here n q c) ≡ option_to_list (present_at r n p a) ++ come_after axis n true (present_at r n p a)
-walk_begin axis n begun here r q p c a g h yes no =
-    ap (λ z. come_after axis n z (present_at here n q c)) g ∙ ap (λ z. come_after axis n false (present_at z n q c)) h ∙ begin_cases axis n r q p c a yes no
+walk_begin axis n begun here r q p c a g h found none =
+    ap (λ z. come_after axis n z (present_at here n q c)) g ∙ ap (λ z. come_after axis n false (present_at z n q c)) h ∙ begin_cases axis n r q p c a found none

@@ -11,3 +11,4 @@ pub mod TopLemmas
 pub mod AnyLemmas
 pub mod EndLemmas
 pub mod CourseLemmas
+pub mod CursorLemmas

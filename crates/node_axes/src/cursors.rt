@@ -31,7 +31,12 @@ impl Model for Cursor {
     ghost use Rattle.node_axes.specs.Moves.{IsSteady};
     ghost use Rattle.std.specs.Vec.{vec_capacity};
 
+    ghost use Rattle.std.specs.Coded.{codes};
+    ghost use Rattle.xt_tree.specs.Forest.{forest_code};
+
     ghost Value = { Course };
+
+    ghost coded = { Prim.hlevel (codes, forest_code) };
 
     ghost view = { λ c. record { start = c.start; axis = c.axis; test = c.test; begun = c.begun; present = present_at c.here c.start c.path.items c.attribute } };
 
@@ -105,13 +110,14 @@ impl Cursor {
         if !self.here {
             return Ok(None);
         }
-        Node::at_place(
+        let node = Node::at_place(
             *self.path.allocator(),
             self.start.number(),
             self.start.tree().copy()?,
             self.path.as_slice(),
             self.attribute,
-        )
+        )?;
+        Ok(node)
     }
 
     /// A cursor at the same place, which shares the tree.
