@@ -11,7 +11,7 @@ use Rattle.xt_tree.specs.TreeView.{attributes_of, tree_depth}
 use Rattle.xt_types.specs.declared.axes.Axis.{Axis}
 use Rattle.xt_types.specs.declared.node_tests.Test.{Test}
 use Rattle.node_tests.specs.Tests.{tree_passes, passes_at}
-use Rattle.node_axes.specs.Axes.{place_at}
+use Rattle.node_axes.specs.Axes.{place_at, axis_nodes}
 use Rattle.node_axes.specs.Course.{Course, present_at, to_come, come_after, is_at_hit}
 use Rattle.node_axes.specs.Moves.{has_spot, IsSteady}
 use Rattle.node_axes.proofs.LandLemmas.{no_one}
@@ -112,3 +112,19 @@ place_is n number t p q a e f g = cc
 
 pub present_view : (x v : Course) → v ≡ x → x.present ≡ v.present
 present_view x v e = sym (ap (λ (z : Course). z.present) e)
+
+pub all_to_come : (axis : Axis) (test : Test) (n m : Place) (path : List ℕ) (attribute : Option ℕ) → m ≡ n
+    → (let made : Course = record { start = m; axis = axis; test = test; begun = false; present = present_at false m path attribute } in to_come made ≡ axis_nodes axis n)
+unfolding to_come come_after
+all_to_come axis test n m path attribute e = ap (axis_nodes axis) e
+
+no_more : (b : Bool) (axis : Axis) (n : Place) (p : List ℕ) (a : Option ℕ) (before : List Place) → b ≡ false
+    → before ≡ option_to_list (present_at b n p a) ++ come_after axis n true (present_at b n p a) → before ≡ []
+unfolding come_after present_at
+no_more true axis n p a before h e = no_one (sym h)
+no_more false axis n p a before h e = e
+
+pub ends_walk : (x v : Course) (b : Bool) (axis : Axis) (n : Place) (p : List ℕ) (a : Option ℕ) → v ≡ x → come_after v.axis v.start v.begun v.present ≡ option_to_list (present_at b n p a) ++ come_after axis n true (present_at b n p a)
+    → b ≡ false → to_come x ≡ []
+unfolding to_come
+ends_walk x v b axis n p a e h f = sym (ap to_come e) ∙ no_more b axis n p a (come_after v.axis v.start v.begun v.present) f h

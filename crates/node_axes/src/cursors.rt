@@ -1,7 +1,8 @@
-ghost use Rattle.std.specs.Prelude.{◌≡◌, ◌+◌, ◌++◌, ◌≤◌, IfOk, None, true, false, is_some};
+ghost use Rattle.std.specs.Prelude.{◌≡◌, ◌+◌, ◌++◌, ◌≤◌, IfOk, None, [], true, false, is_some};
 ghost use Rattle.std.specs.Option.{option_to_list};
 ghost use Rattle.std.specs.Vec.{vec_capacity};
 ghost use Rattle.xt_tree.specs.TreeView.{tree_depth};
+ghost use Rattle.node_axes.specs.Axes.{axis_nodes};
 ghost use Rattle.node_axes.specs.Course.{to_come, is_at_hit};
 
 use crate::axis_steps::move_on;
@@ -51,7 +52,8 @@ impl Cursor {
         axis: Axis,
         test: Test,
     ) -> Result<Cursor, AllocError>
-        ensures { IfOk result (λ cursor. cursor ≡ record { start = node.now; axis = axis; test = test; begun = false; present = None }) }
+        ensures made { IfOk result (λ cursor. cursor ≡ record { start = node.now; axis = axis; test = test; begun = false; present = None }) }
+        ensures all { IfOk result (λ cursor. to_come cursor ≡ axis_nodes axis node.now) }
     {
         let _kind = node.kind();
         Ok(Cursor {
@@ -71,6 +73,7 @@ impl Cursor {
         ensures counted { steps.new ≡ steps.old + 1 }
         ensures found { result ≡ is_some self.new.present }
         ensures walk { to_come self.old ≡ option_to_list self.new.present ++ to_come self.new }
+        ensures end { result ≡ false → to_come self.old ≡ [] }
         ensures begun { self.new.begun ≡ true }
         ensures start { self.new.start ≡ self.old.start }
         ensures axis { self.new.axis ≡ self.old.axis }
