@@ -51,7 +51,7 @@ steady_new axis n m path attribute room k s e f g r =
 
 pub new_is : (axis : Axis) (test : Test) (n m : Place) (path : List ℕ) (attribute : Option ℕ) → m ≡ n
     → (let made : Course = record { start = m; axis = axis; test = test; begun = false; present = present_at false m path attribute } in
-       let want : Course = record { start = n; axis = axis; test = test; begun = false; present = None } in made ≡ want)
+    let want : Course = record { start = n; axis = axis; test = test; begun = false; present = None } in made ≡ want)
 unfolding present_at
 new_is axis test n m path attribute e = ap (λ (z : Place). (let made : Course = record { start = z; axis = axis; test = test; begun = false; present = None } in made)) e
 

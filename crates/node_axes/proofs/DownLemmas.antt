@@ -70,9 +70,9 @@ left_step t p q new y r =
     lands_from PrecedingSibling t (p, None) (is_further PrecedingSibling (q, None)) new r.exists (left_axis p new ∙ on)
     (left_further q new ∙ pair_earlier y.front new q e.0 y.left e.2 y.left_is (omega (arith, e.1))) (λ u k. no_attribute_left p u k)
     (λ u h o g.
-        let x = same_back p u y.front y.right y.right_is (siblings_parts u p (sym (left_axis p u) ∙ o)) in
-        let s = pair_smaller y.front u q x.0 y.left x.1 y.left_is (sym (left_further q u) ∙ g) in
-        left_further u new ∙ pair_not y.front new u e.0 x.0 e.2 x.1 (omega (arith, e.1)))
+    let x = same_back p u y.front y.right y.right_is (siblings_parts u p (sym (left_axis p u) ∙ o)) in
+    let s = pair_smaller y.front u q x.0 y.left x.1 y.left_is (sym (left_further q u) ∙ g) in
+    left_further u new ∙ pair_not y.front new u e.0 x.0 e.2 x.1 (omega (arith, e.1)))
 
 pub left_next : (t : Tree) (p q new : List ℕ) → on_axis PrecedingSibling (p, None) (q, None) ≡ true → Left t q new
     → Lands PrecedingSibling t (p, None) (is_further PrecedingSibling (q, None)) (new, None)
@@ -84,8 +84,8 @@ left_end t p q o' r =
     let z = r y.front y.left y.left_is in
     ends_from PrecedingSibling t (p, None) (is_further PrecedingSibling (q, None)) (λ u k. no_attribute_left p u k)
     (λ u h o.
-        let x = same_back p u y.front y.right y.right_is (siblings_parts u p (sym (left_axis p u) ∙ o)) in
-        left_further q u ∙ pair_not y.front u q x.0 y.left x.1 y.left_is (omega (arith, z)))
+    let x = same_back p u y.front y.right y.right_is (siblings_parts u p (sym (left_axis p u) ∙ o)) in
+    left_further q u ∙ pair_not y.front u q x.0 y.left x.1 y.left_is (omega (arith, z)))
 
 pub left_first : (t : Tree) (p new : List ℕ) → Left t p new → Lands PrecedingSibling t (p, None) every (new, None)
 unfolding behind_itself
@@ -94,16 +94,16 @@ left_first t p new r =
     let s = left_step t p p new y r in
     lands_from PrecedingSibling t (p, None) every new r.exists s.on refl (λ u k. no_attribute_left p u k)
     (λ u h o g.
-        let x = same_back p u y.front y.right y.right_is (siblings_parts u p (sym (left_axis p u) ∙ o)) in
-        spot_first t (p, None) (is_further PrecedingSibling (p, None)) PrecedingSibling (new, None) u s h o
-        (left_further p u ∙ pair_earlier y.front u p x.0 y.left x.1 y.left_is x.2))
+    let x = same_back p u y.front y.right y.right_is (siblings_parts u p (sym (left_axis p u) ∙ o)) in
+    spot_first t (p, None) (is_further PrecedingSibling (p, None)) PrecedingSibling (new, None) u s h o
+    (left_further p u ∙ pair_earlier y.front u p x.0 y.left x.1 y.left_is x.2))
 
 pub left_none : (t : Tree) (p : List ℕ) → NoLeft p → Ends PrecedingSibling t (p, None) every
 left_none t p r =
     ends_from PrecedingSibling t (p, None) every (λ u k. no_attribute_left p u k)
     (λ u h o.
-        let x = siblings_parts u p (sym (left_axis p u) ∙ o) in
-        let z = r x.front x.right x.right_is in absurd (omega (arith, x.order, z)))
+    let x = siblings_parts u p (sym (left_axis p u) ∙ o) in
+    let z = r x.front x.right x.right_is in absurd (omega (arith, x.order, z)))
 
 -- ---- descendants
 no_attribute_below : (p u : List ℕ) (k : ℕ) → on_axis Descendant (p, None) (u, Some k) ≡ false
@@ -136,15 +136,15 @@ pub below_first : (t : Tree) (p new : List ℕ) → Down t p new → Lands Desce
 below_first t p new d =
     lands_from Descendant t (p, None) every new d.exists (below_axis p new ∙ ap (λ z. is_up (stands p z)) d.to ∙ ap is_up (stands-longer p 0 [])) refl (λ u k. no_attribute_below p u k)
     (λ u h o g.
-        let e = up_is_earlier (stands p u) (sym (below_axis p u) ∙ o) in
-        below_further u new ∙ ap (λ z. is_earlier (stands u z)) d.to ∙ first_child p u e)
+    let e = up_is_earlier (stands p u) (sym (below_axis p u) ∙ o) in
+    below_further u new ∙ ap (λ z. is_earlier (stands u z)) d.to ∙ first_child p u e)
 
 pub below_none : (t : Tree) (p : List ℕ) → count_at t p ≡ 0 → Ends Descendant t (p, None) every
 below_none t p n =
     ends_from Descendant t (p, None) every (λ u k. no_attribute_below p u k)
     (λ u h o.
-        let e = sym (below_axis p u) ∙ o in
-        up_not_before (stands p u) e (sym (leaf t p u n h) ∙ up_is_earlier (stands p u) e))
+    let e = sym (below_axis p u) ∙ o in
+    up_not_before (stands p u) e (sym (leaf t p u n h) ∙ up_is_earlier (stands p u) e))
 
 take_more : (p x : List ℕ) → take (length p) x ≡ p → length p < length x → stands p x ≡ above
 unfolding stands
@@ -198,7 +198,7 @@ below_end t p q o s =
     let a = up_is_over (stands p q) (sym (below_axis p q) ∙ o) in
     ends_from Descendant t (p, None) (is_further Descendant (q, None)) (λ u k. no_attribute_below p u k)
     (λ u h o'. below_further q u ∙ false_from_ne_true (is_earlier (stands q u)) (λ g.
-        up_not_before (stands p u) (sym (below_axis p u) ∙ o') (behind_start t p q u a s h g)))
+    up_not_before (stands p u) (sym (below_axis p u) ∙ o') (behind_start t p q u a s h g)))
 
 -- ---- descendants, and the node itself
 and_none : (x : Bool) → ((x && false) || false) ≡ false
@@ -245,7 +245,7 @@ with_end t p q o s =
     let a = sym (with_axis p q) ∙ o in
     ends_from DescendantOrSelf t (p, None) (is_further DescendantOrSelf (q, None)) (λ u k. no_attribute_with p u k)
     (λ u h o'. with_further q u ∙ false_from_ne_true (is_earlier (stands q u)) (λ g.
-        over_not_before (stands p u) (sym (with_axis p u) ∙ o') (behind_start t p q u a s h g)))
+    over_not_before (stands p u) (sym (with_axis p u) ∙ o') (behind_start t p q u a s h g)))
 
 -- ---- what follows
 mid_false : (x y : Bool) → (x && false && y) ≡ false
@@ -325,15 +325,15 @@ pub precedes_first : (t : Tree) (p new : List ℕ) (a : Option ℕ) → Backs t 
 precedes_first t p new a s =
     lands_from Preceding t (p, a) every new s.exists (precedes_axis p new a ∙ s.clear) refl (λ u l. no_attribute_precedes (p, a) u l)
     (λ u h o g.
-        let c = sym (precedes_axis p u a) ∙ o in
-        precedes_further u new ∙ s.last u h c (before_is_earlier (stands u p) c))
+    let c = sym (precedes_axis p u a) ∙ o in
+    precedes_further u new ∙ s.last u h c (before_is_earlier (stands u p) c))
 
 pub precedes_none : (t : Tree) (p : List ℕ) (a : Option ℕ) → NoneBack t p p → Ends Preceding t (p, a) every
 precedes_none t p a s =
     ends_from Preceding t (p, a) every (λ u l. no_attribute_precedes (p, a) u l)
     (λ u h o.
-        let c = sym (precedes_axis p u a) ∙ o in
-        no_one (sym (s u h c) ∙ before_is_earlier (stands u p) c))
+    let c = sym (precedes_axis p u a) ∙ o in
+    no_one (sym (s u h c) ∙ before_is_earlier (stands u p) c))
 
 pub precedes_next : (t : Tree) (p q new : List ℕ) (a : Option ℕ) → Backs t p q new → Lands Preceding t (p, a) (is_further Preceding (q, None)) (new, None)
 precedes_next t p q new a s =

@@ -133,9 +133,9 @@ pub child_first : (t : Tree) (p new : List ℕ) → Down t p new → Lands Child
 child_first t p new d =
     lands_from Child t (p, None) every new d.exists (child_axis p new ∙ ap (λ z. is_child (p, None) (z, None)) d.to ∙ child_on p 0) refl (λ u k. no_attribute_child p u k)
     (λ u h o g.
-        let x = child_parts p u (sym (child_axis p u) ∙ o) in
-        let e : is_earlier (stands p u) ≡ true = ap (λ z. is_earlier (stands p z)) x.1 ∙ ap is_earlier (stands-longer p x.0 []) in
-        child_further u new ∙ ap (λ z. is_earlier (stands u z)) d.to ∙ first_child p u e)
+    let x = child_parts p u (sym (child_axis p u) ∙ o) in
+    let e : is_earlier (stands p u) ≡ true = ap (λ z. is_earlier (stands p z)) x.1 ∙ ap is_earlier (stands-longer p x.0 []) in
+    child_further u new ∙ ap (λ z. is_earlier (stands u z)) d.to ∙ first_child p u e)
 
 childless : (t : Tree) (p u : List ℕ) (j : ℕ) → count_at t p ≡ 0 → has_path t u ≡ true → u ≡ p ++ j ∷ [] → ⊥
 childless t p u j n h e =
@@ -185,16 +185,16 @@ child_next t p q new o r =
     lands_from Child t (p, None) (is_further Child (q, None)) new r.exists (child_axis p new ∙ ap (λ z. is_child (p, None) (z, None)) e ∙ child_on p (y.0 + 1))
     (child_further q new ∙ step_passes p q new y.0 y.1 e) (λ u k. no_attribute_child p u k)
     (λ u h o' g.
-        let x = child_parts p u (sym (child_axis p u) ∙ o') in
-        child_further u new ∙ behind_next p q u new y.0 x.0 y.1 x.1 e (sym (child_further q u) ∙ g))
+    let x = child_parts p u (sym (child_axis p u) ∙ o') in
+    child_further u new ∙ behind_next p q u new y.0 x.0 y.1 x.1 e (sym (child_further q u) ∙ g))
 
 pub child_end : (t : Tree) (p q : List ℕ) → on_axis Child (p, None) (q, None) ≡ true → NoRight t q → Ends Child t (p, None) (is_further Child (q, None))
 child_end t p q o r =
     let y = child_parts p q (sym (child_axis p q) ∙ o) in
     ends_from Child t (p, None) (is_further Child (q, None)) (λ u k. no_attribute_child p u k)
     (λ u h o'.
-        let x = child_parts p u (sym (child_axis p u) ∙ o') in
-        child_further q u ∙ not_behind t p q u y.0 x.0 y.1 x.1 h (r p y.0 y.1))
+    let x = child_parts p u (sym (child_axis p u) ∙ o') in
+    child_further q u ∙ not_behind t p q u y.0 x.0 y.1 x.1 h (r p y.0 y.1))
 
 -- ---- siblings
 -- the second is the first, or a later child of the same node
@@ -238,15 +238,15 @@ sibling_step t p q new y r =
     lands_from FollowingSibling t (p, None) (is_further FollowingSibling (q, None)) new r.exists (sibling_axis p new ∙ on)
     (sibling_further q new ∙ step_passes y.front q new y.right y.right_is e) (λ u k. no_attribute_sibling p u k)
     (λ u h o g.
-        let x = same_front p u y.front y.left y.left_is (siblings_parts p u (sym (sibling_axis p u) ∙ o)) in
-        sibling_further u new ∙ behind_next y.front q u new y.right x.0 y.right_is x.1 e (sym (sibling_further q u) ∙ g))
+    let x = same_front p u y.front y.left y.left_is (siblings_parts p u (sym (sibling_axis p u) ∙ o)) in
+    sibling_further u new ∙ behind_next y.front q u new y.right x.0 y.right_is x.1 e (sym (sibling_further q u) ∙ g))
 
 sibling_stop : (t : Tree) (p q : List ℕ) → Near p q → NoRight t q → Ends FollowingSibling t (p, None) (is_further FollowingSibling (q, None))
 sibling_stop t p q y r =
     ends_from FollowingSibling t (p, None) (is_further FollowingSibling (q, None)) (λ u k. no_attribute_sibling p u k)
     (λ u h o.
-        let x = same_front p u y.front y.left y.left_is (siblings_parts p u (sym (sibling_axis p u) ∙ o)) in
-        sibling_further q u ∙ not_behind t y.front q u y.right x.0 y.right_is x.1 h (r y.front y.right y.right_is))
+    let x = same_front p u y.front y.left y.left_is (siblings_parts p u (sym (sibling_axis p u) ∙ o)) in
+    sibling_further q u ∙ not_behind t y.front q u y.right x.0 y.right_is x.1 h (r y.front y.right y.right_is))
 
 pub sibling_next : (t : Tree) (p q new : List ℕ) → on_axis FollowingSibling (p, None) (q, None) ≡ true → Right t q new
     → Lands FollowingSibling t (p, None) (is_further FollowingSibling (q, None)) (new, None)
@@ -268,13 +268,13 @@ sibling_first t p new r =
     let s = sibling_step t p p new (near_itself p r.from) r in
     lands_from FollowingSibling t (p, None) every new r.exists s.on refl (λ u k. no_attribute_sibling p u k)
     (λ u h o g.
-        let x = siblings_parts p u (sym (sibling_axis p u) ∙ o) in
-        spot_first t (p, None) (is_further FollowingSibling (p, None)) FollowingSibling (new, None) u s h o (sibling_further p u ∙ siblings_later p u x))
+    let x = siblings_parts p u (sym (sibling_axis p u) ∙ o) in
+    spot_first t (p, None) (is_further FollowingSibling (p, None)) FollowingSibling (new, None) u s h o (sibling_further p u ∙ siblings_later p u x))
 
 pub sibling_none : (t : Tree) (p : List ℕ) → NoRight t p → Ends FollowingSibling t (p, None) every
 sibling_none t p r =
     ends_from FollowingSibling t (p, None) every (λ u k. no_attribute_sibling p u k)
     (λ u h o.
-        let x = siblings_parts p u (sym (sibling_axis p u) ∙ o) in
-        let e = not_behind t x.front p u x.left x.right x.left_is x.right_is h (r x.front x.left x.left_is) in
-        no_one (sym e ∙ siblings_later p u x))
+    let x = siblings_parts p u (sym (sibling_axis p u) ∙ o) in
+    let e = not_behind t x.front p u x.left x.right x.left_is x.right_is h (r x.front x.left x.left_is) in
+    no_one (sym e ∙ siblings_later p u x))

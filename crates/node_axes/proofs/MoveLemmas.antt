@@ -102,10 +102,10 @@ pub lefts : (t : Tree) (old rest new : List ℕ) (place j : ℕ) → has_path t 
 lefts t old rest new place j has e p f =
     let g : has_path t (rest ++ place ∷ []) ≡ true = subst (λ z. has_path t z ≡ true) e has in
     let l = kid_within t rest place [] g in record {
-  from = (rest, place, e);
-  to = λ front i g. let h = push_inj rest front place i (sym e ∙ g) in (j, sym h.1 ∙ p, f ∙ ap (λ z. z ++ j ∷ []) h.0);
-  exists = subst (λ z. has_path t z ≡ true) (sym f) (has_kid t rest j (omega arith));
-}
+      from = (rest, place, e);
+      to = λ front i g. let h = push_inj rest front place i (sym e ∙ g) in (j, sym h.1 ∙ p, f ∙ ap (λ z. z ++ j ∷ []) h.0);
+      exists = subst (λ z. has_path t z ≡ true) (sym f) (has_kid t rest j (omega arith));
+    }
 
 pub no_lefts : (old rest : List ℕ) (place : ℕ) → old ≡ rest ++ place ∷ [] → place ≡ 0 → NoLeft old
 no_lefts old rest place e z front i g = let h = push_inj rest front place i (sym e ∙ g) in sym h.1 ∙ z

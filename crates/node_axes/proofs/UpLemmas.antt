@@ -139,11 +139,11 @@ pub with_attribute_end : (t : Tree) (n : Spot) (q : List ℕ) (k : ℕ) → on_a
 unfolding on_axis is_further is_reverse is_attribute
 with_attribute_end t n q k o m h o' =
     let i : is_itself n (q, Some k) ≡ true = elim (or_cases (is_itself n (q, Some k)) (is_descendant n (q, Some k)) o)
-        [ inl e ↦ e | inr e ↦ absurd (no_attribute_down n (q, Some k) refl e) ] in
+    [ inl e ↦ e | inr e ↦ absurd (no_attribute_down n (q, Some k) refl e) ] in
     let e = itself_is n (q, Some k) i in
     let a : is_attribute n ≡ true = ap is_attribute e in
     let j : is_itself n m ≡ true = elim (or_cases (is_itself n m) (is_descendant n m) o')
-        [ inl f ↦ f | inr f ↦ absurd (no_attribute_up n m a f) ] in
+    [ inl f ↦ f | inr f ↦ absurd (no_attribute_up n m a f) ] in
     subst (λ z. is_before z m ≡ false) e (not_after_same n m j)
 
 -- ---- the node above
@@ -170,9 +170,9 @@ parent_first t p new s =
     lands_from Parent t (p, None) every new s.exists (parent_axis (p, None) (new, None) ∙ ap (λ z. is_parent (z, None) (new, None)) s.to.1 ∙ parent_on new s.to.0) refl
     (λ u k. no_attribute_parent (p, None) u k)
     (λ u h o g.
-        let x = parent_parts p u (sym (parent_axis (p, None) (u, None)) ∙ o) in
-        let e = push_inj u new x.0 s.to.0 (sym x.1 ∙ s.to.1) in
-        parent_further u new ∙ same_not_earlier u new e.0)
+    let x = parent_parts p u (sym (parent_axis (p, None) (u, None)) ∙ o) in
+    let e = push_inj u new x.0 s.to.0 (sym x.1 ∙ s.to.1) in
+    parent_further u new ∙ same_not_earlier u new e.0)
 
 not_pushed : {A : Type 0} (q : List ℕ) (i : ℕ) → [] ≡ q ++ i ∷ [] → A
 not_pushed [] i e = cc
@@ -182,7 +182,7 @@ pub parent_none : (t : Tree) (p : List ℕ) → p ≡ [] → Ends Parent t (p, N
 parent_none t p e =
     ends_from Parent t (p, None) every (λ u k. no_attribute_parent (p, None) u k)
     (λ u h o.
-        let x = parent_parts p u (sym (parent_axis (p, None) (u, None)) ∙ o) in not_pushed u x.0 (sym e ∙ x.1))
+    let x = parent_parts p u (sym (parent_axis (p, None) (u, None)) ∙ o) in not_pushed u x.0 (sym e ∙ x.1))
 
 pub owner_first : (t : Tree) (p : List ℕ) (k : ℕ) → has_path t p ≡ true → Lands Parent t (p, Some k) every (p, None)
 owner_first t p k has =
@@ -199,8 +199,8 @@ pub parent_end : (t : Tree) (n : Spot) (q : List ℕ) → on_axis Parent n (q, N
 parent_end t n q o' =
     ends_from Parent t n (is_further Parent (q, None)) (λ u l. no_attribute_parent n u l)
     (λ u h o.
-        let e = one_parent n q u (sym (parent_axis n (q, None)) ∙ o') (sym (parent_axis n (u, None)) ∙ o) in
-        parent_further q u ∙ same_not_earlier q u e)
+    let e = one_parent n q u (sym (parent_axis n (q, None)) ∙ o') (sym (parent_axis n (u, None)) ∙ o) in
+    parent_further q u ∙ same_not_earlier q u e)
 
 -- ---- the nodes above
 no_attribute_over : (n : Spot) (u : List ℕ) (k : ℕ) → is_ancestor n (u, Some k) ≡ false
@@ -301,8 +301,8 @@ ancestor_first t p new s =
     lands_from Ancestor t (p, None) every new s.exists (ancestor_axis (p, None) (new, None) ∙ over_on p new None a) refl
     (λ u k. ancestor_axis (p, None) (u, Some k) ∙ no_attribute_over (p, None) u k)
     (λ u h o g.
-        let x = up_above (stands u p) (sym (ancestor_is p u) ∙ sym (ancestor_axis (p, None) (u, None)) ∙ o) in
-        ancestor_further u new ∙ nothing_between u new p s.to.0 s.to.1 x)
+    let x = up_above (stands u p) (sym (ancestor_is p u) ∙ sym (ancestor_axis (p, None) (u, None)) ∙ o) in
+    ancestor_further u new ∙ nothing_between u new p s.to.0 s.to.1 x)
 
 pub root_is_top : (u : List ℕ) → is_earlier (stands u []) ≡ false
 unfolding stands
@@ -313,16 +313,16 @@ pub ancestor_none : (t : Tree) (p : List ℕ) → p ≡ [] → Ends Ancestor t (
 ancestor_none t p e =
     ends_from Ancestor t (p, None) every (λ u k. ancestor_axis (p, None) (u, Some k) ∙ no_attribute_over (p, None) u k)
     (λ u h o.
-        let x = up_is_earlier (stands u p) (sym (ancestor_is p u) ∙ sym (ancestor_axis (p, None) (u, None)) ∙ o) in
-        let y : is_earlier (stands u []) ≡ true = subst (λ z. is_earlier (stands u z) ≡ true) e x in no_one (sym (root_is_top u) ∙ y))
+    let x = up_is_earlier (stands u p) (sym (ancestor_is p u) ∙ sym (ancestor_axis (p, None) (u, None)) ∙ o) in
+    let y : is_earlier (stands u []) ≡ true = subst (λ z. is_earlier (stands u z) ≡ true) e x in no_one (sym (root_is_top u) ∙ y))
 
 pub owner_ancestor_first : (t : Tree) (p : List ℕ) (k : ℕ) → has_path t p ≡ true → Lands Ancestor t (p, Some k) every (p, None)
 owner_ancestor_first t p k has =
     lands_from Ancestor t (p, Some k) every p has (ancestor_axis (p, Some k) (p, None) ∙ attribute_ancestor_is p p k ∙ ap is_over (stands-same p)) refl
     (λ u l. ancestor_axis (p, Some k) (u, Some l) ∙ no_attribute_over (p, Some k) u l)
     (λ u h o g.
-        let x = over_parts p u (Some k) (sym (ancestor_axis (p, Some k) (u, None)) ∙ o) in
-        ancestor_further u p ∙ under_not_earlier p u x)
+    let x = over_parts p u (Some k) (sym (ancestor_axis (p, Some k) (u, None)) ∙ o) in
+    ancestor_further u p ∙ under_not_earlier p u x)
 
 up_passes : (q new : List ℕ) (i : ℕ) → q ≡ new ++ i ∷ [] → is_earlier (stands new q) ≡ true
 up_passes q new i e = ap (λ z. is_earlier (stands new z)) e ∙ ap is_earlier (stands-longer new i [])
@@ -333,9 +333,9 @@ ancestor_next t p q new a o s =
     lands_from Ancestor t (p, a) (is_further Ancestor (q, None)) new s.exists (ancestor_axis (p, a) (new, None) ∙ over_on p new a (above_over p q new s.to.0 s.to.1 oq))
     (ancestor_further q new ∙ up_passes q new s.to.0 s.to.1) (λ u l. ancestor_axis (p, a) (u, Some l) ∙ no_attribute_over (p, a) u l)
     (λ u h o' g.
-        let ou = over_parts p u a (sym (ancestor_axis (p, a) (u, None)) ∙ o') in
-        let x = both_over p q u ou oq (sym (ancestor_further q u) ∙ g) in
-        ancestor_further u new ∙ nothing_between u new q s.to.0 s.to.1 x)
+    let ou = over_parts p u a (sym (ancestor_axis (p, a) (u, None)) ∙ o') in
+    let x = both_over p q u ou oq (sym (ancestor_further q u) ∙ g) in
+    ancestor_further u new ∙ nothing_between u new q s.to.0 s.to.1 x)
 
 pub ancestor_end : (t : Tree) (p q : List ℕ) (a : Option ℕ) → q ≡ [] → Ends Ancestor t (p, a) (is_further Ancestor (q, None))
 ancestor_end t p q a e =

@@ -31,7 +31,6 @@ impl Model for Cursor {
     ghost use Rattle.node_axes.specs.Course.{Course, present_at};
     ghost use Rattle.node_axes.specs.Moves.{IsSteady};
     ghost use Rattle.std.specs.Vec.{vec_capacity};
-
     ghost use Rattle.std.specs.Coded.{codes};
     ghost use Rattle.xt_tree.specs.Forest.{forest_code};
 
@@ -46,12 +45,7 @@ impl Model for Cursor {
 
 impl Cursor {
     /// A cursor before the first node of the axis. It reserves room for the longest way down in the tree.
-    pub fn new(
-        alloc: Global,
-        node: &Node,
-        axis: Axis,
-        test: Test,
-    ) -> Result<Cursor, AllocError>
+    pub fn new(alloc: Global, node: &Node, axis: Axis, test: Test) -> Result<Cursor, AllocError>
         ensures made { IfOk result (λ cursor. cursor ≡ record { start = node.now; axis = axis; test = test; begun = false; present = None }) }
         ensures all { IfOk result (λ cursor. to_come cursor ≡ axis_nodes axis node.now) }
     {

@@ -1,7 +1,9 @@
+ghost use Rattle.std.specs.Prelude.{◌≡◌, ◌<◌};
+
 use super::*;
 use std::alloc::{AllocError, Global};
 use std::marker::Brand;
-use std::sync::ledger::Blank;
+use std::sync::ledger::{Blank, Ledger};
 use std::test::Fail;
 use xt_names::{List, Name, Text};
 use xt_tree::{Attribute, Attrs, Kids, Node, Tree};
@@ -45,8 +47,16 @@ fn pair(alloc: Global, first: Tree, second: Tree) -> Result<List<Tree>, AllocErr
 
 /// The document of `<a><b><d/><e/></b><c><f/><g/></c></a>`, where each element has the attributes `x` and `y`.
 fn document(alloc: Global) -> Result<Tree, AllocError> {
-    let b = element(alloc, "b", pair(alloc, leaf(alloc, "d")?, leaf(alloc, "e")?)?)?;
-    let c = element(alloc, "c", pair(alloc, leaf(alloc, "f")?, leaf(alloc, "g")?)?)?;
+    let b = element(
+        alloc,
+        "b",
+        pair(alloc, leaf(alloc, "d")?, leaf(alloc, "e")?)?,
+    )?;
+    let c = element(
+        alloc,
+        "c",
+        pair(alloc, leaf(alloc, "f")?, leaf(alloc, "g")?)?,
+    )?;
     let mut kids = List::new(alloc);
     kids.push(element(alloc, "a", pair(alloc, b, c)?)?)?;
     Ok(Tree::Doc(Kids::make(alloc, kids)?))
@@ -54,15 +64,17 @@ fn document(alloc: Global) -> Result<Tree, AllocError> {
 
 /// A document whose element has so many children `b`.
 fn wide(alloc: Global, count: u32) -> Result<Tree, AllocError> {
+    let kid = leaf(alloc, "b")?;
     let mut kids = List::new(alloc);
     for _ in 0..count {
-        kids.push(leaf(alloc, "b")?)?;
+        kids.push(kid.copy()?)?;
     }
     let mut root = List::new(alloc);
     root.push(element(alloc, "a", kids)?)?;
     Ok(Tree::Doc(Kids::make(alloc, root)?))
 }
 
+/// The name of the node, or `/` where it has none.
 fn push_name(out: &mut String, node: &Node) -> Result<(), AllocError> {
     match node.name() {
         Some(name) => out.push_str(name.local.as_str())?,
@@ -71,17 +83,270 @@ fn push_name(out: &mut String, node: &Node) -> Result<(), AllocError> {
     Ok(())
 }
 
-/// The names of the nodes in turn; a document is `/`.
-fn names_on(alloc: Global, cursor: &mut Cursor) -> Result<String, AllocError> {
-    let mut steps = Steps::<Brand>::begin(Blank::new(1));
+fn push_present(out: &mut String, cursor: &Cursor) -> Result<(), AllocError> {
+    match cursor.node()? {
+        Some(node) => push_name(out, &node),
+        None => Ok(()),
+    }
+}
+
+/// The names of the nodes to come, on a counter of its own.
+fn names_to_come<L: Ledger>(
+    alloc: Global,
+    blank: Blank,
+    cursor: &mut Cursor,
+) -> Result<String, AllocError>
+    requires name { blank.name ≡ L.name }
+    requires parts { blank.parts ≡ L.parts }
+    requires one { 0 < blank.parts }
+{
+    let mut steps = Steps::<L>::begin(blank);
     let mut out = String::new(alloc);
-    for _ in 0..100 {
-        if !cursor.advance(&mut steps) {
-            return Ok(out);
-        }
-        if let Some(node) = cursor.node()? {
-            push_name(&mut out, &node)?;
+    for _ in 0..20 {
+        if cursor.advance(&mut steps) {
+            push_present(&mut out, cursor)?;
         }
     }
     Ok(out)
+}
+
+fn names_of(
+    alloc: Global,
+    path: &[usize],
+    attribute: Option<usize>,
+    axis: Axis,
+) -> Result<String, AllocError> {
+    match Node::at_place(alloc, 1, document(alloc)?, path, attribute)? {
+        Some(node) => {
+            let mut cursor = Cursor::new(alloc, &node, axis, Test::Node)?;
+            names_to_come::<Brand>(alloc, Blank::new(1), &mut cursor)
+        }
+        None => Ok(String::new(alloc)),
+    }
+}
+
+fn is_walk(
+    alloc: Global,
+    path: &[usize],
+    attribute: Option<usize>,
+    axis: Axis,
+    names: &str,
+) -> Result<bool, AllocError> {
+    Ok(names_of(alloc, path, attribute, axis)?.as_str() == names)
+}
+
+#[test]
+fn walks_children(rt: HostRuntime) -> Result<(), Fail> {
+    assert!(rt; is_walk(rt.alloc(), &[0], None, Axis::Child, "bc")?);
+    Ok(())
+}
+
+#[test]
+fn walks_descendants(rt: HostRuntime) -> Result<(), Fail> {
+    assert!(rt; is_walk(rt.alloc(), &[0], None, Axis::Descendant, "bdecfg")?);
+    Ok(())
+}
+
+#[test]
+fn walks_attributes(rt: HostRuntime) -> Result<(), Fail> {
+    assert!(rt; is_walk(rt.alloc(), &[0, 1], None, Axis::Attribute, "xy")?);
+    Ok(())
+}
+
+#[test]
+fn walks_the_node_itself(rt: HostRuntime) -> Result<(), Fail> {
+    assert!(rt; is_walk(rt.alloc(), &[0, 1], None, Axis::Itself, "c")?);
+    Ok(())
+}
+
+#[test]
+fn walks_the_node_and_its_descendants(rt: HostRuntime) -> Result<(), Fail> {
+    assert!(rt; is_walk(rt.alloc(), &[0, 1], None, Axis::DescendantOrSelf, "cfg")?);
+    Ok(())
+}
+
+#[test]
+fn walks_later_siblings(rt: HostRuntime) -> Result<(), Fail> {
+    assert!(rt; is_walk(rt.alloc(), &[0, 0], None, Axis::FollowingSibling, "c")?);
+    Ok(())
+}
+
+#[test]
+fn walks_what_follows(rt: HostRuntime) -> Result<(), Fail> {
+    assert!(rt; is_walk(rt.alloc(), &[0, 0, 0], None, Axis::Following, "ecfg")?);
+    Ok(())
+}
+
+#[test]
+fn walks_what_follows_an_attribute(rt: HostRuntime) -> Result<(), Fail> {
+    assert!(rt; is_walk(rt.alloc(), &[0, 0], Some(0), Axis::Following, "decfg")?);
+    Ok(())
+}
+
+#[test]
+fn walks_the_parent(rt: HostRuntime) -> Result<(), Fail> {
+    assert!(rt; is_walk(rt.alloc(), &[0, 1, 0], None, Axis::Parent, "c")?);
+    Ok(())
+}
+
+#[test]
+fn walks_ancestors(rt: HostRuntime) -> Result<(), Fail> {
+    assert!(rt; is_walk(rt.alloc(), &[0, 1, 0], None, Axis::Ancestor, "ca/")?);
+    Ok(())
+}
+
+#[test]
+fn walks_ancestors_of_an_attribute(rt: HostRuntime) -> Result<(), Fail> {
+    assert!(rt; is_walk(rt.alloc(), &[0, 1], Some(1), Axis::Ancestor, "ca/")?);
+    Ok(())
+}
+
+#[test]
+fn walks_earlier_siblings(rt: HostRuntime) -> Result<(), Fail> {
+    assert!(rt; is_walk(rt.alloc(), &[0, 1], None, Axis::PrecedingSibling, "b")?);
+    Ok(())
+}
+
+#[test]
+fn walks_what_precedes(rt: HostRuntime) -> Result<(), Fail> {
+    assert!(rt; is_walk(rt.alloc(), &[0, 1, 0], None, Axis::Preceding, "edb")?);
+    Ok(())
+}
+
+#[test]
+fn walks_what_precedes_an_attribute(rt: HostRuntime) -> Result<(), Fail> {
+    assert!(rt; is_walk(rt.alloc(), &[0, 1], Some(0), Axis::Preceding, "edb")?);
+    Ok(())
+}
+
+#[test]
+fn walks_the_node_and_its_ancestors(rt: HostRuntime) -> Result<(), Fail> {
+    assert!(rt; is_walk(rt.alloc(), &[0, 1, 0], None, Axis::AncestorOrSelf, "fca/")?);
+    Ok(())
+}
+
+#[test]
+fn an_attribute_has_no_sibling(rt: HostRuntime) -> Result<(), Fail> {
+    assert!(rt; is_walk(rt.alloc(), &[0], Some(0), Axis::FollowingSibling, "")?);
+    Ok(())
+}
+
+/// Whether the cursor comes to a hit within a few steps, on a counter of its own.
+fn hits_soon<L: Ledger>(blank: Blank, cursor: &mut Cursor) -> bool
+    requires name { blank.name ≡ L.name }
+    requires parts { blank.parts ≡ L.parts }
+    requires one { 0 < blank.parts }
+{
+    let mut steps = Steps::<L>::begin(blank);
+    for _ in 0..3 {
+        if cursor.advance(&mut steps) && cursor.is_hit() {
+            return true;
+        }
+    }
+    false
+}
+
+fn hits(alloc: Global, node: &Node, axis: Axis) -> Result<bool, AllocError> {
+    let mut cursor = Cursor::new(alloc, node, axis, Test::Named(NameTest::Any))?;
+    Ok(hits_soon::<Brand>(Blank::new(1), &mut cursor))
+}
+
+/// Whether the axis has a hit soon, asked so many times in the document of so many nodes.
+fn always_hits(alloc: Global, path: &[usize], axis: Axis, times: u32) -> Result<bool, AllocError> {
+    match Node::at_place(alloc, 1, wide(alloc, times)?, path, None)? {
+        Some(node) => {
+            for _ in 0..times {
+                if !hits(alloc, &node, axis)? {
+                    return Ok(false);
+                }
+            }
+            Ok(true)
+        }
+        None => Ok(false),
+    }
+}
+
+#[test]
+fn the_axis_child_is_not_collected(rt: HostRuntime) -> Result<(), Fail> {
+    assert!(rt; always_hits(rt.alloc(), &[0], Axis::Child, 300_000)?);
+    Ok(())
+}
+
+#[test]
+fn the_axis_descendant_is_not_collected(rt: HostRuntime) -> Result<(), Fail> {
+    assert!(rt; always_hits(rt.alloc(), &[], Axis::Descendant, 300_000)?);
+    Ok(())
+}
+
+#[test]
+fn the_axis_descendant_or_self_is_not_collected(rt: HostRuntime) -> Result<(), Fail> {
+    assert!(rt; always_hits(rt.alloc(), &[], Axis::DescendantOrSelf, 300_000)?);
+    Ok(())
+}
+
+#[test]
+fn the_axis_itself_is_not_collected(rt: HostRuntime) -> Result<(), Fail> {
+    assert!(rt; always_hits(rt.alloc(), &[0], Axis::Itself, 300_000)?);
+    Ok(())
+}
+
+#[test]
+fn the_axis_attribute_is_not_collected(rt: HostRuntime) -> Result<(), Fail> {
+    assert!(rt; always_hits(rt.alloc(), &[0], Axis::Attribute, 300_000)?);
+    Ok(())
+}
+
+#[test]
+fn the_axis_following_sibling_is_not_collected(rt: HostRuntime) -> Result<(), Fail> {
+    assert!(rt; always_hits(rt.alloc(), &[0, 0], Axis::FollowingSibling, 300_000)?);
+    Ok(())
+}
+
+#[test]
+fn the_axis_following_is_not_collected(rt: HostRuntime) -> Result<(), Fail> {
+    assert!(rt; always_hits(rt.alloc(), &[0, 0], Axis::Following, 300_000)?);
+    Ok(())
+}
+
+#[test]
+fn the_axis_parent_is_not_collected(rt: HostRuntime) -> Result<(), Fail> {
+    assert!(rt; always_hits(rt.alloc(), &[0, 299999], Axis::Parent, 300_000)?);
+    Ok(())
+}
+
+#[test]
+fn the_axis_ancestor_is_not_collected(rt: HostRuntime) -> Result<(), Fail> {
+    assert!(rt; always_hits(rt.alloc(), &[0, 299999], Axis::Ancestor, 300_000)?);
+    Ok(())
+}
+
+#[test]
+fn the_axis_ancestor_or_self_is_not_collected(rt: HostRuntime) -> Result<(), Fail> {
+    assert!(rt; always_hits(rt.alloc(), &[0, 299999], Axis::AncestorOrSelf, 300_000)?);
+    Ok(())
+}
+
+#[test]
+fn the_axis_preceding_sibling_is_not_collected(rt: HostRuntime) -> Result<(), Fail> {
+    assert!(rt; always_hits(rt.alloc(), &[0, 299999], Axis::PrecedingSibling, 300_000)?);
+    Ok(())
+}
+
+#[test]
+fn the_axis_preceding_is_not_collected(rt: HostRuntime) -> Result<(), Fail> {
+    assert!(rt; always_hits(rt.alloc(), &[0, 299999], Axis::Preceding, 300_000)?);
+    Ok(())
+}
+
+fn copy_goes_on(alloc: Global) -> Result<bool, AllocError> {
+    let node = Node::root_of(alloc, 1, document(alloc)?)?;
+    let cursor = Cursor::new(alloc, &node, Axis::Child, Test::Node)?;
+    let mut copy = cursor.copy()?;
+    Ok(names_to_come::<Brand>(alloc, Blank::new(1), &mut copy)?.as_str() == "a")
+}
+
+#[test]
+fn a_copy_goes_on_from_the_same_place(rt: HostRuntime) -> Result<(), Fail> {
+    assert!(rt; copy_goes_on(rt.alloc())?);
+    Ok(())
 }

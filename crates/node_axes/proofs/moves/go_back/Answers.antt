@@ -29,7 +29,7 @@ loop-place-preserved c =
     let o : is_over (stands c.pop.new.self.items c.args.start.now) ≡ true = cc in
     let l : c.in-Some.place ≤ 0 = omega arith in record {
       back = back_more c.args.tree.now c.args.start.now c.args.path.now.items c.loop-place.path.items c.pop.new.self.items c.loop-place.invariant.back
-      (at_first c.loop-place.path.items c.pop.new.self.items c.in-Some.place c.in-Some.ensures.items l) o;
+          (at_first c.loop-place.path.items c.pop.new.self.items c.in-Some.place c.in-Some.ensures.items l) o;
       room = omega (arith, c.loop-place.invariant.room, c.pop.ensures.capacity);
     }
 

@@ -18,7 +18,7 @@ loop-count-smaller c =
 pub loop-count-preserved : goal.loop-count-preserved
 loop-count-preserved c = record {
   sinks = sink_more c.args.tree.now c.args.path.now.items c.loop-count.path.items c.push.new.path.items c.loop-count.count c.loop-count.invariant.sinks c.loop-count.invariant.counted
-  (omega arith) c.push.ensures.items;
+      (omega arith) c.push.ensures.items;
   counted = c.child_count-count-in-loop-count.ensures ∙ ap (count_at c.args.tree.now) c.as_slice-in-loop-count.ensures.value;
   room = omega (arith, c.loop-count.invariant.room, c.push.ensures.room);
 }
