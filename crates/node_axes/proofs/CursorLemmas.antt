@@ -116,7 +116,7 @@ present_view x v e = sym (ap (λ (z : Course). z.present) e)
 pub all_to_come : (axis : Axis) (test : Test) (n m : Place) (path : List ℕ) (attribute : Option ℕ) → m ≡ n
     → (let made : Course = record { start = m; axis = axis; test = test; begun = false; present = present_at false m path attribute } in to_come made ≡ axis_nodes axis n)
 unfolding to_come come_after
-all_to_come axis test n m path attribute e = ap (axis_nodes axis) e
+all_to_come axis wanted n m path attribute e = ap (axis_nodes axis) e
 
 no_more : (b : Bool) (axis : Axis) (n : Place) (p : List ℕ) (a : Option ℕ) (before : List Place) → b ≡ false
     → before ≡ option_to_list (present_at b n p a) ++ come_after axis n true (present_at b n p a) → before ≡ []

@@ -338,11 +338,18 @@ fn the_axis_preceding_is_not_collected(rt: HostRuntime) -> Result<(), Fail> {
     Ok(())
 }
 
+fn copied(alloc: Global, node: &Node) -> Result<Cursor, AllocError> {
+    Cursor::new(alloc, node, Axis::Child, Test::Node)?.copy()
+}
+
+fn copied_names(alloc: Global, node: &Node) -> Result<String, AllocError> {
+    let mut copy = copied(alloc, node)?;
+    names_to_come::<Brand>(alloc, Blank::new(1), &mut copy)
+}
+
 fn copy_goes_on(alloc: Global) -> Result<bool, AllocError> {
     let node = Node::root_of(alloc, 1, document(alloc)?)?;
-    let cursor = Cursor::new(alloc, &node, Axis::Child, Test::Node)?;
-    let mut copy = cursor.copy()?;
-    Ok(names_to_come::<Brand>(alloc, Blank::new(1), &mut copy)?.as_str() == "a")
+    Ok(copied_names(alloc, &node)?.as_str() == "a")
 }
 
 #[test]
