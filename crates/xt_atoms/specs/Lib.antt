@@ -1,2 +1,3 @@
 pub mod AtomTexts
+pub mod Casts
 pub mod Lexical

@@ -9,12 +9,14 @@
 
 mod atom_texts;
 mod atoms;
+mod casts;
 mod faults;
 mod lexical;
 mod trims;
 
 pub use atom_texts::to_text;
 pub use atoms::{Atom, copy_atom_list};
+pub use casts::{boolean_from, cast, castable, integer_from};
 pub use faults::ValueFault;
 pub use lexical::{boolean_of, integer_of};
 pub use trims::trimmed;
