@@ -24,7 +24,7 @@ numeral_of : (ds : List ℕ) → is_numeral ds ≡ true → IsNumeral 10 ds
 numeral_of [] h = cc
 numeral_of (c ∷ cs) h = (omega arith, own.to (c ∷ cs) h)
 
-range_true : (z : ℤ) → FitsSigned w64 z → is_in_range z ≡ true
+pub range_true : (z : ℤ) → FitsSigned w64 z → is_in_range z ≡ true
 range_true (pos n) f = lt-ltb n (2 ^ 63) f.sfits
 range_true (negsuc n) f = lt-ltb n (2 ^ 63) f.sfits
 

@@ -1,2 +1,4 @@
 pub mod TrimLemmas
 pub mod IntegerLemmas
+pub mod ArithmeticLemmas
+pub mod TextOrders

@@ -1,5 +1,5 @@
 -- Casts (XPath and XQuery Functions and Operators, 17).
-use Rattle.std.specs.Prelude.{◌≡◌, zero, suc, Bool, true, false, Option, Some, None, Result, Ok, Err, ℤ, pos, negsuc}
+use Rattle.std.specs.Prelude.{◌≡◌, zero, suc, Bool, true, false, not, Option, Some, None, Result, Ok, Err, ℤ, pos, negsuc}
 use Rattle.xt_names.specs.declared.codes.Code.{Code}
 use Rattle.xt_names.specs.declared.codes.Code.TheVariants.{Dynamic}
 use Rattle.xt_names.specs.declared.codes.DynamicCode.TheVariants.{FORG0001, XPTY0004}
@@ -29,11 +29,10 @@ abbrev pub number_of_truth : Bool → ℤ
 number_of_truth true = pos 1
 number_of_truth false = pos 0
 
--- 0 is false
-abbrev pub truth_of_number : ℤ → Bool
-truth_of_number (pos zero) = false
-truth_of_number (pos (suc n)) = true
-truth_of_number (negsuc n) = true
+abbrev pub is_zero : ℤ → Bool
+is_zero (pos zero) = true
+is_zero (pos (suc n)) = false
+is_zero (negsuc n) = false
 
 unfoldable pub integer_from : Atom → Result ℤ Code
 integer_from (atom.Str text) = spelled_value (integer_of text)
@@ -45,7 +44,7 @@ integer_from (atom.QName name) = Err wrong_type
 unfoldable pub boolean_from : Atom → Result Bool Code
 boolean_from (atom.Str text) = spelled_value (boolean_of text)
 boolean_from (atom.Untyped text) = spelled_value (boolean_of text)
-boolean_from (atom.Int number) = Ok (truth_of_number number)
+boolean_from (atom.Int number) = Ok (not (is_zero number))
 boolean_from (atom.Bool truth) = Ok truth
 boolean_from (atom.QName name) = Err wrong_type
 

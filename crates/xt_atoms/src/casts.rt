@@ -1,7 +1,7 @@
 // Casts.
 ghost use Rattle.std.specs.Prelude.{◌≡◌, is_ok};
 ghost use Rattle.std.specs.Str.{chars};
-ghost use Rattle.xt_atoms.specs.Casts.{Answers, cast_of, integer_from, boolean_from, spelled_value, truth_of_number};
+ghost use Rattle.xt_atoms.specs.Casts.{Answers, cast_of, integer_from, boolean_from, spelled_value, is_zero};
 ghost use Rattle.xt_atoms.specs.Lexical.{integer_of, boolean_of};
 
 use crate::atom_texts::to_text;
@@ -72,16 +72,16 @@ pub fn boolean_from(a: &Atom) -> Result<bool, Code>
 {
     match a {
         Atom::Str(text) | Atom::Untyped(text) => spelled_boolean(text),
-        Atom::Int(number) => Ok(is_not_zero(*number)),
+        Atom::Int(number) => Ok(!is_zero(*number)),
         Atom::Bool(truth) => Ok(*truth),
         Atom::QName(_) => Err(WRONG_TYPE),
     }
 }
 
-fn is_not_zero(number: i64) -> bool
-    ensures { result ≡ truth_of_number number }
+pub(crate) fn is_zero(number: i64) -> bool
+    ensures { result ≡ is_zero number }
 {
-    number != 0
+    number == 0
 }
 
 /// The integer that the text spells, or FORG0001.

@@ -7,17 +7,23 @@
 //! `value_compare`, which takes the untyped one as a text.
 #![tactic(auto)]
 
+mod arithmetic;
 mod atom_texts;
 mod atoms;
 mod casts;
+mod comparisons;
 mod faults;
+mod keys;
 mod lexical;
 mod trims;
 
+pub use arithmetic::{arith, integer_operand};
 pub use atom_texts::to_text;
 pub use atoms::{Atom, copy_atom_list};
 pub use casts::{boolean_from, cast, castable, integer_from};
+pub use comparisons::{general_compare, holds, same_name, text_order, value_compare};
 pub use faults::ValueFault;
+pub use keys::{SortClass, key_same, sort_class};
 pub use lexical::{boolean_of, integer_of};
 pub use trims::trimmed;
 
