@@ -36,13 +36,13 @@ pub spells_from : (word : List ℕ) → IsNumeral 10 (without_leading_sign word)
 unfolding spells_integer
 spells_from word n f = and_from _ _ (numeral_true _ n) (range_true _ f)
 
-spells_parts : (word : List ℕ) → spells_integer word ≡ true → IsNumeral 10 (without_leading_sign word) × FitsSigned w64 (signed_digits_value 10 word)
+pub spells_parts : (word : List ℕ) → spells_integer word ≡ true → IsNumeral 10 (without_leading_sign word) × FitsSigned w64 (signed_digits_value 10 word)
 unfolding spells_integer
 spells_parts word e =
     let p = and_parts (is_numeral (without_leading_sign word)) (is_in_range (signed_digits_value 10 word)) e in
     (numeral_of _ p.0, range_of _ p.1)
 
-spelled : (word : List ℕ) → spells_integer word ≡ true → spelled_integer word ≡ Some (signed_digits_value 10 word)
+pub spelled : (word : List ℕ) → spells_integer word ≡ true → spelled_integer word ≡ Some (signed_digits_value 10 word)
 unfolding spelled_integer
 spelled word e = rw e refl
 

@@ -2,3 +2,4 @@ pub mod TrimLemmas
 pub mod IntegerLemmas
 pub mod ArithmeticLemmas
 pub mod TextOrders
+pub mod ReadBack

@@ -14,6 +14,7 @@ mod casts;
 mod comparisons;
 mod faults;
 mod keys;
+mod laws;
 mod lexical;
 mod trims;
 
@@ -24,6 +25,7 @@ pub use casts::{boolean_from, cast, castable, integer_from};
 pub use comparisons::{general_compare, holds, same_name, text_order, value_compare};
 pub use faults::ValueFault;
 pub use keys::{SortClass, key_same, sort_class};
+pub use laws::integers_are_read_back;
 pub use lexical::{boolean_of, integer_of};
 pub use trims::trimmed;
 
