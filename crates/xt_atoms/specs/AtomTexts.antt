@@ -1,7 +1,7 @@
 -- The text of an atom (XPath and XQuery Functions and Operators, 17.1.2).
-use Rattle.std.specs.Prelude.{ℕ, List, [], ◌∷◌, ◌++◌, Bool, true, false, codes}
+use Rattle.std.specs.Prelude.{ℕ, List, ◌++◌, Bool, true, false, if◌then◌else◌, codes}
 use Rattle.std.specs.Fmt.{signed_decimal}
-use Rattle.xt_names.specs.declared.names.Name.{Name}
+use Rattle.xt_names.specs.Allowed.{is_empty_text}
 use Rattle.xt_atoms.specs.declared.atoms.Atom.{Atom}
 use Rattle.xt_atoms.specs.declared.atoms.Atom.TheVariants as atom
 
@@ -11,8 +11,7 @@ boolean_text false = codes "false"
 
 -- `prefix:local`, or `local` where there is no prefix
 unfoldable pub lexical_qname : List ℕ → List ℕ → List ℕ
-lexical_qname [] local = local
-lexical_qname (c ∷ cs) local = (c ∷ cs) ++ codes ":" ++ local
+lexical_qname prefix local = if is_empty_text prefix then local else prefix ++ codes ":" ++ local
 
 unfoldable pub text_of : Atom → List ℕ
 text_of (atom.Str text) = text

@@ -1,1 +1,2 @@
 pub mod AtomTexts
+pub mod Lexical

@@ -7,11 +7,17 @@
 //! `value_compare`, which takes the untyped one as a text.
 #![tactic(auto)]
 
+mod atom_texts;
 mod atoms;
 mod faults;
+mod lexical;
+mod trims;
 
+pub use atom_texts::to_text;
 pub use atoms::{Atom, copy_atom_list};
 pub use faults::ValueFault;
+pub use lexical::{boolean_of, integer_of};
+pub use trims::trimmed;
 
 #[cfg(test)]
 mod tests;
