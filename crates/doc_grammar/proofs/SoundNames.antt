@@ -1,18 +1,18 @@
 -- What a start tag opens has sound names and attributes.
-use Rattle.std.proofs.Common.{◌≡◌, ℕ, ◌≤◌, List, [], ◌∷◌, ◌++◌, length, refl, arith, sym, ◌∙◌, subst, Bool, true, false, not, cond, ◌||◌, Option, Some, None, codes, length-append}
+use Rattle.std.proofs.Common.{◌≡◌, ℕ, ◌≤◌, List, [], ◌∷◌, ◌++◌, length, refl, arith, sym, ◌∙◌, subst, Bool, true, false, not, cond, ◌&&◌, ◌||◌, Option, Some, None, codes, length-append}
 use Rattle.std.specs.List.{list_all}
 use Rattle.std.specs.Str.{bytes_eq}
 use Rattle.std.proofs.lemmas.Slice.Eq.{bytes_eq-Decides}
 use Rattle.std.proofs.lemmas.List.Folds.{list_all-append}
 use Rattle.std.proofs.lemmas.Option.{none-some, same_Some}
 use Rattle.xt_names.specs.Allowed.{is_empty_text, is_prefix_of, keeps_xml, keeps_xmlns, is_allowed_name}
-use Rattle.xt_names.specs.Classes.{is_ncname_text, begins_name, is_xml_text}
+use Rattle.xt_names.specs.Classes.{is_ncname_text, begins_name, is_xml_text, is_in_ranges}
 use Rattle.xt_names.specs.declared.names.Name.{Name}
 use Rattle.xt_names.specs.declared.names.Binding.{Binding}
 use Rattle.xt_tree.specs.declared.attributes.Attribute.{Attribute}
 use Rattle.xt_tree.specs.Sound.{is_sound_name, is_named_xmlns, is_sound_attribute, names_differ, are_sound_attributes}
 use Rattle.doc_grammar.specs.RawNames.{RawName, RawAttribute, RawTag}
-use Rattle.doc_grammar.specs.Scopes.{top_scope, bound_later, bound_uri, declared_prefix, declared_by, declarations, is_binding, are_declarations, or_no_uri, in_namespace, element_named, element_name, attribute_named, attribute_name, with_value, unless_declared, one_named, both_named, named_attributes, Opened, opened_with, opened}
+use Rattle.doc_grammar.specs.Scopes.{top_scope, bound_later, bound_uri, declared_prefix, declared_by, declarations, is_binding, are_declarations, or_no_uri, in_namespace, element_named, element_name, attribute_named, attribute_name, with_value, unless_declared, with_declaration, one_named, both_named, named_attributes, Opened, opened_with, opened}
 use Rattle.doc_grammar.specs.Document.{QName, Valued, Attributes, Spaced}
 use Rattle.doc_grammar.specs.Document as doc
 use Rattle.doc_grammar.proofs.CharacterFacts.{both, not_true}
@@ -56,28 +56,32 @@ mutual
 
 -- bindings
 
+-- a binding whose uri has characters of XML alone
+abbrev pub is_held : Binding → Bool
+is_held b = is_binding b && is_xml_text b.uri
+
 abbrev pub AreBindings : List Binding → Type 0
-AreBindings scope = list_all is_binding scope ≡ true
+AreBindings scope = list_all is_held scope ≡ true
 
 abbrev binding : List ℕ → List ℕ → Binding
 binding prefix uri = record { prefix = prefix; uri = uri }
 
 -- what is bound in such a scope is a binding
-bound_binding : (scope : List Binding) (prefix uri : List ℕ) → AreBindings scope → bound_uri scope prefix ≡ Some uri → is_binding (binding prefix uri) ≡ true
+bound_binding : (scope : List Binding) (prefix uri : List ℕ) → AreBindings scope → bound_uri scope prefix ≡ Some uri → is_held (binding prefix uri) ≡ true
 unfolding bound_uri
 bound_binding [] prefix uri all e = absurd (none-some _ e)
 bound_binding (b ∷ bs) prefix uri all e = go (bound_uri bs prefix) refl e (λ d. bound_binding bs prefix uri (both all).1 d)
   where
-    here : (q : Bool) → bytes_eq b.prefix prefix ≡ q → cond q (Some b.uri) None ≡ Some uri → is_binding (binding prefix uri) ≡ true
+    here : (q : Bool) → bytes_eq b.prefix prefix ≡ q → cond q (Some b.uri) None ≡ Some uri → is_held (binding prefix uri) ≡ true
     here true q d = rw (sym ((bytes_eq-Decides b.prefix prefix).0 q), sym (same_Some _ _ d)) (both all).0
     here false q d = absurd (none-some _ d)
 
-    go : (o : Option (List ℕ)) → bound_uri bs prefix ≡ o → bound_later o b prefix ≡ Some uri → (bound_uri bs prefix ≡ Some uri → is_binding (binding prefix uri) ≡ true) → is_binding (binding prefix uri) ≡ true
+    go : (o : Option (List ℕ)) → bound_uri bs prefix ≡ o → bound_later o b prefix ≡ Some uri → (bound_uri bs prefix ≡ Some uri → is_held (binding prefix uri) ≡ true) → is_held (binding prefix uri) ≡ true
     go (Some u) f d again = again (f ∙ d)
     go None f d again = here (bytes_eq b.prefix prefix) refl d
 
 pub top_bindings : AreBindings top_scope
-unfolding is_binding keeps_xml keeps_xmlns is_empty_text
+unfolding is_binding keeps_xml keeps_xmlns is_empty_text is_xml_text is_in_ranges
 top_bindings = refl
 
 -- the parts of a binding
@@ -85,10 +89,11 @@ record Keeps (prefix uri : List ℕ) : Type 0 where
   uri_with : (is_empty_text prefix || not (is_empty_text uri)) ≡ true
   xml : keeps_xml prefix uri ≡ true
   xmlns : keeps_xmlns prefix uri ≡ true
+  characters : is_xml_text uri ≡ true
 
-keeps : (prefix uri : List ℕ) → is_binding (binding prefix uri) ≡ true → Keeps prefix uri
+keeps : (prefix uri : List ℕ) → is_held (binding prefix uri) ≡ true → Keeps prefix uri
 unfolding is_binding
-keeps prefix uri b = let x = both b in let y = both x.0 in record { uri_with = y.0; xml = y.1; xmlns = x.1 }
+keeps prefix uri b = let h = both b in let x = both h.0 in let y = both x.0 in record { uri_with = y.0; xml = y.1; xmlns = x.1; characters = h.1 }
 
 -- names
 
@@ -101,18 +106,18 @@ or_right : {a b : Bool} → a ≡ false → (a || b) ≡ true → b ≡ true
 or_right {a = true} f e = absurd (cc)
 or_right {a = false} f e = e
 
-plain_sound : (uri local : List ℕ) → is_ncname_text local ≡ true → keeps_xml [] uri ≡ true → keeps_xmlns [] uri ≡ true → is_sound_name (record { prefix = []; uri = uri; local = local }) ≡ true
+plain_sound : (uri local : List ℕ) → is_ncname_text local ≡ true → keeps_xml [] uri ≡ true → keeps_xmlns [] uri ≡ true → is_xml_text uri ≡ true → is_sound_name (record { prefix = []; uri = uri; local = local }) ≡ true
 unfolding is_sound_name is_allowed_name is_prefix_of is_empty_text
-plain_sound uri local n x y = rw (n, x, y) refl
+plain_sound uri local n x y c = rw (n, x, y, c) refl
 
 prefixed_sound : (prefix uri local : List ℕ) → is_ncname_text local ≡ true → is_ncname_text prefix ≡ true → Keeps prefix uri → is_sound_name (record { prefix = prefix; uri = uri; local = local }) ≡ true
 unfolding is_sound_name is_allowed_name is_prefix_of
 prefixed_sound prefix uri local n p k =
-    rw (n, some_prefix prefix p, p, or_right (some_prefix prefix p) k.uri_with, k.xml, k.xmlns) refl
+    rw (n, some_prefix prefix p, p, or_right (some_prefix prefix p) k.uri_with, k.xml, k.xmlns, k.characters) refl
 
 no_namespace : (local : List ℕ) → is_ncname_text local ≡ true → is_sound_name (record { prefix = []; uri = []; local = local }) ≡ true
 unfolding keeps_xml keeps_xmlns
-no_namespace local n = plain_sound [] local n refl refl
+no_namespace local n = plain_sound [] local n refl refl xml_none
 
 name_sound : (prefix local : List ℕ) (scope : List Binding) (name : Name) → AreBindings scope → is_ncname_text local ≡ true → is_ncname_text prefix ≡ true → in_namespace prefix local (bound_uri scope prefix) ≡ Some name → (is_sound_name name ≡ true) × (is_empty_text name.uri ≡ false)
 name_sound prefix local scope name all n p e = go (bound_uri scope prefix) refl e
@@ -134,7 +139,7 @@ element_sound scope raw name all r e = go raw.prefix r.1 e
       where
         here : (o : Option (List ℕ)) → bound_uri scope [] ≡ o → Some (record { prefix = []; uri = or_no_uri o; local = raw.local }) ≡ Some name → is_sound_name name ≡ true
         here None f d = rw (sym (same_Some _ _ d)) (no_namespace raw.local r.0)
-        here (Some uri) f d = let k = keeps [] uri (bound_binding scope [] uri all f) in rw (sym (same_Some _ _ d)) (plain_sound uri raw.local r.0 k.xml k.xmlns)
+        here (Some uri) f d = let k = keeps [] uri (bound_binding scope [] uri all f) in rw (sym (same_Some _ _ d)) (plain_sound uri raw.local r.0 k.xml k.xmlns k.characters)
     go (Some prefix) q d = (name_sound prefix raw.local scope name all r.0 q d).0
 
 -- attributes
@@ -202,11 +207,25 @@ pub record IsOpened (t : RawTag) (o : Opened) : Type 0 where
   pub count : length o.attributes ≤ length t.attributes
   pub bindings : AreBindings o.scope
 
-inner_bindings : (scope : List Binding) (t : RawTag) → AreBindings scope → are_declarations (declarations t.attributes) ≡ true → AreBindings (scope ++ declarations t.attributes)
+-- the uris of declarations are values of attributes
+declarations_held : (raw : List RawAttribute) → AreRaw raw → list_all is_binding (declarations raw) ≡ true → AreBindings (declarations raw)
+unfolding declarations
+declarations_held [] all d = refl
+declarations_held (a ∷ more) all d = go (declared_by a.name) d (λ e. declarations_held more all.2 e)
+  where
+    go : (p : Option (List ℕ)) → list_all is_binding (with_declaration p a.value (declarations more)) ≡ true → (list_all is_binding (declarations more) ≡ true → AreBindings (declarations more)) → AreBindings (with_declaration p a.value (declarations more))
+    go None e again = again e
+    go (Some prefix) e again =
+        let x = both {a = is_binding (binding prefix a.value)} {b = list_all is_binding (declarations more)} e in
+        let value : is_xml_text a.value ≡ true = all.1 in
+        let rest : list_all is_held (declarations more) ≡ true = again x.1 in
+        rw (x.0, value, rest) refl
+
+inner_bindings : (scope : List Binding) (t : RawTag) → AreBindings scope → AreRaw t.attributes → are_declarations (declarations t.attributes) ≡ true → AreBindings (scope ++ declarations t.attributes)
 unfolding are_declarations
-inner_bindings scope t all d =
-    let more : list_all is_binding (declarations t.attributes) ≡ true = (both d).0 in
-    rw (list_all-append is_binding scope (declarations t.attributes), all, more) refl
+inner_bindings scope t all raw d =
+    let more = declarations_held t.attributes raw (both d).0 in
+    rw (list_all-append is_held scope (declarations t.attributes), all, more) refl
 
 sound_all : (attributes : List Attribute) → AreSound attributes → names_differ attributes ≡ true → are_sound_attributes attributes ≡ true
 unfolding are_sound_attributes
@@ -229,5 +248,5 @@ opened_sound scope t o all n raw e = go (are_declarations (declarations t.attrib
     parts inner (Some name) f (Some attributes) g d = whole inner name f attributes g (names_differ attributes) refl d
 
     go : (q : Bool) → are_declarations (declarations t.attributes) ≡ q → cond q (opened_with (scope ++ declarations t.attributes) (element_name (scope ++ declarations t.attributes) t.name) (named_attributes (scope ++ declarations t.attributes) t.attributes)) None ≡ Some o → IsOpened t o
-    go true q d = parts (inner_bindings scope t all q) (element_name (scope ++ declarations t.attributes) t.name) refl (named_attributes (scope ++ declarations t.attributes) t.attributes) refl d
+    go true q d = parts (inner_bindings scope t all raw q) (element_name (scope ++ declarations t.attributes) t.name) refl (named_attributes (scope ++ declarations t.attributes) t.attributes) refl d
     go false q d = absurd (none-some _ d)

@@ -14,10 +14,10 @@ use Rattle.doc_grammar.specs.Lines.{text_of}
 use Rattle.doc_grammar.specs.Document.{IsDocument, IsDocumentText, Top, blank, fresh}
 use Rattle.doc_grammar.specs.Document as grammar
 use Rattle.doc_grammar.specs.Scopes.{opened}
-use Rattle.doc_writer.specs.Readable.{element_count, has_text, keep_returns, is_readable_kids, as_written_forest, as_written}
+use Rattle.doc_writer.specs.Readable.{element_count, has_text, keep_returns, is_readable_kids, as_written_forest, as_written, is_readable}
 use Rattle.doc_writer.specs.Scopes.{first_scope}
 use Rattle.doc_writer.specs.Written.{xml_declaration, written_forest, written_text, written_tree}
-use Rattle.doc_laws.specs.ReadBack.{keep_uris, IsReadable}
+use Rattle.doc_laws.proofs.Uris.{keep_uris, sound_uris}
 use Rattle.doc_laws.proofs.Declarations.{declaration_back}
 use Rattle.doc_laws.proofs.Elements.{forest_same}
 use Rattle.doc_laws.proofs.Contents.{Allows}
@@ -35,14 +35,13 @@ record AreReadable (kids : Forest) : Type 0 where
   returns : keep_returns kids ≡ true
   uris : keep_uris kids ≡ true
 
-readable_parts : (kids : Forest) → IsReadable (Doc kids) → AreReadable kids
+readable_parts : (kids : Forest) → is_readable (Doc kids) ≡ true → AreReadable kids
 readable_parts kids r =
-    let a = and_parts (is_sound_tree (Doc kids)) (is_readable_kids kids) r.readable in
+    let a = and_parts (is_sound_tree (Doc kids)) (is_readable_kids kids) r in
     let b = and_parts (is_sound_root (Doc kids) && nat_le (tree_height (Doc kids)) 2000) (nat_le (tree_size (Doc kids)) 0x7FFF_FFFF_FFFF_FFFF) a.0 in
     let d = and_parts (is_sound_root (Doc kids)) (nat_le (tree_height (Doc kids)) 2000) b.0 in
     let e = and_parts ((element_count kids == 1) && not (has_text kids)) (keep_returns kids) a.1 in
     let f = and_parts (element_count kids == 1) (not (has_text kids)) e.0 in
-    let u = and_parts (keep_uris kids) true r.uris in
     let high = leb-true (tree_height (Doc kids)) 2000 d.1 in
     let size = leb-true (tree_size (Doc kids)) 0x7FFF_FFFF_FFFF_FFFF b.1 in
     record {
@@ -52,7 +51,7 @@ readable_parts kids r =
       one_element = eqb-true (element_count kids) 1 f.0;
       no_text = not-true (has_text kids) f.1;
       returns = e.1;
-      uris = u.0;
+      uris = sound_uris false kids d.0;
     }
 
 top_allows : (kids : Forest) → AreReadable kids → Allows 0 [] kids
@@ -81,10 +80,10 @@ whole_document kids r =
     let Q : List ℕ → Type 0 = λ x. IsDocumentText (text_of x) (as_written (Doc kids)) in
     ((text, (scalar, refl)), subst Q (sym (chars-encodes text scalar)) (subst P (sym (text_same kids r)) (document_text kids r)))
 
-pub document_back : (t : Tree) (bytes : List ℕ) → IsReadable t → written_tree t ≡ Some bytes → IsDocument bytes (as_written t)
+pub document_back : (t : Tree) (bytes : List ℕ) → is_readable t ≡ true → written_tree t ≡ Some bytes → IsDocument bytes (as_written t)
 document_back (Doc kids) bytes r e = let P : List ℕ → Type 0 = λ x. IsDocument x (as_written (Doc kids)) in subst P (same_Some _ _ e) (whole_document kids (readable_parts kids r))
-document_back (Elem name attributes kids) bytes r e = let x = r.readable in absurd (cc)
-document_back (Text t) bytes r e = let x = r.readable in absurd (cc)
-document_back (Comment t) bytes r e = let x = r.readable in absurd (cc)
-document_back (Pi target t) bytes r e = let x = r.readable in absurd (cc)
-document_back (Attr name t) bytes r e = let x = r.readable in absurd (cc)
+document_back (Elem name attributes kids) bytes r e = absurd (cc)
+document_back (Text t) bytes r e = absurd (cc)
+document_back (Comment t) bytes r e = absurd (cc)
+document_back (Pi target t) bytes r e = absurd (cc)
+document_back (Attr name t) bytes r e = absurd (cc)

@@ -74,7 +74,8 @@ pub record IsAllowed (name : Name) : Type 0 where
 pub allowed : (name : Name) → is_sound_name name ≡ true → IsAllowed name
 unfolding is_sound_name is_allowed_name
 allowed name s =
-    let a = and_parts ((is_ncname_text name.local && is_prefix_of name.prefix name.uri) && keeps_xml name.prefix name.uri) (keeps_xmlns name.prefix name.uri) s in
+    let u = and_parts (((is_ncname_text name.local && is_prefix_of name.prefix name.uri) && keeps_xml name.prefix name.uri) && keeps_xmlns name.prefix name.uri) (is_xml_text name.uri) s in
+    let a = and_parts ((is_ncname_text name.local && is_prefix_of name.prefix name.uri) && keeps_xml name.prefix name.uri) (keeps_xmlns name.prefix name.uri) u.0 in
     let b = and_parts (is_ncname_text name.local && is_prefix_of name.prefix name.uri) (keeps_xml name.prefix name.uri) a.0 in
     let d = and_parts (is_ncname_text name.local) (is_prefix_of name.prefix name.uri) b.0 in
     record { local = d.0; prefix = d.1; xml = b.1; xmlns = a.1 }

@@ -11,6 +11,7 @@ pub mod Lookups
 pub mod Markup
 pub mod Declarations
 pub mod Elements
+pub mod Uris
 pub mod Contents
 pub mod Tops
 pub mod Characters

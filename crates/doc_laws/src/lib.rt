@@ -29,8 +29,7 @@ pub fn written_markup_reads_back()
 
 /// The bytes that are written for a readable document are a document, which stands for the same tree with the prefixes that are
 /// written: `as_written` of doc_writer. Readable is a sound document of one element and no text, whose comments and
-/// processing instructions hold no carriage return, and in whose uris all characters are those of XML
-/// (XML 1.0; Namespaces in XML 1.0; Serialization, 5).
+/// processing instructions hold no carriage return (XML 1.0; Namespaces in XML 1.0; Serialization, 5).
 pub fn written_documents_read_back()
     ensures { DocumentsReadBack }
 {}

@@ -10,7 +10,6 @@ ghost use Rattle.doc_reader.specs.View.{name_of, tag_of};
 ghost use Rattle.doc_reader.specs.Frames.{open_in, here, base_of, stack_of, outside, stop_before, Pushes};
 
 use crate::classes::starts_name;
-use crate::lists::fitted;
 use crate::names::RawName;
 use crate::readers::{Frame, LIMIT, Level, Reader};
 use crate::scopes::open_tag;
@@ -205,7 +204,7 @@ impl<'a> Reader<'a> {
         } = frame;
         self.scope
             .truncate(self.scope.len().saturating_sub(declared));
-        let kids = Kids::make(alloc, fitted(kids))?;
+        let kids = Kids::make(alloc, kids)?;
         self.add(Tree::Elem(element, attributes, kids))
     }
 

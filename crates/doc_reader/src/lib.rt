@@ -19,7 +19,6 @@ mod classes;
 mod elements;
 mod faults;
 mod lines;
-mod lists;
 mod names;
 mod prolog;
 mod readers;

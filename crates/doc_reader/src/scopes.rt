@@ -7,7 +7,6 @@ ghost use Rattle.doc_grammar.specs.Scopes.{bound_uri, declared_by, declarations,
 ghost use Rattle.doc_reader.specs.View.{name_of, attribute_of, tag_of};
 ghost use Rattle.doc_reader.specs.Opening.{OpensTag, uri_of};
 
-use crate::lists::fitted;
 use crate::names::RawName;
 use crate::tags::{RawAttribute, RawTag};
 use std::alloc::{AllocError, Global};
@@ -105,7 +104,7 @@ pub(crate) fn open_tag(
     if !names_differ(alloc, attributes.as_slice()) {
         return Ok(None);
     }
-    let attributes = Attrs::make(alloc, fitted(attributes))?;
+    let attributes = Attrs::make(alloc, attributes)?;
     Ok(Some(OpenedTag {
         element,
         attributes,

@@ -5,7 +5,8 @@ use Rattle.xt_tree.specs.declared.trees.Tree.{Tree}
 use Rattle.xt_tree.specs.declared.trees.Tree.TheVariants.{Doc, Elem, Text, Comment, Pi, Attr}
 use Rattle.xt_tree.specs.Forest.{Forest, end, doc, elem, text, comment, pi, attr}
 use Rattle.xt_tree.specs.TreeView.{trees, kids_of}
-use Rattle.sheet_meaning.specs.First.{is_white_text, is_in_xslt}
+use Rattle.sheet_meaning.specs.First.{is_in_xslt}
+use Rattle.xt_tree.specs.White.{is_white_text}
 use Rattle.sheet_meaning.specs.Outcome.{Outcome, Ends, Fails, Deep, and_then, joined, IsOver}
 use Rattle.sheet_meaning.specs.Rules.{best_rule, templates_of}
 use Rattle.sheet_meaning.specs.Meaning.{Calls, applied, constructed, built_in, ruled, entered, listed, element_of, document_of, transform_meaning}

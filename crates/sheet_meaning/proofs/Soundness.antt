@@ -16,7 +16,8 @@ use Rattle.xt_tree.specs.declared.trees.Tree.TheVariants.{Doc, Elem, Text, Comme
 use Rattle.xt_tree.specs.Forest.{Forest, end, doc, elem, text, comment, pi, attr, texts}
 use Rattle.xt_tree.specs.Sound.{is_sound_name, is_sound_attribute, are_sound_attributes, are_sound_behind, is_sound_root, is_sound_tree}
 use Rattle.xt_tree.specs.TreeView.{forest_of, trees, kids_of, tree_height, tree_size}
-use Rattle.sheet_meaning.specs.First.{is_white_text, is_in_xslt}
+use Rattle.sheet_meaning.specs.First.{is_in_xslt}
+use Rattle.xt_tree.specs.White.{is_white_text}
 use Rattle.sheet_meaning.specs.Outcome.{Outcome, Ends, Fails, Deep, and_then, joined}
 use Rattle.sheet_meaning.specs.Rules.{Template, pattern_matches, template_of, templates_among, root_content, templates_of, best_rule}
 use Rattle.sheet_meaning.specs.Meaning.{put_text, complex_content, is_within_limits, limited, Calls, applied, constructed, built_in, ruled, entered, listed, element_of, document_of, transform_meaning}

@@ -4,19 +4,12 @@ use Rattle.std.specs.List.{list_all}
 use Rattle.std.specs.Str.{bytes_eq}
 use Rattle.xt_names.specs.Allowed.{is_empty_text}
 use Rattle.xt_names.specs.Classes.{is_ncname_text}
-use Rattle.xt_names.specs.Marks.{is_white}
 use Rattle.xt_names.specs.declared.names.Name.{Name}
 use Rattle.xt_tree.specs.declared.attributes.Attribute.{Attribute}
 use Rattle.xt_tree.specs.declared.trees.Tree.{Tree}
 use Rattle.xt_tree.specs.declared.trees.Tree.TheVariants.{Doc, Elem, Text, Comment, Pi, Attr}
+use Rattle.xt_tree.specs.White.{is_white_text}
 use Rattle.xt_tree.specs.Forest.{Forest, end, doc, elem, text, comment, pi, attr}
-
-unfoldable pub is_white_char : ℕ → Bool
-is_white_char c = is_white c
-
--- white space alone (XML 1.0, production S), or no character at all
-unfoldable pub is_white_text : List ℕ → Bool
-is_white_text t = list_all is_white_char t
 
 unfoldable pub is_in_xslt : Name → Bool
 is_in_xslt name = bytes_eq name.uri (codes "http://www.w3.org/1999/XSL/Transform")

@@ -7,7 +7,8 @@ use Rattle.xt_tree.specs.declared.trees.Tree.{Tree}
 use Rattle.xt_tree.specs.declared.trees.Tree.TheVariants.{Doc, Elem, Text, Comment, Pi, Attr}
 use Rattle.xt_tree.specs.Forest.{Forest, end, doc, elem, text, comment, pi, attr}
 use Rattle.xt_tree.specs.TreeView.{forest_of, trees, kids_of, tree_height, tree_size}
-use Rattle.sheet_meaning.specs.First.{is_white_text, is_in_xslt}
+use Rattle.sheet_meaning.specs.First.{is_in_xslt}
+use Rattle.xt_tree.specs.White.{is_white_text}
 use Rattle.sheet_meaning.specs.Outcome.{Outcome, Ends, Fails, Deep, and_then, joined}
 use Rattle.sheet_meaning.specs.Rules.{templates_of, best_rule}
 

@@ -8,7 +8,7 @@
 #![tactic(auto)]
 
 mod laws;
-mod texts;
+mod names;
 
 pub use laws::{content_keeps_texts, deeper_runs_end_alike, last_match_is_best, results_are_sound};
-pub use texts::{is_in_xslt, is_white};
+pub use names::is_in_xslt;

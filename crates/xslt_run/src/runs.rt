@@ -12,10 +12,10 @@ ghost use Rattle.xslt_run.specs.Table.{rule_for};
 use crate::contents::Content;
 use crate::faults::EvalFault;
 use crate::rules::{Rules, rules_of};
-use sheet_meaning::{is_in_xslt, is_white};
+use sheet_meaning::is_in_xslt;
 use std::alloc::Global;
 use xt_names::{Code, DynamicCode, List, Name};
-use xt_tree::{Attrs, Tree};
+use xt_tree::{Attrs, Tree, is_white};
 
 /// What the stylesheet makes of the document (XSLT 2.0, 2.4), with at most `depth` rules open at once.
 pub fn run_first_sheet(
