@@ -78,7 +78,8 @@ pub fn boolean_from(a: &Atom) -> Result<bool, Code>
     }
 }
 
-pub(crate) fn is_zero(number: i64) -> bool
+/// Whether the integer is 0.
+pub fn is_zero(number: i64) -> bool
     ensures { result ≡ is_zero number }
 {
     number == 0
