@@ -7,10 +7,16 @@
 //! integer 1.
 #![tactic(auto)]
 
+mod conversions;
 mod items;
+mod matching;
+mod truths;
 mod values;
 
+pub use conversions::convert;
 pub use items::{Item, ItemList, copy_item_list};
+pub use matching::{has_atom_type, matches, matches_item};
+pub use truths::{ebv, truth_of_atom};
 pub use values::{atomize, typed_value};
 
 #[cfg(test)]

@@ -1,4 +1,5 @@
 ghost use Rattle.std.specs.Prelude.{◌≡◌, ◌++◌, ◌∷◌, [], OnOk, IfOk};
+ghost use Rattle.xdm_items.specs.declared.items.Item.TheVariants.{Atom as as_atom};
 ghost use Rattle.xdm_items.specs.Values.{typed_value_below, atomized_item, atomized};
 ghost use Rattle.xt_tree.specs.Place.{subtree_of};
 
@@ -24,11 +25,18 @@ pub fn atomize(alloc: Global, items: &ItemList) -> Result<ItemList, AllocError>
 fn push_atom(alloc: Global, item: &Item, atoms: &mut ItemList) -> Result<(), AllocError>
     ensures { OnOk result (atoms.new ≡ atoms.old ++ atomized_item item.now ∷ []) }
 {
-    let atom = match item {
-        Item::Node(node) => typed_value(alloc, node)?,
-        Item::Atom(atom) => atom.copy()?,
-    };
+    let atom = atom_of(alloc, item)?;
     atoms.push(Item::Atom(atom))
+}
+
+/// The item made an atom.
+pub(crate) fn atom_of(alloc: Global, item: &Item) -> Result<Atom, AllocError>
+    ensures { IfOk result (λ atom. as_atom atom ≡ atomized_item item.now) }
+{
+    match item {
+        Item::Node(node) => typed_value(alloc, node),
+        Item::Atom(atom) => atom.copy(),
+    }
 }
 
 /// The typed value of a node (XDM, 5.15).
