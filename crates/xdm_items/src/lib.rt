@@ -1,7 +1,9 @@
 //! Items, the members of the lists that expressions give: a node or an atom.
 //!
 //! Contracts see an item as the place of its node or as its atom, and two items are one where these are. `atomize` gives
-//! the typed value of each item; the definitions `string_value_of` and `atomized` say what that is.
+//! the typed value of each item; the definitions `string_value_of` and `atomized` say what that is. `ebv` is the truth
+//! value of a list, `matches` tells whether it has a sequence type, and `convert` makes it a value of the type, by the
+//! function conversion rules.
 //!
 //! Example: of the list of the element `<a>x</a>` and the integer 1 `atomize` makes the untyped atom `x` and the
 //! integer 1.
