@@ -60,10 +60,10 @@ pub fn holds(op: CompareOp, order: Ordering) -> bool
 pub fn text_order(a: &str, b: &str) -> Ordering
     ensures { result ≡ text_order (chars a.now) (chars b.now) }
 {
-    a.chars().cmp(b.chars())
+    a.cmp(b)
 }
 
-// Equality takes no decoding.
+// Texts of different lengths are told apart at once.
 fn compares_texts(op: CompareOp, a: &Text, b: &Text) -> bool
     ensures { result ≡ holds op (text_order a.now b.now) }
 {
