@@ -3,3 +3,6 @@ pub mod Complex
 pub mod Building
 pub mod Answers
 pub mod Kept
+pub mod Simple
+pub mod Line
+pub mod Trees

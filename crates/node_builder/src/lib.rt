@@ -10,11 +10,16 @@
 #![tactic(auto)]
 
 mod attributes;
+mod builders;
 mod contents;
 mod faults;
 mod kinds;
+mod simple_contents;
 mod texts;
+mod trees;
 
+pub use builders::Builder;
 pub use contents::{Content, content_of};
 pub use faults::BuildFault;
 pub use kinds::{Duplicates, Holder};
+pub use simple_contents::simple;
