@@ -104,7 +104,7 @@ unfolding put_text is_empty_text
 tidy-text [] xs = refl
 tidy-text (c ∷ cs) xs = refl
 
-tidy-put : (y : Tree) (xs : List Tree) → tidy (y ∷ xs) ≡ put_tree y (tidy xs)
+pub tidy-put : (y : Tree) (xs : List Tree) → tidy (y ∷ xs) ≡ put_tree y (tidy xs)
 tidy-put (Doc kids) xs = refl
 tidy-put (Elem name attributes kids) xs = refl
 tidy-put (Text t) xs = tidy-text t xs

@@ -5,3 +5,6 @@ pub mod AttributeLemmas
 pub mod LineLemmas
 pub mod TrimLemmas
 pub mod NumberLemmas
+pub mod SubtreeLemmas
+pub mod SoundContent
+pub mod SoundTrees

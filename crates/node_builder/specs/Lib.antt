@@ -6,3 +6,4 @@ pub mod Kept
 pub mod Simple
 pub mod Line
 pub mod Trees
+pub mod SoundItems

@@ -1,8 +1,11 @@
-ghost use Rattle.std.specs.Prelude.{◌≡◌};
+ghost use Rattle.std.specs.Prelude.{◌≡◌, IfOk, true, false};
 ghost use Rattle.std.specs.Str.{chars};
+ghost use Rattle.xt_names.specs.Classes.{is_xml_text, is_ncname_text};
+ghost use Rattle.xt_tree.specs.Sound.{is_sound_name, is_sound_attribute, is_xml_in_any_case, is_sound_tree};
 ghost use Rattle.xt_tree.specs.declared.trees.Tree.{Tree};
 ghost use Rattle.xt_tree.specs.declared.trees.Tree.TheVariants.{Text as a_text, Attr as an_attribute};
 ghost use Rattle.node_builder.specs.Answers.{Builds, Makes};
+ghost use Rattle.node_builder.specs.SoundItems.{are_sound_items};
 ghost use Rattle.node_builder.specs.Made.{Made, Gives};
 ghost use Rattle.node_builder.specs.Trees.{numbered, is_within_limits, element_of, document_of, comment_of, pi_of};
 
@@ -32,7 +35,8 @@ impl Builder {
         content: &ItemList,
         duplicates: Duplicates,
     ) -> Result<Node, BuildFault>
-        ensures { Builds self.old.next self.new.next result (numbered self.old.next (element_of duplicates name content.now)) }
+        ensures built { Builds self.old.next self.new.next result (numbered self.old.next (element_of duplicates name content.now)) }
+        ensures sound { is_sound_name name ≡ true → are_sound_items content.now ≡ true → IfOk result (λ node. is_sound_tree node.tree ≡ true) }
     {
         let made = element_tree(alloc, name, content, duplicates);
         self.add(alloc, made)
@@ -45,7 +49,8 @@ impl Builder {
         content: &ItemList,
         duplicates: Duplicates,
     ) -> Result<Node, BuildFault>
-        ensures { Builds self.old.next self.new.next result (numbered self.old.next (document_of duplicates content.now)) }
+        ensures built { Builds self.old.next self.new.next result (numbered self.old.next (document_of duplicates content.now)) }
+        ensures sound { are_sound_items content.now ≡ true → IfOk result (λ node. is_sound_tree node.tree ≡ true) }
     {
         let made = document_tree(alloc, content, duplicates);
         self.add(alloc, made)
@@ -53,7 +58,8 @@ impl Builder {
 
     /// An attribute (XSLT 2.0, 11.3; XQuery 1.0, 3.7.3.2).
     pub fn attribute(&mut self, alloc: Global, name: Name, value: &str) -> Result<Node, BuildFault>
-        ensures { Builds self.old.next self.new.next result (numbered self.old.next (Gives (an_attribute name (chars value.now)))) }
+        ensures built { Builds self.old.next self.new.next result (numbered self.old.next (Gives (an_attribute name (chars value.now)))) }
+        ensures sound { is_sound_attribute name (chars value.now) ≡ true → IfOk result (λ node. is_sound_tree node.tree ≡ true) }
     {
         let made = attribute_tree(alloc, name, value);
         self.add(alloc, made)
@@ -61,7 +67,8 @@ impl Builder {
 
     /// A text (XSLT 2.0, 11.4; XQuery 1.0, 3.7.3.4).
     pub fn text(&mut self, alloc: Global, value: &str) -> Result<Node, BuildFault>
-        ensures { Builds self.old.next self.new.next result (numbered self.old.next (Gives (a_text (chars value.now)))) }
+        ensures built { Builds self.old.next self.new.next result (numbered self.old.next (Gives (a_text (chars value.now)))) }
+        ensures sound { is_xml_text (chars value.now) ≡ true → IfOk result (λ node. is_sound_tree node.tree ≡ true) }
     {
         let made = text_tree(alloc, value);
         self.add(alloc, made)
@@ -69,7 +76,8 @@ impl Builder {
 
     /// A comment; XQDY0072 where the value holds `--` or ends with `-` (XQuery 1.0, 3.7.3.6).
     pub fn comment(&mut self, alloc: Global, value: &str) -> Result<Node, BuildFault>
-        ensures { Builds self.old.next self.new.next result (numbered self.old.next (comment_of (chars value.now))) }
+        ensures built { Builds self.old.next self.new.next result (numbered self.old.next (comment_of (chars value.now))) }
+        ensures sound { is_xml_text (chars value.now) ≡ true → IfOk result (λ node. is_sound_tree node.tree ≡ true) }
     {
         let made = comment_tree(alloc, value);
         self.add(alloc, made)
@@ -78,7 +86,8 @@ impl Builder {
     /// A processing instruction, without the white space at the front of the value; XQDY0026 where the value holds `?>`
     /// (XQuery 1.0, 3.7.3.5).
     pub fn pi(&mut self, alloc: Global, target: &str, value: &str) -> Result<Node, BuildFault>
-        ensures { Builds self.old.next self.new.next result (numbered self.old.next (pi_of (chars target.now) (chars value.now))) }
+        ensures built { Builds self.old.next self.new.next result (numbered self.old.next (pi_of (chars target.now) (chars value.now))) }
+        ensures sound { is_ncname_text (chars target.now) ≡ true → is_xml_in_any_case (chars target.now) ≡ false → is_xml_text (chars value.now) ≡ true → IfOk result (λ node. is_sound_tree node.tree ≡ true) }
     {
         let made = pi_tree(alloc, target, value);
         self.add(alloc, made)
