@@ -1,0 +1,5 @@
+pub mod TrimLemmas
+pub mod IntegerLemmas
+pub mod ArithmeticLemmas
+pub mod TextOrders
+pub mod ReadBack

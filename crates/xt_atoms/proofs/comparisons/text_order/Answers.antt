@@ -1,0 +1,12 @@
+use Rattle.std.proofs.Common.{◌≡◌, nat_cmp, refl, ap, ◌∙◌}
+use Rattle.std.proofs.lemmas.Iterator.{YieldsList-from_chars}
+use Rattle.std.proofs.lemmas.Iterator.Search.{cmp_from_yields_List}
+use Rattle.std.specs.Str.Iter.{chars_rest}
+use Rattle.xt_atoms.specs.Comparisons.{text_order}
+use Rattle.xt_atoms.proofs.comparisons.text_order.Goals as goal
+
+pub returns : goal.returns
+unfolding text_order
+returns c =
+    cmp_from_yields_List (λ x y. y ≡ x) _ nat_cmp _ c.cmp.ensures.ran (YieldsList-from_chars c.args.a.now c.utf8.a c.chars.ensures.rest)
+    (λ it e. YieldsList-from_chars c.args.b.now c.utf8.b (ap chars_rest e ∙ c.chars-2.ensures.rest)) (λ x y. refl)
