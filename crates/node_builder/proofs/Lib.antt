@@ -1,0 +1,4 @@
+pub mod ContentLemmas
+pub mod OnePass
+pub mod Passes
+pub mod AttributeLemmas

@@ -1,0 +1,5 @@
+pub mod Made
+pub mod Complex
+pub mod Building
+pub mod Answers
+pub mod Kept
