@@ -10,11 +10,25 @@ use xt_tree::{Attribute, Node, Tree, tree_at};
 use xt_types::{Axis, Test};
 
 /// Whether the node on the axis passes the test. It takes no memory.
-#[tactic(auto, unfolding(crate::specs::Tests::tree_passes))]
 pub fn node_passes(test: &Test, axis: Axis, node: &Node) -> bool
     ensures { result ≡ passes_at axis test.now node.now }
 {
-    match (tree_at(node.tree(), node.path()), node.attribute_place()) {
+    spot_passes(test, axis, node.tree(), node.path(), node.attribute_place())
+}
+
+/// Whether the node at the place in the tree passes the test on the axis; false where the tree has no such place. It takes no
+/// memory.
+#[tactic(auto, unfolding(crate::specs::Tests::tree_passes))]
+pub fn spot_passes(
+    test: &Test,
+    axis: Axis,
+    tree: &Tree,
+    path: &[usize],
+    attribute: Option<usize>,
+) -> bool
+    ensures { result ≡ tree_passes axis test.now (subtree_below (subtree_at tree.now path.now) attribute) }
+{
+    match (tree_at(tree, path), attribute) {
         (None, _) => false,
         (Some(tree), None) => passes(test, axis, tree),
         (Some(tree), Some(place)) => passes_at(test, axis, tree, place),
