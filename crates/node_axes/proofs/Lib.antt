@@ -1,2 +1,14 @@
 pub mod PathLemmas
 pub mod FilterLemmas
+pub mod MoveLemmas
+pub mod LoopLemmas
+pub mod StartLemmas
+pub mod AxisLemmas
+pub mod LandLemmas
+pub mod DownLemmas
+pub mod UpLemmas
+pub mod TopLemmas
+pub mod AnyLemmas
+pub mod EndLemmas
+pub mod CourseLemmas
+pub mod CursorLemmas

@@ -10,7 +10,7 @@ use Rattle.xt_tree.specs.declared.trees.Tree.{Tree}
 use Rattle.xt_tree.specs.Place.{subtree_at, subtree_kids, has_attribute}
 use Rattle.xt_tree.specs.TreeView.{kids_of}
 use Rattle.xt_tree.proofs.PlaceLemmas.{subtree_at-append}
-use Rattle.node_axes.specs.Paths.{Stands, before, above, same, below, after, then_stands, stands, is_before_all, is_earlier, is_over, has_path}
+use Rattle.node_axes.specs.Paths.{Stands, before, above, same, below, after, then_stands, stands, is_before_all, is_earlier, is_not_later, is_over, has_path}
 
 pub cmp_less : (i j : ℕ) → i < j → nat_cmp i j ≡ Less
 cmp_less i j h = sym (nat_cmp_is i j Less h)
@@ -231,14 +231,6 @@ leaf_cases t q m after e l h = refl
 
 pub leaf : (t : Tree) (q m : List ℕ) → length (subtree_kids (subtree_at t q)) ≡ 0 → has_path t m ≡ true → is_earlier (stands q m) ≡ is_before_all (stands q m)
 leaf t q m l h = leaf_cases t q m (stands q m) refl l h
-
--- the way to a node that is not behind the child before goes by the child or stands before it
-abbrev pub is_not_later : Stands → Bool
-is_not_later before = true
-is_not_later above = true
-is_not_later same = true
-is_not_later below = false
-is_not_later after = false
 
 left_step : (i j : ℕ) (r : List ℕ) → is_not_later (then_stands (nat_cmp (i + 1) j) (stands [] r)) ≡ true → Places (i + 1) j → Places i j
     → is_before_all (then_stands (nat_cmp i j) (stands [] r)) ≡ true

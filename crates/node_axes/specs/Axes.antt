@@ -117,11 +117,11 @@ is_reverse AncestorOrSelf = true
 unfoldable pub in_axis_order : Axis → List Spot → List Spot
 in_axis_order axis spots = if is_reverse axis then reverse spots else spots
 
-unfoldable pub spot_of : Place → Spot
+abbrev pub spot_of : Place → Spot
 spot_of n = (n.path, n.attribute)
 
 -- the node at the spot of the same tree
-unfoldable pub place_at : Place → Spot → Place
+abbrev pub place_at : Place → Spot → Place
 place_at n s = record n { path = s.0; attribute = s.1 }
 
 -- the nodes of the axis: those of all nodes of the tree that are on it

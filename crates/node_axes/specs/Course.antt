@@ -1,6 +1,8 @@
 -- What a contract sees of a cursor, and which nodes are still to come.
 use Rattle.std.specs.Prelude.{◌≡◌, ℕ, List, [], ◌∷◌, ◌++◌, map, filter, Bool, true, false, ◌&&◌, if◌then◌else◌, Option, Some, None, is_some}
+use Rattle.std.specs.Prelude.{◌≤◌}
 use Rattle.xt_tree.specs.Place.{Place}
+use Rattle.xt_tree.specs.TreeView.{tree_depth}
 use Rattle.xt_tree.specs.Walk.{Spot, spots_of}
 use Rattle.xt_types.specs.declared.axes.Axis.{Axis}
 use Rattle.xt_types.specs.declared.node_tests.Test.{Test}
@@ -37,3 +39,8 @@ to_come c = come_after c.axis c.start c.begun c.present
 unfoldable pub is_at_hit : Axis → Test → Option Place → Bool
 is_at_hit axis wanted None = false
 is_at_hit axis wanted (Some m) = passes_at axis wanted m
+
+-- the node where a walk stands, if it stands on one
+unfoldable pub present_at : Bool → Place → List ℕ → Option ℕ → Option Place
+present_at false n path attribute = None
+present_at true n path attribute = Some (place_at n (path, attribute))

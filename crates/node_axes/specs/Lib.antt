@@ -1,3 +1,4 @@
 pub mod Axes
 pub mod Course
+pub mod Moves
 pub mod Paths

@@ -47,6 +47,14 @@ is_over same = true
 is_over below = false
 is_over after = false
 
+-- before it, above it or it
+abbrev pub is_not_later : Stands → Bool
+is_not_later before = true
+is_not_later above = true
+is_not_later same = true
+is_not_later below = false
+is_not_later after = false
+
 -- the tree has a node at the path
 unfoldable pub has_path : Tree → List ℕ → Bool
 has_path t p = has_attribute (subtree_at t p) None
