@@ -6,8 +6,10 @@
 #![tactic(auto)]
 
 mod nesting;
+mod sheets;
 
 pub use nesting::{nest_body, nest_bound, nest_instruction};
+pub use sheets::nest_sheet;
 
 #[cfg(test)]
 mod tests;

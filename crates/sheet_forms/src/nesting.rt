@@ -70,7 +70,7 @@ fn nest_whens<E, P>(all: &[When<E, P>]) -> u32
 }
 
 #[cycle(nest)]
-fn nest_bounds<E, P>(all: &[Bound<E, P>]) -> u32
+pub(crate) fn nest_bounds<E, P>(all: &[Bound<E, P>]) -> u32
     ensures { result ≡ min (greatest (map bound_nest_of all.now)) u32.MAX }
 {
     let mut most: u32 = 0;
