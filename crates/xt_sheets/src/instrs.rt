@@ -4,6 +4,7 @@ use xt_names::{ExprName, List, Name, Shared, Text};
 use xt_types::SeqType;
 
 /// An instruction, literal text or literal element of a sequence constructor (XSLT 2.0, 5.7). Its prefixes are resolved.
+/// `E` is the type of the expressions, `P` that of the patterns.
 #[derive(Drop)]
 #[cycle(instr)]
 pub enum Instr<E, P> {

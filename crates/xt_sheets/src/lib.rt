@@ -3,15 +3,19 @@
 //! Contracts see plain syntax: two values are equal where they are written alike. Within instructions each expression and
 //! each list stands in a `Shared`, so a copy goes down no level; the declarations of a stylesheet hold theirs themselves.
 //!
+//! The types that hold expressions take the type of those, and of patterns, as parameters: proofs about them then look
+//! into no expression. They stand in the modules `instrs` and `values`; the names below give them the expressions and
+//! patterns of xt_syntax.
+//!
 //! Example: `<xsl:if test="$x">a</xsl:if>` is `Instr::If` of `Expr::Var(x)` and the list of `Instr::Chars(a)`.
 #![tactic(auto)]
 
 mod instr_copies;
-mod instrs;
+pub mod instrs;
 mod sheet_copies;
 mod sheets;
 mod value_copies;
-mod values;
+pub mod values;
 
 pub use instr_copies::{copy_bound_list, copy_instr_list, copy_value_list, copy_when_list};
 pub use sheet_copies::{
