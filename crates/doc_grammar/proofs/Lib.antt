@@ -29,3 +29,4 @@ pub mod Sizes
 pub mod SoundNames
 pub mod SoundTrees
 pub mod SoundDocuments
+pub mod PlaceLemmas

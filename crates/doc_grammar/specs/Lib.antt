@@ -7,6 +7,7 @@ pub mod Prolog
 pub mod Lexemes
 pub mod Document
 pub mod Lexing
+pub mod Places
 pub mod Machine
 pub mod Faults
 pub mod Skeleton

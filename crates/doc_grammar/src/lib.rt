@@ -12,6 +12,8 @@ ghost use Rattle.doc_grammar.specs.Scopes.{opened};
 ghost use Rattle.doc_grammar.specs.Document.{IsDocument};
 ghost use Rattle.doc_grammar.specs.Machine.{run, start, Stop as AnyStop, stops};
 ghost use Rattle.doc_grammar.specs.Skeleton.{IsFirstFault};
+ghost use Rattle.doc_grammar.specs.Lines.{text_of, offset};
+ghost use Rattle.doc_grammar.specs.Places.{IsPlace};
 
 mod spots;
 
@@ -28,6 +30,14 @@ pub fn documents_are_one()
 pub fn stops_at_the_first_fault()
     ensures leaves { (cs rest : List ℕ) (why : AnyStop) → run opened cs start ≡ stops why rest → (front : List ℕ) × (cs ≡ front ++ rest) }
     ensures first { (cs front rest : List ℕ) (why : AnyStop) → run opened cs start ≡ stops why rest → cs ≡ front ++ rest → IsFirstFault why front rest }
+{}
+
+/// The place of a fault is the number of bytes before it: the characters of the text are parted there, the first ones have so many
+/// bytes and are read as what was read, and the others are read as what was left. A byte order mark and each byte of a line end
+/// count.
+pub fn places_are_bytes()
+    ensures offsets { (cs front rest : List ℕ) → text_of cs ≡ front ++ rest → IsPlace cs rest (offset cs rest) }
+    ensures faults { (cs rest : List ℕ) (why : AnyStop) → run opened (text_of cs) start ≡ stops why rest → IsPlace cs rest (offset cs rest) }
 {}
 
 /// What stands for a text of fewer than 2^63 bytes is a sound tree: it has allowed names, no attribute twice, no empty or

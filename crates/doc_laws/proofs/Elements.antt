@@ -21,7 +21,7 @@ use Rattle.doc_writer.specs.Heads.{Head, head_of}
 use Rattle.doc_writer.specs.Readable.{renamed_attributes, as_written_forest}
 use Rattle.doc_writer.specs.Scopes.{bound_uri}
 use Rattle.doc_writer.specs.Written.{qualified, later_prefixes, start_tag, is_end, element_rest, element, written_forest}
-use Rattle.doc_laws.specs.ReadBack.{has_uri_text}
+use Rattle.doc_laws.proofs.Uris.{has_uri_text}
 use Rattle.doc_laws.proofs.Names.{Stops, raw_name, raw_written}
 use Rattle.doc_laws.proofs.Tags.{are_spelled, tag_of, IsSpelled, IsTag, tag_back, slash_stops, close_stops}
 use Rattle.doc_laws.proofs.Openings.{opened_back}

@@ -1,3 +1,4 @@
+pub mod Uris
 pub mod References
 pub mod Texts
 pub mod Ranges
@@ -11,7 +12,6 @@ pub mod Lookups
 pub mod Markup
 pub mod Declarations
 pub mod Elements
-pub mod Uris
 pub mod Contents
 pub mod Tops
 pub mod Characters

@@ -7,3 +7,4 @@ pub mod Plain
 pub mod Readable
 pub mod Scopes
 pub mod Written
+pub mod WrittenItems

@@ -105,3 +105,12 @@ written_tree (Text t) = Some (encode_utf8_all (written_text (Text t)))
 written_tree (Comment t) = Some (encode_utf8_all (written_text (Comment t)))
 written_tree (Pi target t) = Some (encode_utf8_all (written_text (Pi target t)))
 written_tree (Attr name t) = None
+
+-- the same without the XML declaration
+abbrev pub written_bare : Tree → Option (List ℕ)
+written_bare (Doc kids) = Some (encode_utf8_all (written_node first_scope (Doc kids)))
+written_bare (Elem name attributes kids) = Some (encode_utf8_all (written_node first_scope (Elem name attributes kids)))
+written_bare (Text t) = Some (encode_utf8_all (written_node first_scope (Text t)))
+written_bare (Comment t) = Some (encode_utf8_all (written_node first_scope (Comment t)))
+written_bare (Pi target t) = Some (encode_utf8_all (written_node first_scope (Pi target t)))
+written_bare (Attr name t) = None

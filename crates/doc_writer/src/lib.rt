@@ -4,6 +4,9 @@
 //! XML declaration; nothing is indented and nothing is added behind the tree. Declarations of namespaces are made where they
 //! are needed, and names keep their prefixes where that is possible.
 //!
+//! `write_items` first joins items as the content of a document, and refuses them where there is an attribute. Both have a
+//! form without the XML declaration, `write_tree_bare` and `write_items_bare`.
+//!
 //! Example: the document of the element `a` of no namespace with the attribute `k="<"` and no children becomes
 //! `<?xml version="1.0" encoding="UTF-8"?><a k="&lt;"/>`.
 #![tactic(auto)]
@@ -11,13 +14,15 @@
 mod causes;
 mod escapes;
 mod heads;
+mod item_writers;
 mod plain;
 mod scopes;
 mod used;
 mod writers;
 
 pub use causes::WriteRefusal;
-pub use writers::write_tree;
+pub use item_writers::{write_items, write_items_bare};
+pub use writers::{write_tree, write_tree_bare};
 
 #[cfg(test)]
 mod tests;

@@ -1,9 +1,10 @@
-ghost use Rattle.std.specs.Prelude.{◌≡◌, ◌++◌, take, IfOk, IfErr, OnOk, Some};
+ghost use Rattle.std.specs.Prelude.{◌≡◌, ◌++◌, [], take, IfOk, IfErr, OnOk, Some};
 ghost use Rattle.xt_tree.specs.TreeView.{forest_of};
-ghost use Rattle.doc_writer.specs.Causes.{HasWriteCause};
+ghost use Rattle.doc_writer.specs.Causes.{HasCause, HasWriteCause};
 ghost use Rattle.doc_writer.specs.Heads.{head_of};
 ghost use Rattle.doc_writer.specs.Places.{bindings_of};
-ghost use Rattle.doc_writer.specs.Written.{qualified, quoted, declaration, declarations, written_attribute, written_attributes, later_prefixes, start_tag, is_end, element_rest, written_comment, written_pi, written_forest, written_node, written_text, written_tree};
+ghost use Rattle.doc_writer.specs.Written.{qualified, quoted, declaration, declarations, written_attribute, written_attributes, later_prefixes, start_tag, is_end, element_rest, written_comment, written_pi, written_forest, written_node, written_text, written_tree, written_bare};
+ghost use Rattle.doc_writer.specs.Scopes.{first_scope};
 
 use crate::causes::WriteRefusal;
 use crate::escapes::{push_text, push_value};
@@ -28,21 +29,35 @@ pub fn write_tree(alloc: Global, tree: &Tree) -> Result<Vec<u8>, WriteRefusal>
     Ok(text.into_bytes())
 }
 
+/// The bytes of the tree without the XML declaration. An attribute has no text and is refused with SENR0001, and nothing else
+/// is.
+pub fn write_tree_bare(alloc: Global, tree: &Tree) -> Result<Vec<u8>, WriteRefusal>
+    ensures written { IfOk result (λ bytes. written_bare tree.now ≡ Some bytes.items) }
+    ensures refused { IfErr result (HasCause (written_bare tree.now)) }
+{
+    if matches!(tree, Tree::Attr(_, _)) {
+        return Err(WriteRefusal::Code(Code::Dynamic(DynamicCode::SENR0001)));
+    }
+    let text = write_bare_text(alloc, tree)?;
+    Ok(text.into_bytes())
+}
+
 fn write_text(alloc: Global, tree: &Tree) -> Result<TextBuilder, AllocError>
     ensures { IfOk result (λ text. text ≡ written_text tree.now) }
 {
-    let mut writer = Writer {
-        alloc,
-        out: TextBuilder::new(alloc),
-        heads: Heads {
-            scope: Scope::first(alloc)?,
-            used: UsedPrefixes::new(alloc),
-        },
-    };
+    let mut writer = Writer::new(alloc)?;
     push_ascii(
         &mut writer.out,
         "<?xml version=\"1.0\" encoding=\"UTF-8\"?>",
     )?;
+    writer.write_node(tree)?;
+    Ok(writer.into_text())
+}
+
+fn write_bare_text(alloc: Global, tree: &Tree) -> Result<TextBuilder, AllocError>
+    ensures { IfOk result (λ text. text ≡ written_node first_scope tree.now) }
+{
+    let mut writer = Writer::new(alloc)?;
     writer.write_node(tree)?;
     Ok(writer.into_text())
 }
@@ -56,6 +71,21 @@ struct Writer {
 }
 
 impl Writer {
+    /// Nothing is written yet.
+    fn new(alloc: Global) -> Result<Writer, AllocError>
+        ensures out { IfOk result (λ writer. writer.out ≡ []) }
+        ensures scope { IfOk result (λ writer. writer.heads.scope ≡ first_scope) }
+    {
+        Ok(Writer {
+            alloc,
+            out: TextBuilder::new(alloc),
+            heads: Heads {
+                scope: Scope::first(alloc)?,
+                used: UsedPrefixes::new(alloc),
+            },
+        })
+    }
+
     fn into_text(self) -> TextBuilder
         ensures { result ≡ self.out }
     {

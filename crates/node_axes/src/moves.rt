@@ -6,14 +6,13 @@ ghost use Rattle.xt_tree.specs.TreeView.{tree_depth};
 ghost use Rattle.node_axes.specs.Moves.{count_at, attribute_count_at, Down, Right, NoRight, Left, NoLeft, Up, Skips, AllBehind, Backs, NoneBack};
 ghost use Rattle.node_axes.specs.Paths.{stands, is_before_all, is_earlier, is_not_later, is_over, has_path};
 
-use node_tests::find;
-use xt_tree::Tree;
+use xt_tree::{Tree, tree_at};
 
 /// How many children the node at the path has.
 fn child_count(tree: &Tree, path: &[usize]) -> usize
     ensures { result ≡ count_at tree.now path.now }
 {
-    match find(tree, path) {
+    match tree_at(tree, path) {
         Some(tree) => tree.kids().len(),
         None => 0,
     }
@@ -23,7 +22,7 @@ fn child_count(tree: &Tree, path: &[usize]) -> usize
 pub(crate) fn attribute_count(tree: &Tree, path: &[usize]) -> usize
     ensures { result ≡ attribute_count_at tree.now path.now }
 {
-    match find(tree, path) {
+    match tree_at(tree, path) {
         Some(tree) => tree.attributes().len(),
         None => 0,
     }

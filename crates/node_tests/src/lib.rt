@@ -13,7 +13,7 @@ mod nodes;
 mod trees;
 
 pub use names::passes_name;
-pub use nodes::{attribute_passes, find, node_passes, spot_passes};
+pub use nodes::{attribute_passes, node_passes, spot_passes};
 pub use trees::passes;
 
 #[cfg(test)]

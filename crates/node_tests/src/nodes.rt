@@ -6,7 +6,7 @@ ghost use Rattle.node_tests.specs.Tests.{passes_test, passes_at, passes_principa
 
 use crate::names::passes_name;
 use crate::trees::passes;
-use xt_tree::{Attribute, Node, Tree};
+use xt_tree::{Attribute, Node, Tree, tree_at};
 use xt_types::{Axis, Test};
 
 /// Whether the node on the axis passes the test. It takes no memory.
@@ -28,7 +28,7 @@ pub fn spot_passes(
 ) -> bool
     ensures { result ≡ tree_passes axis test.now (subtree_below (subtree_at tree.now path.now) attribute) }
 {
-    match (find(tree, path), attribute) {
+    match (tree_at(tree, path), attribute) {
         (None, _) => false,
         (Some(tree), None) => passes(test, axis, tree),
         (Some(tree), Some(place)) => passes_at(test, axis, tree, place),
@@ -57,18 +57,4 @@ fn passes_at(test: &Test, axis: Axis, tree: &Tree, place: usize) -> bool
         Some(attribute) => attribute_passes(test, axis, attribute),
         None => false,
     }
-}
-
-/// The tree below the path; None exactly where the tree has no such place. It takes no memory.
-pub fn find<'a>(tree: &'a Tree, path: &[usize]) -> Option<&'a Tree>
-    ensures { option_copied result ≡ subtree_at tree.now path.now }
-{
-    let mut at = tree;
-    for place in path {
-        match at.kid(*place) {
-            Some(kid) => at = kid,
-            None => return None,
-        }
-    }
-    Some(at)
 }

@@ -8,7 +8,7 @@ use xt_names::{ExprName, Text, is_ascii_text};
 
 /// The functions that quiet predicates call.
 #[derive(Clone, Copy)]
-pub(crate) enum QuietCall {
+pub enum QuietCall {
     /// true() and false().
     Constant,
     Not,

@@ -4,7 +4,7 @@ ghost use Rattle.xt_forms.specs.Quiet.{is_path, is_truth, is_predicate, is_numbe
 
 /// What an expression is within a quiet predicate.
 #[derive(Clone, Copy)]
-pub(crate) enum QuietForm {
+pub enum QuietForm {
     Integer,
     Literal,
     /// position().

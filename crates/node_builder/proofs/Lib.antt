@@ -1,0 +1,10 @@
+pub mod ContentLemmas
+pub mod OnePass
+pub mod Passes
+pub mod AttributeLemmas
+pub mod LineLemmas
+pub mod TrimLemmas
+pub mod NumberLemmas
+pub mod SubtreeLemmas
+pub mod SoundContent
+pub mod SoundTrees

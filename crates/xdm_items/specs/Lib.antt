@@ -1,0 +1,4 @@
+pub mod Conversion
+pub mod Matching
+pub mod Truth
+pub mod Values
