@@ -2,8 +2,16 @@ use super::*;
 use std::alloc::{AllocError, Global};
 use std::test::Fail;
 use xt_names::{ExprName, List, Shared, Text};
-use xt_sheets::{Bound, Instr, Sheet, Template, Value, When};
-use xt_syntax::Expr;
+use xt_sheets::instrs;
+
+// a text stands for each expression
+type Instr = instrs::Instr<Text, Text>;
+
+type Bound = instrs::Bound<Text, Text>;
+
+type Value = instrs::Value<Text, Text>;
+
+type When = instrs::When<Text, Text>;
 
 fn text(alloc: Global) -> Result<Instr, AllocError> {
     Ok(Instr::Chars(Text::make(alloc, "a")?))
@@ -91,7 +99,7 @@ fn the_content_of_a_variable_stands_within_it(rt: HostRuntime) -> Result<(), Fai
 fn choose(alloc: Global) -> Result<Instr, AllocError> {
     let mut whens = List::new(alloc);
     whens.push(When {
-        test: Shared::make(alloc, Expr::Context)?,
+        test: Shared::make(alloc, Text::make(alloc, "t")?)?,
         body: body_of(alloc, text(alloc)?)?,
     })?;
     let whens = Shared::make(alloc, whens)?;
@@ -131,38 +139,5 @@ fn copies(alloc: Global, count: u32) -> Result<Instr, AllocError> {
 fn copies_within_each_other_are_counted(rt: HostRuntime) -> Result<(), Fail> {
     let instr = copies(rt.alloc(), 400)?;
     assert_eq!(rt; nest_instruction(&instr), 401);
-    Ok(())
-}
-
-fn sheet_of(alloc: Global, templates: List<Template>) -> Sheet {
-    Sheet {
-        levels: List::new(alloc),
-        globals: List::new(alloc),
-        templates,
-        rules: List::new(alloc),
-        functions: List::new(alloc),
-        keys: List::new(alloc),
-        modes: List::new(alloc),
-        space: List::new(alloc),
-        omit: false,
-    }
-}
-
-fn sheet_of_two_levels(alloc: Global) -> Result<Sheet, AllocError> {
-    let mut templates = List::new(alloc);
-    templates.push(Template {
-        name: None,
-        params: List::new(alloc),
-        kind: None,
-        body: behind_variables(alloc, 1)?,
-        has_match: true,
-    })?;
-    Ok(sheet_of(alloc, templates))
-}
-
-#[test]
-fn a_stylesheet_has_the_levels_of_its_template(rt: HostRuntime) -> Result<(), Fail> {
-    let sheet = sheet_of_two_levels(rt.alloc())?;
-    assert_eq!(rt; nest_sheet(&sheet), 2);
     Ok(())
 }

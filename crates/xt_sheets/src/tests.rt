@@ -1,9 +1,33 @@
-use super::*;
-use crate::sheets::Global as GlobalBinding;
+use super::{Level, ModeUse, Sheet, copy_avt_part_list, copy_instr_list, instrs, values};
 use std::alloc::{AllocError, Global};
 use std::test::Fail;
 use xt_names::{ExprName, List, Name, Shared, Text};
-use xt_syntax::{Expr, Pattern};
+
+// a text stands for each expression
+type Instr = instrs::Instr<Text, Text>;
+
+type When = instrs::When<Text, Text>;
+
+type Bound = instrs::Bound<Text, Text>;
+
+type Value = instrs::Value<Text, Text>;
+
+type AvtPart = values::AvtPart<Text>;
+
+type Avt = values::Avt<Text>;
+
+type AvtName = values::AvtName<Text>;
+
+type LiteralAttr = values::LiteralAttr<Text>;
+
+type Sort = values::Sort<Text>;
+
+type Grouping = values::Grouping<Text, Text>;
+
+fn code(alloc: Global) -> Result<Shared<Text>, AllocError> {
+    let text = Text::make(alloc, "e")?;
+    Shared::make(alloc, text)
+}
 
 fn named(alloc: Global) -> Result<ExprName, AllocError> {
     Ok(ExprName {
@@ -90,7 +114,7 @@ fn a_tunnel_parameter_is_copied(rt: HostRuntime) -> Result<(), Fail> {
 fn when(alloc: Global) -> Result<When, AllocError> {
     let body = two_texts(alloc)?;
     Ok(When {
-        test: Shared::make(alloc, Expr::Root)?,
+        test: code(alloc)?,
         body: Shared::make(alloc, body)?,
     })
 }
@@ -98,14 +122,14 @@ fn when(alloc: Global) -> Result<When, AllocError> {
 #[test]
 fn a_when_is_copied(rt: HostRuntime) -> Result<(), Fail> {
     let copy = when(rt.alloc())?.copy()?;
-    assert!(rt; matches!(copy.test.get(), Expr::Root) && copy.body.get().len() == 2);
+    assert!(rt; copy.test.get().is("e") && copy.body.get().len() == 2);
     Ok(())
 }
 
 fn avt(alloc: Global) -> Result<Shared<Avt>, AllocError> {
     let mut parts = List::new(alloc);
     parts.push(AvtPart::Chars(Text::make(alloc, "a")?))?;
-    parts.push(AvtPart::Code(Shared::make(alloc, Expr::Root)?))?;
+    parts.push(AvtPart::Code(code(alloc)?))?;
     Shared::make(alloc, parts)
 }
 
@@ -150,7 +174,7 @@ fn a_literal_attribute_keeps_its_prefix(rt: HostRuntime) -> Result<(), Fail> {
 
 fn sort(alloc: Global) -> Result<Sort, AllocError> {
     Ok(Sort {
-        key: Shared::make(alloc, Expr::Context)?,
+        key: code(alloc)?,
         descending: true,
         number: Some(false),
     })
@@ -165,92 +189,8 @@ fn a_sort_key_is_copied(rt: HostRuntime) -> Result<(), Fail> {
 
 #[test]
 fn a_grouping_is_copied(rt: HostRuntime) -> Result<(), Fail> {
-    let patterns: List<Pattern> = List::new(rt.alloc());
-    let copy = Grouping::Starting(Shared::make(rt.alloc(), patterns)?).copy()?;
-    assert!(rt; matches!(copy, Grouping::Starting(_)));
-    Ok(())
-}
-
-fn template(alloc: Global) -> Result<Template, AllocError> {
-    Ok(Template {
-        name: None,
-        params: List::new(alloc),
-        kind: None,
-        body: two_texts(alloc)?,
-        has_match: true,
-    })
-}
-
-#[test]
-fn a_template_is_copied(rt: HostRuntime) -> Result<(), Fail> {
-    let copy = template(rt.alloc())?.copy()?;
-    assert!(rt; copy.has_match && copy.body.len() == 2);
-    Ok(())
-}
-
-fn rule(alloc: Global) -> Result<Rule, AllocError> {
-    let mut modes = List::new(alloc);
-    modes.push(0)?;
-    modes.push(7)?;
-    Ok(Rule {
-        template: 1,
-        pattern: Pattern {
-            rooted: true,
-            steps: List::new(alloc),
-        },
-        modes,
-        precedence: 2,
-        priority: -500,
-    })
-}
-
-#[test]
-fn a_rule_is_copied(rt: HostRuntime) -> Result<(), Fail> {
-    let copy = rule(rt.alloc())?.copy()?;
-    assert!(rt; copy.priority == -500 && matches!(copy.modes.as_slice(), [0, 7]));
-    Ok(())
-}
-
-fn function(alloc: Global) -> Result<SheetFunction, AllocError> {
-    Ok(SheetFunction {
-        name: named(alloc)?,
-        params: List::new(alloc),
-        kind: None,
-        body: two_texts(alloc)?,
-    })
-}
-
-#[test]
-fn a_function_is_copied(rt: HostRuntime) -> Result<(), Fail> {
-    let copy = function(rt.alloc())?.copy()?;
-    assert!(rt; copy.name.local.is("n") && copy.body.len() == 2);
-    Ok(())
-}
-
-fn key_rule(alloc: Global) -> Result<KeyRule, AllocError> {
-    let name = named(alloc)?;
-    Ok(KeyRule {
-        name,
-        pattern: Pattern {
-            rooted: true,
-            steps: List::new(alloc),
-        },
-        key: Expr::Context,
-    })
-}
-
-#[test]
-fn a_key_is_copied(rt: HostRuntime) -> Result<(), Fail> {
-    let copy = key_rule(rt.alloc())?.copy()?;
-    assert!(rt; copy.pattern.rooted && matches!(copy.key, Expr::Context));
-    Ok(())
-}
-
-#[test]
-fn a_global_is_copied(rt: HostRuntime) -> Result<(), Fail> {
-    let bound = tunnel(rt.alloc())?;
-    let copy = GlobalBinding { bound, param: true }.copy()?;
-    assert!(rt; copy.param && is_tunnel(&copy.bound));
+    let copy = Grouping::By(code(rt.alloc())?).copy()?;
+    assert!(rt; matches!(copy, Grouping::By(_)));
     Ok(())
 }
 
