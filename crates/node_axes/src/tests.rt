@@ -17,61 +17,82 @@ fn name(alloc: Global, local: &str) -> Result<Name, AllocError> {
     })
 }
 
-fn element(alloc: Global, local: &str, kids: List<Tree>) -> Result<Tree, AllocError> {
-    let mut attributes = List::new(alloc);
-    attributes.push(Attribute {
-        name: name(alloc, "x")?,
+fn attribute(alloc: Global, local: &str) -> Result<Attribute, AllocError> {
+    Ok(Attribute {
+        name: name(alloc, local)?,
         value: Text::make(alloc, "1")?,
-    })?;
-    attributes.push(Attribute {
-        name: name(alloc, "y")?,
-        value: Text::make(alloc, "2")?,
-    })?;
-    Ok(Tree::Elem(
-        name(alloc, local)?,
-        Attrs::make(alloc, attributes)?,
-        Kids::make(alloc, kids)?,
-    ))
+    })
+}
+
+/// The attributes `x` and `y`.
+fn attributes(alloc: Global) -> Result<Attrs, AllocError> {
+    let mut attributes = List::new(alloc);
+    attributes.push(attribute(alloc, "x")?)?;
+    attributes.push(attribute(alloc, "y")?)?;
+    Attrs::make(alloc, attributes)
+}
+
+fn element(alloc: Global, local: &str, kids: Kids) -> Result<Tree, AllocError> {
+    Ok(Tree::Elem(name(alloc, local)?, attributes(alloc)?, kids))
 }
 
 fn leaf(alloc: Global, local: &str) -> Result<Tree, AllocError> {
-    element(alloc, local, List::new(alloc))
+    let kids = Kids::make(alloc, List::new(alloc))?;
+    element(alloc, local, kids)
 }
 
-fn pair(alloc: Global, first: Tree, second: Tree) -> Result<List<Tree>, AllocError> {
+fn one(alloc: Global, kid: Tree) -> Result<Kids, AllocError> {
+    let mut kids = List::new(alloc);
+    kids.push(kid)?;
+    Kids::make(alloc, kids)
+}
+
+fn two(alloc: Global, first: Tree, second: Tree) -> Result<Kids, AllocError> {
     let mut kids = List::new(alloc);
     kids.push(first)?;
     kids.push(second)?;
-    Ok(kids)
+    Kids::make(alloc, kids)
+}
+
+fn two_leaves(alloc: Global, first: &str, second: &str) -> Result<Kids, AllocError> {
+    let first = leaf(alloc, first)?;
+    let second = leaf(alloc, second)?;
+    two(alloc, first, second)
+}
+
+fn branch(alloc: Global, local: &str, first: &str, second: &str) -> Result<Tree, AllocError> {
+    let kids = two_leaves(alloc, first, second)?;
+    element(alloc, local, kids)
+}
+
+fn two_branches(alloc: Global) -> Result<Kids, AllocError> {
+    let first = branch(alloc, "b", "d", "e")?;
+    let second = branch(alloc, "c", "f", "g")?;
+    two(alloc, first, second)
+}
+
+fn document_of(alloc: Global, kids: Kids) -> Result<Tree, AllocError> {
+    let root = element(alloc, "a", kids)?;
+    Ok(Tree::Doc(one(alloc, root)?))
 }
 
 /// The document of `<a><b><d/><e/></b><c><f/><g/></c></a>`, where each element has the attributes `x` and `y`.
 fn document(alloc: Global) -> Result<Tree, AllocError> {
-    let b = element(
-        alloc,
-        "b",
-        pair(alloc, leaf(alloc, "d")?, leaf(alloc, "e")?)?,
-    )?;
-    let c = element(
-        alloc,
-        "c",
-        pair(alloc, leaf(alloc, "f")?, leaf(alloc, "g")?)?,
-    )?;
+    document_of(alloc, two_branches(alloc)?)
+}
+
+fn many(alloc: Global, kid: &Tree, count: u32) -> Result<Kids, AllocError> {
     let mut kids = List::new(alloc);
-    kids.push(element(alloc, "a", pair(alloc, b, c)?)?)?;
-    Ok(Tree::Doc(Kids::make(alloc, kids)?))
+    for _ in 0..count {
+        kids.push(kid.copy()?)?;
+    }
+    Kids::make(alloc, kids)
 }
 
 /// A document whose element has so many children `b`.
 fn wide(alloc: Global, count: u32) -> Result<Tree, AllocError> {
     let kid = leaf(alloc, "b")?;
-    let mut kids = List::new(alloc);
-    for _ in 0..count {
-        kids.push(kid.copy()?)?;
-    }
-    let mut root = List::new(alloc);
-    root.push(element(alloc, "a", kids)?)?;
-    Ok(Tree::Doc(Kids::make(alloc, root)?))
+    document_of(alloc, many(alloc, &kid, count)?)
 }
 
 /// The name of the node, or `/` where it has none.
@@ -110,17 +131,27 @@ fn names_to_come<L: Ledger>(
     Ok(out)
 }
 
+fn names_from(alloc: Global, node: &Node, axis: Axis) -> Result<String, AllocError> {
+    let mut cursor = Cursor::new(alloc, node, axis, Test::Node)?;
+    names_to_come::<Brand>(alloc, Blank::new(1), &mut cursor)
+}
+
+fn node_at(
+    alloc: Global,
+    path: &[usize],
+    attribute: Option<usize>,
+) -> Result<Option<Node>, AllocError> {
+    Node::at_place(alloc, 1, document(alloc)?, path, attribute)
+}
+
 fn names_of(
     alloc: Global,
     path: &[usize],
     attribute: Option<usize>,
     axis: Axis,
 ) -> Result<String, AllocError> {
-    match Node::at_place(alloc, 1, document(alloc)?, path, attribute)? {
-        Some(node) => {
-            let mut cursor = Cursor::new(alloc, &node, axis, Test::Node)?;
-            names_to_come::<Brand>(alloc, Blank::new(1), &mut cursor)
-        }
+    match node_at(alloc, path, attribute)? {
+        Some(node) => names_from(alloc, &node, axis),
         None => Ok(String::new(alloc)),
     }
 }
@@ -251,17 +282,19 @@ fn hits(alloc: Global, node: &Node, axis: Axis) -> Result<bool, AllocError> {
     Ok(hits_soon::<Brand>(Blank::new(1), &mut cursor))
 }
 
+fn all_hit(alloc: Global, node: &Node, axis: Axis, times: u32) -> Result<bool, AllocError> {
+    for _ in 0..times {
+        if !hits(alloc, node, axis)? {
+            return Ok(false);
+        }
+    }
+    Ok(true)
+}
+
 /// Whether the axis has a hit soon, asked so many times in the document of so many nodes.
 fn always_hits(alloc: Global, path: &[usize], axis: Axis, times: u32) -> Result<bool, AllocError> {
     match Node::at_place(alloc, 1, wide(alloc, times)?, path, None)? {
-        Some(node) => {
-            for _ in 0..times {
-                if !hits(alloc, &node, axis)? {
-                    return Ok(false);
-                }
-            }
-            Ok(true)
-        }
+        Some(node) => all_hit(alloc, &node, axis, times),
         None => Ok(false),
     }
 }
@@ -347,8 +380,12 @@ fn copied_names(alloc: Global, node: &Node) -> Result<String, AllocError> {
     names_to_come::<Brand>(alloc, Blank::new(1), &mut copy)
 }
 
+fn root(alloc: Global) -> Result<Node, AllocError> {
+    Node::root_of(alloc, 1, document(alloc)?)
+}
+
 fn copy_goes_on(alloc: Global) -> Result<bool, AllocError> {
-    let node = Node::root_of(alloc, 1, document(alloc)?)?;
+    let node = root(alloc)?;
     Ok(copied_names(alloc, &node)?.as_str() == "a")
 }
 
