@@ -275,8 +275,15 @@ IsAlike e = form_of (quietly_of e) ≡ quiet_form_of e
 
 abbrev pairs : Kinds
 pairs = record {
-  Clauses = Clause × Unit {0}; Exprs = (e : Expr) × IsAlike e; Names = NameSource × Unit {0}; Parts = Part × Unit {0}; Arms = Arm × Unit {0};
-  Binds = Bind × Unit {0}; Attrs = DirectAttr × Unit {0}; Flwors = FlworOf × Unit {0}; Orders = Order × Unit {0}
+  Clauses = Clause × Unit {0};
+  Exprs = (e : Expr) × IsAlike e;
+  Names = NameSource × Unit {0};
+  Parts = Part × Unit {0};
+  Arms = Arm × Unit {0};
+  Binds = Bind × Unit {0};
+  Attrs = DirectAttr × Unit {0};
+  Flwors = FlworOf × Unit {0};
+  Orders = Order × Unit {0};
 }
 
 abbrev plain : ExprLayer pairs → Expr-F Clause Expr NameSource Part Arm Bind DirectAttr FlworOf Order

@@ -12,11 +12,7 @@ use xt_types::SpaceRule;
 /// The tree without those texts of white space alone whose parent is an element for whose name the first rule that passes says
 /// strip, and for which the nearest enclosing xml:space of the value preserve or default, where there is one, says default
 /// (XSLT 2.0, 4.4). Names, attributes, texts and what is seen to stay whole are shared.
-pub fn strip(
-    alloc: Global,
-    tree: &Tree,
-    rules: &List<SpaceRule>,
-) -> Result<Tree, AllocError>
+pub fn strip(alloc: Global, tree: &Tree, rules: &List<SpaceRule>) -> Result<Tree, AllocError>
     ensures { IfOk result (λ made. made ≡ stripped rules.now tree.now) }
 {
     let stripper = Stripper {
@@ -121,7 +117,8 @@ fn is_dropped(tree: &Tree, drops: bool) -> bool
 fn is_flat(kids: &[Tree], drops: bool) -> bool
     ensures { result ≡ is_flat drops kids.now }
 {
-    kids.iter().all(|tree| is_leaf(tree) && !is_dropped(tree, drops))
+    kids.iter()
+        .all(|tree| is_leaf(tree) && !is_dropped(tree, drops))
 }
 
 fn is_leaf(tree: &Tree) -> bool

@@ -93,6 +93,21 @@ fn left_of(alloc: Global, value: &str, inner_value: &str) -> Result<u64, AllocEr
     left(alloc, outer(alloc, value, inner_value)?, strip_all(alloc)?)
 }
 
+fn left_in_a(alloc: Global) -> Result<u64, AllocError> {
+    let tree = outer(alloc, "", "")?;
+    left(alloc, tree, keep_in_a(alloc)?)
+}
+
+fn left_without_rules(alloc: Global) -> Result<u64, AllocError> {
+    let tree = outer(alloc, "", "")?;
+    left(alloc, tree, List::new(alloc))
+}
+
+fn left_of_a_text(alloc: Global) -> Result<u64, AllocError> {
+    let tree = text(alloc, " ")?;
+    left(alloc, tree, strip_all(alloc)?)
+}
+
 #[test]
 fn strips_where_the_rule_says(rt: HostRuntime) -> Result<(), Fail> {
     assert_eq!(rt; left_of(rt.alloc(), "", "")?, 2);
@@ -101,13 +116,13 @@ fn strips_where_the_rule_says(rt: HostRuntime) -> Result<(), Fail> {
 
 #[test]
 fn keeps_where_an_earlier_rule_says(rt: HostRuntime) -> Result<(), Fail> {
-    assert_eq!(rt; left(rt.alloc(), outer(rt.alloc(), "", "")?, keep_in_a(rt.alloc())?)?, 4);
+    assert_eq!(rt; left_in_a(rt.alloc())?, 4);
     Ok(())
 }
 
 #[test]
 fn keeps_all_without_rules(rt: HostRuntime) -> Result<(), Fail> {
-    assert_eq!(rt; left(rt.alloc(), outer(rt.alloc(), "", "")?, List::new(rt.alloc()))?, 5);
+    assert_eq!(rt; left_without_rules(rt.alloc())?, 5);
     Ok(())
 }
 
@@ -132,35 +147,53 @@ fn passes_over_other_values(rt: HostRuntime) -> Result<(), Fail> {
 
 #[test]
 fn keeps_a_text_without_parent(rt: HostRuntime) -> Result<(), Fail> {
-    assert_eq!(rt; left(rt.alloc(), text(rt.alloc(), " ")?, strip_all(rt.alloc())?)?, 1);
+    assert_eq!(rt; left_of_a_text(rt.alloc())?, 1);
     Ok(())
 }
 
 fn deep(alloc: Global, levels: usize) -> Result<Tree, AllocError> {
     let mut tree = text(alloc, " ")?;
     for _ in 0..levels {
-        tree = element(alloc, "a", "", one(alloc, tree)?)?;
+        tree = around(alloc, tree)?;
     }
     Ok(tree)
 }
 
+fn around(alloc: Global, tree: Tree) -> Result<Tree, AllocError> {
+    element(alloc, "a", "", one(alloc, tree)?)
+}
+
+fn left_of_levels(alloc: Global, levels: usize) -> Result<u64, AllocError> {
+    let tree = deep(alloc, levels)?;
+    left(alloc, tree, strip_all(alloc)?)
+}
+
 #[test]
 fn strips_at_the_greatest_depth(rt: HostRuntime) -> Result<(), Fail> {
-    assert_eq!(rt; left(rt.alloc(), deep(rt.alloc(), 2000)?, strip_all(rt.alloc())?)?, 2000);
+    assert_eq!(rt; left_of_levels(rt.alloc(), 2000)?, 2000);
     Ok(())
+}
+
+fn push_pair(alloc: Global, kids: &mut List<Tree>) -> Result<(), AllocError> {
+    kids.push(text(alloc, " ")?)?;
+    kids.push(inner(alloc, "")?)
 }
 
 fn wide(alloc: Global, pairs: usize) -> Result<Tree, AllocError> {
     let mut kids = List::new(alloc);
     for _ in 0..pairs {
-        kids.push(text(alloc, " ")?)?;
-        kids.push(inner(alloc, "")?)?;
+        push_pair(alloc, &mut kids)?;
     }
     element(alloc, "a", "", kids)
 }
 
+fn left_of_pairs(alloc: Global, pairs: usize) -> Result<u64, AllocError> {
+    let tree = wide(alloc, pairs)?;
+    left(alloc, tree, strip_all(alloc)?)
+}
+
 #[test]
 fn strips_a_long_list(rt: HostRuntime) -> Result<(), Fail> {
-    assert_eq!(rt; left(rt.alloc(), wide(rt.alloc(), 100_000)?, strip_all(rt.alloc())?)?, 100_001);
+    assert_eq!(rt; left_of_pairs(rt.alloc(), 100_000)?, 100_001);
     Ok(())
 }
