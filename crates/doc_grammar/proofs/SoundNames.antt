@@ -11,8 +11,9 @@ use Rattle.xt_names.specs.declared.names.Name.{Name}
 use Rattle.xt_names.specs.declared.names.Binding.{Binding}
 use Rattle.xt_tree.specs.declared.attributes.Attribute.{Attribute}
 use Rattle.xt_tree.specs.Sound.{is_sound_name, is_named_xmlns, is_sound_attribute, names_differ, are_sound_attributes}
+use Rattle.name_scopes.specs.Scopes.{binding, bound_uri, uri_of_binding, or_earlier}
 use Rattle.doc_grammar.specs.RawNames.{RawName, RawAttribute, RawTag}
-use Rattle.doc_grammar.specs.Scopes.{top_scope, bound_later, bound_uri, declared_prefix, declared_by, declarations, is_binding, are_declarations, or_no_uri, in_namespace, element_named, element_name, attribute_named, attribute_name, with_value, unless_declared, with_declaration, one_named, both_named, named_attributes, Opened, opened_with, opened}
+use Rattle.doc_grammar.specs.Scopes.{top_scope, declared_prefix, declared_by, declarations, is_binding, are_declarations, or_no_uri, in_namespace, element_named, element_name, attribute_named, attribute_name, with_value, unless_declared, with_declaration, one_named, both_named, named_attributes, Opened, opened_with, opened}
 use Rattle.doc_grammar.specs.Document.{QName, Valued, Attributes, Spaced}
 use Rattle.doc_grammar.specs.Document as doc
 use Rattle.doc_grammar.proofs.CharacterFacts.{both, not_true}
@@ -63,12 +64,8 @@ is_held b = is_binding b && is_xml_text b.uri
 abbrev pub AreBindings : List Binding → Type 0
 AreBindings scope = list_all is_held scope ≡ true
 
-abbrev binding : List ℕ → List ℕ → Binding
-binding prefix uri = record { prefix = prefix; uri = uri }
-
 -- what is bound in such a scope is a binding
 bound_binding : (scope : List Binding) (prefix uri : List ℕ) → AreBindings scope → bound_uri scope prefix ≡ Some uri → is_held (binding prefix uri) ≡ true
-unfolding bound_uri
 bound_binding [] prefix uri all e = absurd (none-some _ e)
 bound_binding (b ∷ bs) prefix uri all e = go (bound_uri bs prefix) refl e (λ d. bound_binding bs prefix uri (both all).1 d)
   where
@@ -76,7 +73,7 @@ bound_binding (b ∷ bs) prefix uri all e = go (bound_uri bs prefix) refl e (λ 
     here true q d = rw (sym ((bytes_eq-Decides b.prefix prefix).0 q), sym (same_Some _ _ d)) (both all).0
     here false q d = absurd (none-some _ d)
 
-    go : (o : Option (List ℕ)) → bound_uri bs prefix ≡ o → bound_later o b prefix ≡ Some uri → (bound_uri bs prefix ≡ Some uri → is_held (binding prefix uri) ≡ true) → is_held (binding prefix uri) ≡ true
+    go : (o : Option (List ℕ)) → bound_uri bs prefix ≡ o → or_earlier o (uri_of_binding b prefix) ≡ Some uri → (bound_uri bs prefix ≡ Some uri → is_held (binding prefix uri) ≡ true) → is_held (binding prefix uri) ≡ true
     go (Some u) f d again = again (f ∙ d)
     go None f d again = here (bytes_eq b.prefix prefix) refl d
 

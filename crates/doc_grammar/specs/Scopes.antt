@@ -5,6 +5,7 @@ use Rattle.std.specs.Str.{bytes_eq}
 use Rattle.xt_names.specs.Allowed.{is_empty_text, keeps_xml, keeps_xmlns, xml_uri}
 use Rattle.xt_names.specs.declared.names.Name.{Name}
 use Rattle.xt_names.specs.declared.names.Binding.{Binding}
+use Rattle.name_scopes.specs.Scopes.{bound_uri}
 use Rattle.xt_tree.specs.declared.attributes.Attribute.{Attribute}
 use Rattle.xt_tree.specs.Sound.{names_differ}
 use Rattle.doc_grammar.specs.RawNames.{RawName, RawAttribute, RawTag}
@@ -12,16 +13,6 @@ use Rattle.doc_grammar.specs.RawNames.{RawName, RawAttribute, RawTag}
 -- the bindings that are in force, the innermost last; the prefix xml is always bound
 abbrev pub top_scope : List Binding
 top_scope = record { prefix = codes "xml"; uri = xml_uri } ∷ []
-
--- the uri that a binding gives the prefix, where no later one does
-abbrev pub bound_later : Option (List ℕ) → Binding → List ℕ → Option (List ℕ)
-bound_later (Some uri) b prefix = Some uri
-bound_later None b prefix = if bytes_eq b.prefix prefix then Some b.uri else None
-
--- the uri of the last binding of the prefix
-unfoldable pub bound_uri : List Binding → List ℕ → Option (List ℕ)
-bound_uri [] prefix = None
-bound_uri (b ∷ bs) prefix = bound_later (bound_uri bs prefix) b prefix
 
 abbrev pub declared_prefix : Option (List ℕ) → List ℕ → Option (List ℕ)
 declared_prefix None local = if bytes_eq local (codes "xmlns") then Some [] else None

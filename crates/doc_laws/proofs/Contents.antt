@@ -19,7 +19,7 @@ use Rattle.doc_grammar.specs.Scopes.{opened}
 use Rattle.doc_writer.specs.Escapes.{escaped_text}
 use Rattle.doc_writer.specs.Heads.{head_of}
 use Rattle.doc_writer.specs.Readable.{renamed_attributes, as_written_forest}
-use Rattle.doc_writer.specs.Scopes.{bound_uri}
+use Rattle.name_scopes.specs.Scopes.{bound_uri}
 use Rattle.doc_writer.specs.Written.{later_prefixes, start_tag, is_end, element, written_comment, written_pi, written_forest}
 use Rattle.doc_laws.proofs.Uris.{has_uri_text, keep_uris}
 use Rattle.doc_laws.proofs.Texts.{text_back}

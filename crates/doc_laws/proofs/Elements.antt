@@ -19,7 +19,7 @@ use Rattle.doc_grammar.specs.Scopes.{are_declarations, prefixes_differ, is_bindi
 use Rattle.doc_grammar.proofs.Completions.{end_spelled}
 use Rattle.doc_writer.specs.Heads.{Head, head_of}
 use Rattle.doc_writer.specs.Readable.{renamed_attributes, as_written_forest}
-use Rattle.doc_writer.specs.Scopes.{bound_uri}
+use Rattle.name_scopes.specs.Scopes.{bound_uri}
 use Rattle.doc_writer.specs.Written.{qualified, later_prefixes, start_tag, is_end, element_rest, element, written_forest}
 use Rattle.doc_laws.proofs.Uris.{has_uri_text}
 use Rattle.doc_laws.proofs.Names.{Stops, raw_name, raw_written}

@@ -5,9 +5,9 @@ use Rattle.xt_names.specs.Allowed.{is_empty_text, xml_uri}
 use Rattle.xt_names.specs.declared.names.Binding.{Binding}
 use Rattle.xt_names.specs.declared.names.Name.{Name}
 use Rattle.xt_tree.specs.declared.attributes.Attribute.{Attribute}
-use Rattle.doc_grammar.specs.Scopes.{top_scope, bound_later, or_no_uri, element_name, attribute_name}
-use Rattle.doc_grammar.specs.Scopes as grammar
-use Rattle.doc_writer.specs.Scopes.{first_scope, binding, bound_uri, uri_of_binding, or_earlier}
+use Rattle.doc_grammar.specs.Scopes.{top_scope, or_no_uri, element_name, attribute_name}
+use Rattle.doc_writer.specs.Scopes.{first_scope}
+use Rattle.name_scopes.specs.Scopes.{binding, bound_uri, uri_of_binding, or_earlier}
 use Rattle.doc_laws.proofs.Names.{raw_name}
 use Rattle.doc_laws.proofs.Openings.{IsFit, AreFit}
 use Rattle.doc_laws.proofs.Suits.{Suits, AreSuited}
@@ -19,26 +19,17 @@ writing ds = first_scope ++ ds
 abbrev pub reading : List Binding → List Binding
 reading ds = top_scope ++ ds
 
-same_step : (o : Option (List ℕ)) (b : Binding) (p : List ℕ) → bound_later o b p ≡ or_earlier o (uri_of_binding b p)
-same_step None b p = refl
-same_step (Some u) b p = refl
-
-same_bound : (scope : List Binding) (p : List ℕ) → grammar.bound_uri scope p ≡ bound_uri scope p
-unfolding grammar.bound_uri
-same_bound [] p = refl
-same_bound (b ∷ scope) p = rw (same_bound scope p) (same_step (bound_uri scope p) b p)
-
 -- a prefix that is not empty has the same uri in both
-full_bound : (ds : List Binding) (c : ℕ) (cs uri : List ℕ) → bound_uri (writing ds) (c ∷ cs) ≡ Some uri → grammar.bound_uri (reading ds) (c ∷ cs) ≡ Some uri
-full_bound ds c cs uri e = same_bound (reading ds) (c ∷ cs) ∙ go (bound_uri ds (c ∷ cs)) e
+full_bound : (ds : List Binding) (c : ℕ) (cs uri : List ℕ) → bound_uri (writing ds) (c ∷ cs) ≡ Some uri → bound_uri (reading ds) (c ∷ cs) ≡ Some uri
+full_bound ds c cs uri e = go (bound_uri ds (c ∷ cs)) e
   where
     go : (o : Option (List ℕ)) → or_earlier (or_earlier o None) (uri_of_binding (binding (codes "xml") xml_uri) (c ∷ cs)) ≡ Some uri → or_earlier o (uri_of_binding (binding (codes "xml") xml_uri) (c ∷ cs)) ≡ Some uri
     go None d = d
     go (Some u) d = d
 
 -- the default namespace
-empty_bound : (ds : List Binding) (uri : List ℕ) → bound_uri (writing ds) [] ≡ Some uri → or_no_uri (grammar.bound_uri (reading ds) []) ≡ uri
-empty_bound ds uri e = rw (same_bound (reading ds) []) (go (bound_uri ds []) e)
+empty_bound : (ds : List Binding) (uri : List ℕ) → bound_uri (writing ds) [] ≡ Some uri → or_no_uri (bound_uri (reading ds) []) ≡ uri
+empty_bound ds uri e = go (bound_uri ds []) e
   where
     go : (o : Option (List ℕ)) → or_earlier (or_earlier o (Some [])) None ≡ Some uri → or_no_uri (or_earlier o None) ≡ uri
     go None d = same_Some _ _ d

@@ -11,7 +11,7 @@ use Rattle.std.proofs.lemmas.Slice.Eq.{bytes_eq-Decides}
 use Rattle.xt_names.specs.Classes.{is_in_ranges, ncname_char_ranges, begins_name, is_ncname_text}
 use Rattle.xt_names.specs.declared.names.Binding.{Binding}
 use Rattle.doc_laws.proofs.Ranges.{in_range}
-use Rattle.doc_writer.specs.Scopes.{bound_uri, or_earlier, binds, numbered_prefix, free_number, free_prefix}
+use Rattle.name_scopes.specs.Scopes.{bound_uri, or_earlier, binds, numbered_prefix, free_number, free_prefix}
 
 -- how many numbers below k pass
 abbrev count : (ℕ → Bool) → ℕ → ℕ

@@ -12,7 +12,7 @@ use Rattle.xt_tree.specs.Sound.{is_named_xmlns}
 use Rattle.doc_grammar.specs.Scopes.{is_binding}
 use Rattle.doc_grammar.proofs.CharacterFacts.{no}
 use Rattle.doc_writer.specs.Heads.{Head, with_prefix, with_declared, empty_head, with_element, keeps_prefix, may_declare, with_attribute, with_attributes, head_of}
-use Rattle.doc_writer.specs.Scopes.{binding, bound_uri, uri_of_binding, or_earlier, binds_to, binds, numbered_prefix, free_number, free_prefix}
+use Rattle.name_scopes.specs.Scopes.{binding, bound_uri, uri_of_binding, or_earlier, binds_to, binds, numbered_prefix, free_number, free_prefix}
 use Rattle.doc_writer.specs.Written.{later_prefixes}
 use Rattle.doc_laws.proofs.Names.{is_prefix}
 use Rattle.doc_laws.proofs.Numbers.{prefix_is_free, number_is_name, number_is_not_xml, number_is_not_xmlns, number_low}

@@ -6,58 +6,12 @@ use Rattle.std.specs.Str.{bytes_eq, chars}
 use Rattle.xt_names.specs.declared.names.Binding.{Binding}
 use Rattle.xt_tree.specs.declared.attributes.Attribute.{Attribute}
 use Rattle.xt_tree.specs.Sound.{names_differ, same_name}
+use Rattle.name_scopes.proofs.LookupLemmas.{drop_at, drop_past}
 use Rattle.doc_grammar.specs.RawNames.{RawAttribute}
-use Rattle.doc_grammar.specs.Scopes.{bound_later, bound_uri, with_declaration, declarations, declared_by, one_named, behind_named, both_named, named_attributes, prefix_name, prefixes_differ}
+use Rattle.doc_grammar.specs.Scopes.{with_declaration, declarations, declared_by, one_named, behind_named, both_named, named_attributes, prefix_name, prefixes_differ}
 
 pub chars_empty : chars [] ≡ []
 chars_empty = chars-nil
-
--- a list from a place on
-pub drop_at : {A : Type 0} (xs : List A) (i : ℕ) (x : A) → i < length xs → x ≡ get_or xs i x → drop i xs ≡ x ∷ drop (i + 1) xs
-drop_at [] i x h e = absurd (omega arith)
-drop_at (y ∷ xs) zero x h e = ap (λ z. z ∷ xs) (sym e)
-drop_at {A = A} (y ∷ xs) (suc i) x h e =
-    let next : suc i + 1 ≡ suc (i + 1) = omega arith in
-    let rest : drop i xs ≡ x ∷ drop (i + 1) xs = drop_at xs i x (omega arith) e in rw next rest
-
-drop_past : {A : Type 0} (xs : List A) (i : ℕ) → length xs ≤ i → drop i xs ≡ []
-drop_past [] zero h = refl
-drop_past [] (suc i) h = refl
-drop_past (x ∷ xs) zero h = absurd (omega arith)
-drop_past (x ∷ xs) (suc i) h = drop_past xs i (omega arith)
-
-abbrev pub or_found : Option (List ℕ) → Option (List ℕ) → Option (List ℕ)
-or_found (Some uri) found = Some uri
-or_found None found = found
-
--- one binding more
-pub bound_more : (rest : Option (List ℕ)) (b : Binding) (prefix : List ℕ) (found : Option (List ℕ)) → or_found (bound_later rest b prefix) found ≡ or_found rest (cond (bytes_eq b.prefix prefix) (Some b.uri) found)
-bound_more (Some uri) b prefix found = refl
-bound_more None b prefix found = go (bytes_eq b.prefix prefix) where
-  go : (x : Bool) → or_found (cond x (Some b.uri) None) found ≡ cond x (Some b.uri) found
-  go true = refl
-  go false = refl
-
-bound_uri-cons : (b : Binding) (bs : List Binding) (prefix : List ℕ) → bound_uri (b ∷ bs) prefix ≡ bound_later (bound_uri bs prefix) b prefix
-unfolding bound_uri
-bound_uri-cons b bs prefix = refl
-
-pub bound_step : (scope : List Binding) (i : ℕ) (b : Binding) (prefix : List ℕ) (found : Option (List ℕ)) → i < length scope → b ≡ get_or scope i b
-    → or_found (bound_uri (drop i scope) prefix) found ≡ or_found (bound_uri (drop (i + 1) scope) prefix) (cond (bytes_eq b.prefix prefix) (Some b.uri) found)
-bound_step scope i b prefix found h e = rw (drop_at scope i b h e, bound_uri-cons b (drop (i + 1) scope) prefix) (bound_more (bound_uri (drop (i + 1) scope) prefix) b prefix found)
-
-pub bound_none : (prefix : List ℕ) → bound_uri [] prefix ≡ None
-unfolding bound_uri
-bound_none prefix = refl
-
-pub bound_preserved : (scope : List Binding) (i : ℕ) (b : Binding) (prefix : List ℕ) (found new all : Option (List ℕ)) (x : Bool) → i < length scope → b ≡ get_or scope i b
-    → or_found (bound_uri (drop i scope) prefix) found ≡ all → x ≡ bytes_eq b.prefix prefix → new ≡ cond x (Some b.uri) found
-    → or_found (bound_uri (drop (i + 1) scope) prefix) new ≡ all
-bound_preserved scope i b prefix found new all x h e inv m n =
-    let step = bound_step scope i b prefix found h e in rw (n, m) (sym step ∙ inv)
-
-pub bound_all : (scope : List Binding) (i : ℕ) (prefix : List ℕ) (found all : Option (List ℕ)) → length scope ≤ i → or_found (bound_uri (drop i scope) prefix) found ≡ all → found ≡ all
-bound_all scope i prefix found all h inv = let none : drop i scope ≡ [] = drop_past scope i h in rw (none, bound_none prefix) at inv
 
 declarations-cons : (a : RawAttribute) (more : List RawAttribute) → declarations (a ∷ more) ≡ with_declaration (declared_by a.name) a.value (declarations more)
 unfolding declarations
@@ -153,16 +107,3 @@ named_all view scope xs i old all h inv =
     let none : drop i xs ≡ [] = drop_past xs i h in
     let e : behind_named old (named_attributes scope []) ≡ all = rw none at inv in
     ap Some (sym (append-nil old)) ∙ ap (behind_named old) (sym (named_none scope)) ∙ e
-
--- one item more of a copy
-pub copied_preserved : {A : Type 0} (xs : List A) (i : ℕ) (x y : A) (old new all : List A) → i < length xs → x ≡ get_or xs i x → old ++ drop i xs ≡ all → y ≡ x → new ≡ old ++ (y ∷ []) → new ++ drop (i + 1) xs ≡ all
-copied_preserved {A = A} xs i x y old new all h e inv m n =
-    let rest = drop (i + 1) xs in
-    let step : drop i xs ≡ x ∷ rest = drop_at xs i x h e in
-    ap (λ (b : List A). b ++ rest) (n ∙ ap (λ (z : A). old ++ (z ∷ [])) m) ∙ append_assoc old (x ∷ []) rest ∙ ap (λ (b : List A). old ++ b) (sym step) ∙ inv
-
-pub copied_all : {A : Type 0} (xs : List A) (i : ℕ) (old all : List A) → length xs ≤ i → old ++ drop i xs ≡ all → old ≡ all
-copied_all xs i old all h inv =
-    let none : drop i xs ≡ [] = drop_past xs i h in
-    let e : old ++ [] ≡ all = rw none at inv in
-    sym (append-nil old) ∙ e

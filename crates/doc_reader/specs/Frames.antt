@@ -41,7 +41,7 @@ base_of r = ground (level_of r.level) r.kids r.declared
 
 -- all that is open
 abbrev pub open_in : Reader → Stack
-open_in r = stack_of r.frames.items r.scope.items (base_of r)
+open_in r = stack_of r.frames.items r.scope (base_of r)
 
 -- the text so far
 abbrev pub text_in : Reader → List ℕ

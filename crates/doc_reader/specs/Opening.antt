@@ -10,6 +10,3 @@ pub record OpensTag (outer : List Binding) (tag : RawTag) (t : OpenedTag) (inner
   pub opens : opened outer tag ≡ Some (record { name = t.element; attributes = t.attributes; scope = inner })
   pub front : take (length inner - length t.declarations) inner ≡ outer
   pub declared : t.declarations ≡ declarations tag.attributes
-
-abbrev pub uri_of : Binding → List ℕ
-uri_of b = b.uri

@@ -17,7 +17,7 @@ use crate::sources::Source;
 use crate::steps::{Step, Stop};
 use crate::tags::RawTag;
 use std::alloc::{AllocError, Global};
-use xt_names::{Binding, List, Text};
+use xt_names::{List, Text};
 use xt_tree::{Kids, Tree};
 
 impl<'a> Reader<'a> {
@@ -129,7 +129,7 @@ impl<'a> Reader<'a> {
         tag: RawTag<'a>,
     ) -> Result<Option<Frame<'a>>, AllocError>
         ensures opens { IfOk result (λ o. MatchOption o (opened (scope_of (open_in self.old)) (tag_of tag.entry) ≡ None)
-            (λ f. Pushes (tag_of tag.entry) (open_in self.old) f self.new.frames.items self.new.scope.items (base_of self.new))) }
+            (λ f. Pushes (tag_of tag.entry) (open_in self.old) f self.new.frames.items self.new.scope (base_of self.new))) }
         ensures source { self.new.source ≡ self.old.source }
         ensures text { self.new.text ≡ self.old.text }
     {
@@ -152,17 +152,15 @@ impl<'a> Reader<'a> {
 
     /// Puts the first bindings into force where no element is open.
     fn enter(&mut self, alloc: Global) -> Result<(), AllocError>
-        ensures scope { OnOk result (self.new.scope.items ≡ scope_of (open_in self.old)) }
+        ensures scope { OnOk result (self.new.scope ≡ scope_of (open_in self.old)) }
         ensures opened { OnOk result (open_in self.new ≡ open_in self.old) }
         ensures source { self.new.source ≡ self.old.source }
         ensures text { self.new.text ≡ self.old.text }
     {
         if self.frames.is_empty() {
-            self.scope.clear();
-            self.scope.push(Binding {
-                prefix: Text::make(alloc, "xml")?,
-                uri: Text::make(alloc, "http://www.w3.org/XML/1998/namespace")?,
-            })?;
+            self.scope.truncate(0);
+            let uri = Text::make(alloc, "http://www.w3.org/XML/1998/namespace")?;
+            self.scope.push(Text::make(alloc, "xml")?, uri)?;
         }
         Ok(())
     }
@@ -190,8 +188,8 @@ impl<'a> Reader<'a> {
 
     /// Makes the element of a frame that is no longer open, and puts it behind what is open.
     fn close(&mut self, alloc: Global, frame: Frame<'a>) -> Result<(), AllocError>
-        ensures opened { OnOk result (open_in self.new ≡ with_child (element_of (record { name = frame.entry.element; attributes = frame.entry.attributes; scope = self.old.scope.items }) frame.entry.kids)
-            (stack_of self.old.frames.items (outside frame.entry self.old.scope.items) (base_of self.old))) }
+        ensures opened { OnOk result (open_in self.new ≡ with_child (element_of (record { name = frame.entry.element; attributes = frame.entry.attributes; scope = self.old.scope }) frame.entry.kids)
+            (stack_of self.old.frames.items (outside frame.entry self.old.scope) (base_of self.old))) }
         ensures source { self.new.source ≡ self.old.source }
         ensures text { self.new.text ≡ self.old.text }
     {

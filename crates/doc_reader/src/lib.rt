@@ -162,4 +162,6 @@ fn spot(stop: Stop, at: u64) -> Spot
 }
 
 #[cfg(test)]
+mod scope_tests;
+#[cfg(test)]
 mod tests;

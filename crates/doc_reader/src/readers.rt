@@ -16,6 +16,7 @@ use crate::names::RawName;
 use crate::scopes::EmptyText;
 use crate::sources::Source;
 use crate::steps::{Step, Stop};
+use name_scopes::Scope;
 use std::alloc::{AllocError, Global};
 use xt_names::{Binding, List, Name, Text, is_ascii_text};
 use xt_tree::{Attrs, Kids, Tree};
@@ -53,7 +54,7 @@ pub(crate) struct Reader<'a> {
     /// The elements that are open, the innermost last.
     pub(crate) frames: Vec<Frame<'a>>,
     /// The bindings in force, the innermost last.
-    pub(crate) scope: Vec<Binding>,
+    pub(crate) scope: Scope,
     /// The text so far in the innermost element.
     pub(crate) text: Buffer,
     /// What is being read of a value, a comment or an instruction.
@@ -75,7 +76,7 @@ impl<'a> Reader<'a> {
         Ok(Reader {
             source: Source::new(text),
             frames: Vec::new(alloc),
-            scope: Vec::new(alloc),
+            scope: Scope::new(alloc),
             text: Buffer::new(alloc),
             piece: Buffer::new(alloc),
             level: Level::Blank,
@@ -120,7 +121,7 @@ impl<'a> Reader<'a> {
         ensures text { self.new.text ≡ [] }
         ensures level { level_of self.new.level ≡ begun (level_of self.old.level) }
         ensures frames { self.new.frames.items ≡ self.old.frames.items }
-        ensures scope { self.new.scope.items ≡ self.old.scope.items }
+        ensures scope { self.new.scope ≡ self.old.scope }
         ensures kids { self.new.kids ≡ self.old.kids }
         ensures declared { self.new.declared ≡ self.old.declared }
         ensures source { self.new.source ≡ self.old.source }

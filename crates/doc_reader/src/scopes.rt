@@ -1,14 +1,16 @@
 // Namespaces: the names that a start tag gives in a scope.
-ghost use Rattle.std.specs.Prelude.{◌≡◌, ◌++◌, [], true, false, map, Some, None, IfOk, IfSome, OnOk, MatchBool, MatchOption};
+ghost use Rattle.std.specs.Prelude.{◌≡◌, ◌++◌, [], true, false, map, Some, None, IfOk, OnOk, MatchBool, MatchOption};
 ghost use Rattle.std.specs.List.{list_all};
-ghost use Rattle.std.specs.Option.{option_copied, option_map};
+ghost use Rattle.std.specs.Option.{option_map};
 ghost use Rattle.std.specs.Str.{chars};
-ghost use Rattle.doc_grammar.specs.Scopes.{bound_uri, declared_by, declarations, is_binding, prefixes_differ, prefix_name, are_declarations, element_name, attribute_name, named_attributes, opened, in_namespace, with_declaration, one_named, behind_named};
+ghost use Rattle.name_scopes.specs.Scopes.{bound_uri};
+ghost use Rattle.doc_grammar.specs.Scopes.{declared_by, declarations, is_binding, prefixes_differ, prefix_name, are_declarations, element_name, attribute_name, named_attributes, opened, in_namespace, with_declaration, one_named, behind_named};
 ghost use Rattle.doc_reader.specs.View.{name_of, attribute_of, tag_of};
-ghost use Rattle.doc_reader.specs.Opening.{OpensTag, uri_of};
+ghost use Rattle.doc_reader.specs.Opening.{OpensTag};
 
 use crate::names::RawName;
 use crate::tags::{RawAttribute, RawTag};
+use name_scopes::Scope;
 use std::alloc::{AllocError, Global};
 use std::marker::Model;
 use xt_names::{Binding, List, Name, Text, is_ascii_text, keeps_xml, keeps_xmlns};
@@ -44,20 +46,6 @@ impl EmptyText {
     }
 }
 
-/// The last binding of the prefix.
-fn bound<'b>(scope: &'b [Binding], prefix: &str) -> Option<&'b Binding>
-    ensures uri { option_map uri_of (option_copied result) ≡ bound_uri scope.now (chars prefix.now) }
-    ensures prefix { IfSome result (λ b. b.now.prefix ≡ chars prefix.now) }
-{
-    let mut found = None;
-    for binding in scope {
-        if binding.prefix.is(prefix) {
-            found = Some(binding);
-        }
-    }
-    found
-}
-
 /// The prefix that an attribute of this name declares.
 #[tactic(auto, using(crate::proofs::ScopeLemmas::chars_empty), unfolding(doc_grammar::specs::Scopes::declared_by))]
 fn declared_by<'a>(name: RawName<'a>) -> Option<&'a str>
@@ -83,18 +71,16 @@ pub(crate) struct OpenedTag {
 pub(crate) fn open_tag(
     alloc: Global,
     empty: &EmptyText,
-    scope: &mut Vec<Binding>,
+    scope: &mut Scope,
     tag: &RawTag<'_>,
 ) -> Result<Option<OpenedTag>, AllocError>
-    ensures { IfOk result (λ o. MatchOption o (opened scope.old.items (tag_of tag.now) ≡ None) (λ t. OpensTag scope.old.items (tag_of tag.now) t scope.new.items)) }
+    ensures { IfOk result (λ o. MatchOption o (opened scope.old (tag_of tag.now) ≡ None) (λ t. OpensTag scope.old (tag_of tag.now) t scope.new)) }
 {
-    let outer = scope.len();
-    declare(alloc, scope, &tag.attributes)?;
-    let declared = &scope[outer..];
-    if !are_declarations(alloc, empty, declared)? {
+    let declared = declarations(alloc, &tag.attributes)?;
+    if !are_declarations(alloc, empty, declared.as_slice())? {
         return Ok(None);
     }
-    let declarations = copied(alloc, declared)?;
+    scope.push_all(declared.as_slice())?;
     let Some(element) = element_name(alloc, empty, scope, tag.name)? else {
         return Ok(None);
     };
@@ -108,47 +94,34 @@ pub(crate) fn open_tag(
     Ok(Some(OpenedTag {
         element,
         attributes,
-        declarations,
+        declarations: declared,
     }))
 }
 
-fn copied(alloc: Global, bindings: &[Binding]) -> Result<List<Binding>, AllocError>
-    ensures { IfOk result (λ copies. copies ≡ bindings.now) }
+/// The namespace declarations among the attributes.
+fn declarations(alloc: Global, attributes: &[RawAttribute<'_>]) -> Result<List<Binding>, AllocError>
+    ensures { IfOk result (λ made. made ≡ declarations (map attribute_of attributes.now)) }
 {
-    let mut copies = List::new(alloc);
-    for binding in bindings {
-        copies.push(binding.copy()?)?;
+    let mut declared = List::new(alloc);
+    for attribute in attributes {
+        declare(alloc, attribute, &mut declared)?;
     }
-    Ok(copies)
+    Ok(declared)
 }
 
-/// Puts the namespace declarations among the attributes into force.
+// Adds the declaration that an attribute is, if it is one.
 fn declare(
     alloc: Global,
-    scope: &mut Vec<Binding>,
-    attributes: &[RawAttribute<'_>],
-) -> Result<(), AllocError>
-    ensures { OnOk result (scope.new.items ≡ scope.old.items ++ declarations (map attribute_of attributes.now)) }
-{
-    for attribute in attributes {
-        declare_one(alloc, scope, attribute)?;
-    }
-    Ok(())
-}
-
-fn declare_one(
-    alloc: Global,
-    scope: &mut Vec<Binding>,
     attribute: &RawAttribute<'_>,
+    declared: &mut List<Binding>,
 ) -> Result<(), AllocError>
-    ensures { OnOk result (scope.new.items ≡ scope.old.items ++ with_declaration (declared_by (name_of attribute.now.name)) attribute.now.value []) }
+    ensures { OnOk result (declared.new ≡ declared.old ++ with_declaration (declared_by (name_of attribute.now.name)) attribute.now.value []) }
 {
     match declared_by(attribute.name) {
         Some(prefix) => {
             let prefix = Text::make(alloc, prefix)?;
             let uri = attribute.value.copy()?;
-            scope.push(Binding { prefix, uri })?;
-            Ok(())
+            declared.push(Binding { prefix, uri })
         }
         None => Ok(()),
     }
@@ -229,7 +202,7 @@ fn prefix_name(empty: &EmptyText, binding: &Binding) -> Result<Attribute, AllocE
 fn element_name(
     alloc: Global,
     empty: &EmptyText,
-    scope: &[Binding],
+    scope: &Scope,
     name: RawName<'_>,
 ) -> Result<Option<Name>, AllocError>
     ensures { IfOk result (λ made. made ≡ element_name scope.now (name_of name.entry)) }
@@ -237,7 +210,7 @@ fn element_name(
     match name.prefix {
         Some(prefix) => prefixed_name(alloc, scope, prefix, name.local),
         None => {
-            let uri = match bound(scope, "") {
+            let uri = match scope.binding_of(alloc, "")? {
                 Some(binding) => binding.uri.copy()?,
                 None => empty.copy()?,
             };
@@ -255,7 +228,7 @@ fn element_name(
 fn attribute_name(
     alloc: Global,
     empty: &EmptyText,
-    scope: &[Binding],
+    scope: &Scope,
     name: RawName<'_>,
 ) -> Result<Option<Name>, AllocError>
     ensures { IfOk result (λ made. made ≡ attribute_name scope.now (name_of name.entry)) }
@@ -275,13 +248,13 @@ fn attribute_name(
 
 fn prefixed_name(
     alloc: Global,
-    scope: &[Binding],
+    scope: &Scope,
     prefix: &str,
     local: &str,
 ) -> Result<Option<Name>, AllocError>
     ensures { IfOk result (λ made. made ≡ in_namespace (chars prefix.now) (chars local.now) (bound_uri scope.now (chars prefix.now))) }
 {
-    match bound(scope, prefix) {
+    match scope.binding_of(alloc, prefix)? {
         None => Ok(None),
         Some(binding) => Ok(Some(Name {
             prefix: binding.prefix.copy()?,
@@ -295,7 +268,7 @@ fn prefixed_name(
 fn named_attributes(
     alloc: Global,
     empty: &EmptyText,
-    scope: &[Binding],
+    scope: &Scope,
     attributes: &[RawAttribute<'_>],
 ) -> Result<Option<List<Attribute>>, AllocError>
     ensures { IfOk result (λ made. made ≡ named_attributes scope.now (map attribute_of attributes.now)) }
@@ -313,7 +286,7 @@ fn named_attributes(
 fn name_one(
     alloc: Global,
     empty: &EmptyText,
-    scope: &[Binding],
+    scope: &Scope,
     attribute: &RawAttribute<'_>,
     named: &mut List<Attribute>,
 ) -> Result<bool, AllocError>

@@ -1,6 +1,5 @@
 pub mod EscapeLemmas
-pub mod PlaceLemmas
 pub mod PlainLemmas
 pub mod RunLemmas
-pub mod ScopeLemmas
+pub mod UsedLemmas
 pub mod WrittenLemmas

@@ -2,9 +2,9 @@ pub mod Causes
 pub mod Escapes
 pub mod HeadView
 pub mod Heads
-pub mod Places
 pub mod Plain
 pub mod Readable
 pub mod Scopes
+pub mod Used
 pub mod Written
 pub mod WrittenItems

@@ -1,11 +1,11 @@
 ghost use Rattle.std.specs.Prelude.{◌≡◌, ℕ, ◌++◌, ◌∷◌, ◌≤◌, [], length, take, IfOk, OnOk};
 ghost use Rattle.doc_writer.specs.Heads.{head_of, keeps_prefix, may_declare, with_element, with_attribute};
 ghost use Rattle.doc_writer.specs.HeadView.{head_at};
-ghost use Rattle.doc_writer.specs.Scopes.{binding};
+ghost use Rattle.name_scopes.specs.Scopes.{binding};
 
 use crate::plain::ascii_text;
-use crate::scopes::Scope;
 use crate::used::UsedPrefixes;
+use name_scopes::Scope;
 use std::alloc::{AllocError, Global};
 use xt_names::{Name, Text};
 use xt_tree::Attribute;

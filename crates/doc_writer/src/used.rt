@@ -22,7 +22,7 @@ impl Model for UsedPrefixes {
     ghost use Rattle.std.specs.Prelude.{List, ℕ};
     ghost use Rattle.std.specs.HashSet.{contains};
     ghost use Rattle.std.specs.Str.{bytes_eq};
-    ghost use Rattle.doc_writer.specs.Places.{AreKnown};
+    ghost use Rattle.doc_writer.specs.Used.{AreKnown};
 
     ghost Value = { List (List ℕ) };
 

@@ -2,7 +2,7 @@ ghost use Rattle.std.specs.Prelude.{◌≡◌, ◌++◌, [], take, IfOk, IfErr, 
 ghost use Rattle.xt_tree.specs.TreeView.{forest_of};
 ghost use Rattle.doc_writer.specs.Causes.{HasCause, HasWriteCause};
 ghost use Rattle.doc_writer.specs.Heads.{head_of};
-ghost use Rattle.doc_writer.specs.Places.{bindings_of};
+ghost use Rattle.name_scopes.specs.Places.{bindings_of};
 ghost use Rattle.doc_writer.specs.Written.{qualified, quoted, declaration, declarations, written_attribute, written_attributes, later_prefixes, start_tag, is_end, element_rest, written_comment, written_pi, written_forest, written_node, written_text, written_tree, written_bare};
 ghost use Rattle.doc_writer.specs.Scopes.{first_scope};
 
@@ -10,8 +10,9 @@ use crate::causes::WriteRefusal;
 use crate::escapes::{push_text, push_value};
 use crate::heads::Heads;
 use crate::plain::push_ascii;
-use crate::scopes::{Entry, Scope};
+use crate::scopes::first_scope;
 use crate::used::UsedPrefixes;
+use name_scopes::Entry;
 use std::alloc::{AllocError, Global};
 use xt_names::{Binding, Code, DynamicCode, Name, Text, TextBuilder};
 use xt_tree::{Attribute, Tree};
@@ -80,7 +81,7 @@ impl Writer {
             alloc,
             out: TextBuilder::new(alloc),
             heads: Heads {
-                scope: Scope::first(alloc)?,
+                scope: first_scope(alloc)?,
                 used: UsedPrefixes::new(alloc),
             },
         })

@@ -1,5 +1,5 @@
 use Rattle.std.proofs.Common.{◌≡◌, ◌++◌, drop}
-use Rattle.doc_writer.specs.Places.{bindings_of}
+use Rattle.name_scopes.specs.Places.{bindings_of}
 use Rattle.doc_writer.specs.Written.{declarations}
 use Rattle.doc_writer.proofs.writers.push_declarations.Given as goal
 

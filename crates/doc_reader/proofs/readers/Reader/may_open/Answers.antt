@@ -9,4 +9,4 @@ returns-else-is_empty c =
     let r = c.args.self.now in
     let size : vec_len r.frames ≡ length r.frames.items = omega arith in
     let same : c.len.result ≡ length r.frames.items = omega arith in
-    ap (λ n. nat_lt n limit) same ∙ sym (inner_may_open r.frames.items r.scope.items (level_of r.level) r.kids r.declared (rw size at c.if-is_empty.ensures))
+    ap (λ n. nat_lt n limit) same ∙ sym (inner_may_open r.frames.items r.scope (level_of r.level) r.kids r.declared (rw size at c.if-is_empty.ensures))

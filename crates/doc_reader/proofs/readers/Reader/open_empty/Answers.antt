@@ -14,5 +14,5 @@ returns-clause-ran c =
     let r = c.open_frame.new.self in
     let next = rw c.in_ok-frame.ensures.source at (takes_next 62 c.eat-closed.result _ _ (rw c.in_ok-frame.ensures.source c.if-not-is_next.ensures) c.eat-closed.ensures) in
     rw c.in_ok-close.ensures.source
-    (empty_closes _ _ _ _ _ (base_of r) _ c.in-Some.frame r.frames.items r.scope.items next (rw c.in-Some.is at c.in_ok-frame.ensures.opens)
+    (empty_closes _ _ _ _ _ (base_of r) _ c.in-Some.frame r.frames.items r.scope next (rw c.in-Some.is at c.in_ok-frame.ensures.opens)
     (c.in_ok-close.ensures.text ∙ c.in_ok-frame.ensures.text ∙ c.requires.text) c.in_ok-close.ensures.opened)

@@ -11,7 +11,7 @@ returns-in_default-clause-ran c = no_target _ _ _ _ _ (takes_next 63 c.eat-quest
 
 pub returns-then-declares-clause-ran : goal.returns-then-declares-clause-ran
 returns-then-declares-clause-ran c =
-    declaration_goes c.xml_declaration-step.result _ _ _ _ _ (chars c.in-Some.target.now) _ _ c.args.self.now.frames.items c.begin.new.self.frames.items c.args.self.now.scope.items c.begin.new.self.scope.items _ _ _ _ _ _
+    declaration_goes c.xml_declaration-step.result _ _ _ _ _ (chars c.in-Some.target.now) _ _ c.args.self.now.frames.items c.begin.new.self.frames.items c.args.self.now.scope c.begin.new.self.scope _ _ _ _ _ _
     (sym c.if-declares.ensures) (takes_next 63 c.eat-question.result _ _ c.requires c.eat-question.ensures) c.in-Some.ensures.name c.xml_declaration-step.ensures.reads
     c.begin.ensures.text c.begin.ensures.frames c.begin.ensures.scope c.begin.ensures.level c.begin.ensures.kids c.begin.ensures.declared c.begin.ensures.source
 

@@ -8,4 +8,4 @@ returns-in-Some c =
     let r = c.args.self.now in
     let size : vec_len r.frames ≡ length r.frames.items = omega arith in
     let filled = rw c.if-not-is_empty.true at c.is_empty.ensures in
-    deep_stop r.source c.in-Some.c r.frames.items r.scope.items (base_of r) c.in-Some.ensures (sym c.starts_name.ensures ∙ c.if-starts_name.true) (rw size at filled)
+    deep_stop r.source c.in-Some.c r.frames.items r.scope (base_of r) c.in-Some.ensures (sym c.starts_name.ensures ∙ c.if-starts_name.true) (rw size at filled)

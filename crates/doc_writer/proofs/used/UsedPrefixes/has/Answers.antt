@@ -1,4 +1,4 @@
-use Rattle.doc_writer.proofs.PlaceLemmas.{known_same}
+use Rattle.doc_writer.proofs.UsedLemmas.{known_same}
 use Rattle.doc_writer.proofs.used.UsedPrefixes.has.Goals as goal
 
 pub invariant_of-self : goal.invariant_of-self

@@ -1,7 +1,7 @@
 use Rattle.std.proofs.Common.{◌≡◌, ◌-◌, length}
 use Rattle.std.specs.HashSet.{contains}
 use Rattle.std.specs.Str.{bytes_eq}
-use Rattle.doc_writer.specs.Places.{AreKnown}
+use Rattle.doc_writer.specs.Used.{AreKnown}
 use Rattle.doc_writer.proofs.used.UsedPrefixes.has.Given as goal
 
 abbrev pub invariant-loop-self : goal.invariant-loop-self
