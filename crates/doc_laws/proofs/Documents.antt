@@ -1,5 +1,5 @@
 -- What is written of a readable document is a document.
-use Rattle.std.proofs.Common.{◌≡◌, ℕ, ◌+◌, ◌≤◌, List, [], true, false, not, ◌&&◌, ◌==◌, Some, refl, sym, subst, arith}
+use Rattle.std.proofs.Common.{◌≡◌, ℕ, ◌+◌, ◌≤◌, List, [], true, false, not, ◌&&◌, ◌==◌, Some, refl, sym, ap, ◌∙◌, subst, arith}
 use Rattle.std.specs.Prelude.{nat_le, encode_utf8_all}
 use Rattle.std.proofs.lemmas.Bool.{and_parts, not-true, leb-true, eqb-true}
 use Rattle.std.proofs.lemmas.Option.{same_Some}
@@ -10,18 +10,18 @@ use Rattle.xt_tree.specs.declared.trees.Tree.TheVariants.{Doc, Elem, Text, Comme
 use Rattle.xt_tree.specs.Forest.{Forest, forest_size, forest_height}
 use Rattle.xt_tree.specs.Sound.{are_sound_behind, is_sound_root, is_sound_tree}
 use Rattle.xt_tree.specs.TreeView.{tree_height, tree_size}
-use Rattle.doc_grammar.specs.Lines.{text_of}
+use Rattle.doc_grammar.specs.Lines.{lines, text_of}
 use Rattle.doc_grammar.specs.Document.{IsDocument, IsDocumentText, Top, blank, fresh}
 use Rattle.doc_grammar.specs.Document as grammar
 use Rattle.doc_grammar.specs.Scopes.{opened}
 use Rattle.doc_writer.specs.Readable.{element_count, has_text, keep_returns, is_readable_kids, as_written_forest, as_written, is_readable}
 use Rattle.doc_writer.specs.Scopes.{first_scope}
-use Rattle.doc_writer.specs.Written.{xml_declaration, written_forest, written_text, written_tree}
+use Rattle.doc_writer.specs.Written.{xml_declaration, written_forest, written_text, written_tree, written_bare}
 use Rattle.doc_laws.proofs.Uris.{keep_uris, sound_uris}
 use Rattle.doc_laws.proofs.Declarations.{declaration_back}
 use Rattle.doc_laws.proofs.Elements.{forest_same}
 use Rattle.doc_laws.proofs.Contents.{Allows}
-use Rattle.doc_laws.proofs.Tops.{before_root}
+use Rattle.doc_laws.proofs.Tops.{before_root, unmarked}
 use Rattle.doc_laws.proofs.Characters.{are_clean, clean_join, lines_same, scalars_clean}
 use Rattle.doc_laws.proofs.WrittenCharacters.{forest_clean}
 
@@ -67,18 +67,35 @@ document_clean kids r = clean_join xml_declaration (written_forest first_scope k
 document_text : (kids : Forest) → AreReadable kids → IsDocumentText (written_text (Doc kids)) (as_written (Doc kids))
 document_text kids r =
     let P : Forest → Type 0 = λ f. Top opened blank [] (written_text (Doc kids)) (Doc f) in
-    subst P (forest_same (as_written_forest first_scope kids)) (grammar.declares (declaration_back (written_forest first_scope kids)) (before_root kids [] (top_allows kids r) r.sound r.one_element r.no_text))
+    subst P (forest_same (as_written_forest first_scope kids)) (grammar.declares (declaration_back (written_forest first_scope kids)) (before_root fresh kids [] refl (top_allows kids r) r.sound r.one_element r.no_text))
+
+bare_clean : (kids : Forest) → AreReadable kids → are_clean (written_forest first_scope kids) ≡ true
+bare_clean kids r = forest_clean kids 0 [] false (top_allows kids r) r.sound r.returns
+
+bare_text : (kids : Forest) → AreReadable kids → IsDocumentText (written_forest first_scope kids) (as_written (Doc kids))
+bare_text kids r =
+    let P : Forest → Type 0 = λ f. Top opened blank [] (written_forest first_scope kids) (Doc f) in
+    subst P (forest_same (as_written_forest first_scope kids)) (before_root blank kids [] refl (top_allows kids r) r.sound r.one_element r.no_text)
+
+bare_same : (kids : Forest) → AreReadable kids → text_of (written_forest first_scope kids) ≡ written_forest first_scope kids
+bare_same kids r = ap lines (unmarked kids r.sound r.one_element r.no_text) ∙ lines_same (written_forest first_scope kids) (bare_clean kids r)
 
 text_same : (kids : Forest) → AreReadable kids → text_of (written_text (Doc kids)) ≡ written_text (Doc kids)
 text_same kids r = lines_same (written_text (Doc kids)) (document_clean kids r)
 
+-- characters that are a document, with no mark and no carriage return, are one as bytes too
+encoded : (text : List ℕ) (t : Tree) → are_clean text ≡ true → text_of text ≡ text → IsDocumentText text t → IsDocument (encode_utf8_all text) t
+encoded text t clean same d =
+    let scalar = scalars_clean text clean in
+    let P : List ℕ → Type 0 = λ x. IsDocumentText x t in
+    let Q : List ℕ → Type 0 = λ x. IsDocumentText (text_of x) t in
+    ((text, (scalar, refl)), subst Q (sym (chars-encodes text scalar)) (subst P (sym same) d))
+
 whole_document : (kids : Forest) → AreReadable kids → IsDocument (encode_utf8_all (written_text (Doc kids))) (as_written (Doc kids))
-whole_document kids r =
-    let text = written_text (Doc kids) in
-    let scalar = scalars_clean text (document_clean kids r) in
-    let P : List ℕ → Type 0 = λ x. IsDocumentText x (as_written (Doc kids)) in
-    let Q : List ℕ → Type 0 = λ x. IsDocumentText (text_of x) (as_written (Doc kids)) in
-    ((text, (scalar, refl)), subst Q (sym (chars-encodes text scalar)) (subst P (sym (text_same kids r)) (document_text kids r)))
+whole_document kids r = encoded (written_text (Doc kids)) (as_written (Doc kids)) (document_clean kids r) (text_same kids r) (document_text kids r)
+
+bare_document : (kids : Forest) → AreReadable kids → IsDocument (encode_utf8_all (written_forest first_scope kids)) (as_written (Doc kids))
+bare_document kids r = encoded (written_forest first_scope kids) (as_written (Doc kids)) (bare_clean kids r) (bare_same kids r) (bare_text kids r)
 
 pub document_back : (t : Tree) (bytes : List ℕ) → is_readable t ≡ true → written_tree t ≡ Some bytes → IsDocument bytes (as_written t)
 document_back (Doc kids) bytes r e = let P : List ℕ → Type 0 = λ x. IsDocument x (as_written (Doc kids)) in subst P (same_Some _ _ e) (whole_document kids (readable_parts kids r))
@@ -87,3 +104,11 @@ document_back (Text t) bytes r e = absurd (cc)
 document_back (Comment t) bytes r e = absurd (cc)
 document_back (Pi target t) bytes r e = absurd (cc)
 document_back (Attr name t) bytes r e = absurd (cc)
+
+pub bare_back : (t : Tree) (bytes : List ℕ) → is_readable t ≡ true → written_bare t ≡ Some bytes → IsDocument bytes (as_written t)
+bare_back (Doc kids) bytes r e = let P : List ℕ → Type 0 = λ x. IsDocument x (as_written (Doc kids)) in subst P (same_Some _ _ e) (bare_document kids (readable_parts kids r))
+bare_back (Elem name attributes kids) bytes r e = absurd (cc)
+bare_back (Text t) bytes r e = absurd (cc)
+bare_back (Comment t) bytes r e = absurd (cc)
+bare_back (Pi target t) bytes r e = absurd (cc)
+bare_back (Attr name t) bytes r e = absurd (cc)

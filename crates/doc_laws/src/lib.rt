@@ -11,7 +11,7 @@ ghost use Rattle.xt_tree.specs.declared.trees.Tree.TheVariants.{Comment, Pi};
 ghost use Rattle.doc_grammar.specs.Document.{Valued};
 ghost use Rattle.doc_grammar.specs.Lexemes.{Misc};
 ghost use Rattle.doc_writer.specs.Escapes.{escaped_value};
-ghost use Rattle.doc_writer.specs.Written.{written_comment, written_pi};
+ghost use Rattle.doc_writer.specs.Written.{written_comment, written_pi, written_tree, written_bare};
 ghost use Rattle.doc_laws.specs.ReadBack.{DocumentsReadBack, TextsReadBack};
 
 /// What is written for a text is read back as that text, wherever it stands in an element, and what is written for a value as
@@ -28,8 +28,9 @@ pub fn written_markup_reads_back()
 {}
 
 /// The bytes that are written for a readable document are a document, which stands for the same tree with the prefixes that are
-/// written: `as_written` of doc_writer. Readable is a sound document of one element and no text, whose comments and
+/// written: `as_written` of doc_writer; with the XML declaration before them and without it. Readable is a sound document of one element and no text, whose comments and
 /// processing instructions hold no carriage return (XML 1.0; Namespaces in XML 1.0; Serialization, 5).
 pub fn written_documents_read_back()
-    ensures { DocumentsReadBack }
+    ensures declared { DocumentsReadBack written_tree }
+    ensures bare { DocumentsReadBack written_bare }
 {}

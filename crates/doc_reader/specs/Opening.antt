@@ -1,5 +1,5 @@
 -- What the code makes of a start tag.
-use Rattle.std.specs.Prelude.{◌≡◌, ℕ, ◌-◌, List, length, take, Some}
+use Rattle.std.specs.Prelude.{◌≡◌, ◌-◌, List, length, take, Some}
 use Rattle.xt_names.specs.declared.names.Binding.{Binding}
 use Rattle.doc_reader.specs.declared.scopes.OpenedTag.{OpenedTag}
 use Rattle.doc_grammar.specs.RawNames.{RawTag}
