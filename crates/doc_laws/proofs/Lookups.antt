@@ -1,5 +1,5 @@
 -- The scope of the writer and that of the reader: the first also binds the empty prefix to no uri.
-use Rattle.std.proofs.Common.{◌≡◌, ℕ, List, [], ◌∷◌, ◌++◌, true, false, Option, Some, None, refl, ◌∙◌, codes}
+use Rattle.std.proofs.Common.{◌≡◌, ℕ, List, [], ◌∷◌, ◌++◌, true, false, Option, Some, None, refl, codes}
 use Rattle.std.proofs.lemmas.Option.{same_Some}
 use Rattle.xt_names.specs.Allowed.{is_empty_text, xml_uri}
 use Rattle.xt_names.specs.declared.names.Binding.{Binding}
