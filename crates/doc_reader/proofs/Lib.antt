@@ -20,3 +20,4 @@ mod AsideReads
 mod FormReads
 mod MarkupReads
 mod GroundReads
+mod PoolLemmas

@@ -5,6 +5,7 @@ pub mod View
 pub mod References
 pub mod Asides
 pub mod Spelling
+pub mod Pools
 pub mod PrologParts
 pub mod Opening
 pub mod Frames

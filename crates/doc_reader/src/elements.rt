@@ -18,7 +18,7 @@ use crate::steps::{Step, Stop};
 use crate::tags::RawTag;
 use std::alloc::{AllocError, Global};
 use xt_names::{List, Text};
-use xt_tree::{Kids, Tree};
+use xt_tree::Tree;
 
 impl<'a> Reader<'a> {
     /// Reads a start tag behind its `<`.
@@ -134,7 +134,7 @@ impl<'a> Reader<'a> {
         ensures text { self.new.text ≡ self.old.text }
     {
         self.enter(alloc)?;
-        match open_tag(alloc, &self.empty, &mut self.scope, &tag)? {
+        match open_tag(alloc, &mut self.pool, &mut self.scope, &tag)? {
             None => Ok(None),
             Some(opened) => {
                 let declared = opened.declarations.len();
@@ -202,7 +202,7 @@ impl<'a> Reader<'a> {
         } = frame;
         self.scope
             .truncate(self.scope.len().saturating_sub(declared));
-        let kids = Kids::make(alloc, kids)?;
+        let kids = self.pool.kids(alloc, kids)?;
         self.add(Tree::Elem(element, attributes, kids))
     }
 

@@ -20,6 +20,7 @@ mod elements;
 mod faults;
 mod lines;
 mod names;
+mod pools;
 mod prolog;
 mod readers;
 mod references;

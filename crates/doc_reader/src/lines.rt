@@ -6,19 +6,14 @@ ghost use Rattle.doc_grammar.specs.Lines.{lines, bytes_before};
 ghost use Rattle.doc_reader.specs.LineEnds.{line_of};
 
 use crate::sources::Source;
+use memchr::memchr;
 use std::alloc::{AllocError, Global};
 
 /// Whether a carriage return stands in the text. Without one the text is as its lines are read.
 pub(crate) fn has_return(text: &str) -> bool
     ensures { result ≡ false → lines (chars text.now) ≡ chars text.now }
 {
-    let mut source = Source::new(text);
-    while let Some(c) = source.skip() {
-        if c == '\r' {
-            return true;
-        }
-    }
-    false
+    memchr(b'\r', text.as_bytes()).is_some()
 }
 
 /// The text with a line feed at the end of each line (XML 1.0, 2.11).

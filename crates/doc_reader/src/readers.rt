@@ -13,7 +13,7 @@ ghost use Rattle.doc_reader.specs.Frames.{level_of, open_in, here};
 use crate::buffers::Buffer;
 use crate::classes::{Bracket, PlainText};
 use crate::names::RawName;
-use crate::scopes::EmptyText;
+use crate::pools::Pool;
 use crate::sources::Source;
 use crate::steps::{Step, Stop};
 use name_scopes::Scope;
@@ -64,8 +64,8 @@ pub(crate) struct Reader<'a> {
     pub(crate) kids: List<Tree>,
     /// The declarations of each element so far.
     pub(crate) declared: List<List<Binding>>,
-    /// The empty text, which names share.
-    pub(crate) empty: EmptyText,
+    /// What the parts of the document share.
+    pub(crate) pool: Pool,
 }
 
 impl<'a> Reader<'a> {
@@ -82,7 +82,7 @@ impl<'a> Reader<'a> {
             level: Level::Blank,
             kids: List::new(alloc),
             declared: List::new(alloc),
-            empty: EmptyText::new(alloc)?,
+            pool: Pool::new(alloc)?,
         })
     }
 

@@ -9,42 +9,12 @@ ghost use Rattle.doc_reader.specs.View.{name_of, attribute_of, tag_of};
 ghost use Rattle.doc_reader.specs.Opening.{OpensTag};
 
 use crate::names::RawName;
+use crate::pools::Pool;
 use crate::tags::{RawAttribute, RawTag};
 use name_scopes::Scope;
 use std::alloc::{AllocError, Global};
-use std::marker::Model;
 use xt_names::{Binding, List, Name, Text, is_ascii_text, keeps_xml, keeps_xmlns};
 use xt_tree::{Attribute, Attrs, names_differ};
-
-/// The empty text, which names share.
-#[derive(Drop)]
-pub(crate) struct EmptyText {
-    text: Text,
-}
-
-impl Model for EmptyText {
-    ghost use Rattle.std.specs.Prelude.{◌≡◌, List, ℕ, []};
-
-    ghost Value = { List ℕ };
-
-    ghost view = { λ e. e.text };
-
-    ghost invariant = { λ e. e.text ≡ [] };
-}
-
-impl EmptyText {
-    #[tactic(auto, using(crate::proofs::ScopeLemmas::chars_empty))]
-    pub(crate) fn new(alloc: Global) -> Result<EmptyText, AllocError> {
-        let text = Text::make(alloc, "")?;
-        Ok(EmptyText { text })
-    }
-
-    fn copy(&self) -> Result<Text, AllocError>
-        ensures { IfOk result (λ t. t ≡ []) }
-    {
-        self.text.copy()
-    }
-}
 
 /// The prefix that an attribute of this name declares.
 #[tactic(auto, using(crate::proofs::ScopeLemmas::chars_empty), unfolding(doc_grammar::specs::Scopes::declared_by))]
@@ -70,27 +40,27 @@ pub(crate) struct OpenedTag {
 #[tactic(auto, unfolding(doc_grammar::specs::Scopes::opened))]
 pub(crate) fn open_tag(
     alloc: Global,
-    empty: &EmptyText,
+    pool: &mut Pool,
     scope: &mut Scope,
     tag: &RawTag<'_>,
 ) -> Result<Option<OpenedTag>, AllocError>
     ensures { IfOk result (λ o. MatchOption o (opened scope.old (tag_of tag.now) ≡ None) (λ t. OpensTag scope.old (tag_of tag.now) t scope.new)) }
 {
     let declared = declarations(alloc, &tag.attributes)?;
-    if !are_declarations(alloc, empty, declared.as_slice())? {
+    if !are_declarations(alloc, pool, declared.as_slice())? {
         return Ok(None);
     }
     scope.push_all(declared.as_slice())?;
-    let Some(element) = element_name(alloc, empty, scope, tag.name)? else {
+    let Some(element) = element_name(alloc, pool, scope, tag.name)? else {
         return Ok(None);
     };
-    let Some(attributes) = named_attributes(alloc, empty, scope, &tag.attributes)? else {
+    let Some(attributes) = named_attributes(alloc, pool, scope, &tag.attributes)? else {
         return Ok(None);
     };
     if !names_differ(alloc, attributes.as_slice()) {
         return Ok(None);
     }
-    let attributes = Attrs::make(alloc, attributes)?;
+    let attributes = pool.attributes(alloc, attributes)?;
     Ok(Some(OpenedTag {
         element,
         attributes,
@@ -129,14 +99,10 @@ fn declare(
 
 /// Whether the declarations of one start tag are allowed.
 #[tactic(auto, unfolding(doc_grammar::specs::Scopes::are_declarations))]
-fn are_declarations(
-    alloc: Global,
-    empty: &EmptyText,
-    bindings: &[Binding],
-) -> Result<bool, AllocError>
+fn are_declarations(alloc: Global, pool: &Pool, bindings: &[Binding]) -> Result<bool, AllocError>
     ensures { IfOk result (λ allowed. allowed ≡ are_declarations bindings.now) }
 {
-    Ok(are_all_bindings(bindings) && prefixes_differ(alloc, empty, bindings)?)
+    Ok(are_all_bindings(bindings) && prefixes_differ(alloc, pool, bindings)?)
 }
 
 fn are_all_bindings(bindings: &[Binding]) -> bool
@@ -156,44 +122,40 @@ fn is_binding(binding: &Binding) -> bool
 
 /// Whether no prefix is declared twice. Prefixes are looked up as names without uri, so that many take no scan.
 #[tactic(auto, using(crate::proofs::ScopeLemmas::differ_as_names))]
-fn prefixes_differ(
-    alloc: Global,
-    empty: &EmptyText,
-    bindings: &[Binding],
-) -> Result<bool, AllocError>
+fn prefixes_differ(alloc: Global, pool: &Pool, bindings: &[Binding]) -> Result<bool, AllocError>
     ensures { IfOk result (λ differ. differ ≡ prefixes_differ bindings.now) }
 {
-    let names = prefix_names(alloc, empty, bindings)?;
+    let names = prefix_names(alloc, pool, bindings)?;
     Ok(names_differ(alloc, names.as_slice()))
 }
 
 #[tactic(auto, using(crate::proofs::ScopeLemmas::chars_empty))]
 fn prefix_names(
     alloc: Global,
-    empty: &EmptyText,
+    pool: &Pool,
     bindings: &[Binding],
 ) -> Result<List<Attribute>, AllocError>
     ensures { IfOk result (λ names. names ≡ map prefix_name bindings.now) }
 {
     let mut names = List::new(alloc);
     for binding in bindings {
-        names.push(prefix_name(empty, binding)?)?;
+        names.push(prefix_name(pool, binding)?)?;
     }
     Ok(names)
 }
 
 // The prefix as the name of an attribute.
 #[tactic(auto, unfolding(doc_grammar::specs::Scopes::prefix_name))]
-fn prefix_name(empty: &EmptyText, binding: &Binding) -> Result<Attribute, AllocError>
+fn prefix_name(pool: &Pool, binding: &Binding) -> Result<Attribute, AllocError>
     ensures { IfOk result (λ made. made ≡ prefix_name binding.now) }
 {
     Ok(Attribute {
         name: Name {
-            prefix: empty.copy()?,
-            uri: empty.copy()?,
+            prefix: pool.empty()?,
+            uri: pool.empty()?,
             local: binding.prefix.copy()?,
         },
-        value: empty.copy()?,
+        value: pool.empty()?,
     })
 }
 
@@ -201,23 +163,23 @@ fn prefix_name(empty: &EmptyText, binding: &Binding) -> Result<Attribute, AllocE
 #[tactic(auto, using(crate::proofs::ScopeLemmas::chars_empty), unfolding(doc_grammar::specs::Scopes::element_name))]
 fn element_name(
     alloc: Global,
-    empty: &EmptyText,
+    pool: &mut Pool,
     scope: &Scope,
     name: RawName<'_>,
 ) -> Result<Option<Name>, AllocError>
     ensures { IfOk result (λ made. made ≡ element_name scope.now (name_of name.entry)) }
 {
     match name.prefix {
-        Some(prefix) => prefixed_name(alloc, scope, prefix, name.local),
+        Some(prefix) => prefixed_name(alloc, pool, scope, prefix, name.local),
         None => {
             let uri = match scope.binding_of(alloc, "")? {
                 Some(binding) => binding.uri.copy()?,
-                None => empty.copy()?,
+                None => pool.empty()?,
             };
             Ok(Some(Name {
-                prefix: empty.copy()?,
+                prefix: pool.empty()?,
                 uri,
-                local: Text::make(alloc, name.local)?,
+                local: pool.text(alloc, name.local)?,
             }))
         }
     }
@@ -227,20 +189,20 @@ fn element_name(
 #[tactic(auto, using(crate::proofs::ScopeLemmas::chars_empty), unfolding(doc_grammar::specs::Scopes::attribute_name))]
 fn attribute_name(
     alloc: Global,
-    empty: &EmptyText,
+    pool: &mut Pool,
     scope: &Scope,
     name: RawName<'_>,
 ) -> Result<Option<Name>, AllocError>
     ensures { IfOk result (λ made. made ≡ attribute_name scope.now (name_of name.entry)) }
 {
     match name.prefix {
-        Some(prefix) => prefixed_name(alloc, scope, prefix, name.local),
+        Some(prefix) => prefixed_name(alloc, pool, scope, prefix, name.local),
         None => {
-            let no_uri = empty.copy()?;
+            let no_uri = pool.empty()?;
             Ok(Some(Name {
-                prefix: empty.copy()?,
+                prefix: pool.empty()?,
                 uri: no_uri,
-                local: Text::make(alloc, name.local)?,
+                local: pool.text(alloc, name.local)?,
             }))
         }
     }
@@ -248,6 +210,7 @@ fn attribute_name(
 
 fn prefixed_name(
     alloc: Global,
+    pool: &mut Pool,
     scope: &Scope,
     prefix: &str,
     local: &str,
@@ -259,7 +222,7 @@ fn prefixed_name(
         Some(binding) => Ok(Some(Name {
             prefix: binding.prefix.copy()?,
             uri: binding.uri.copy()?,
-            local: Text::make(alloc, local)?,
+            local: pool.text(alloc, local)?,
         })),
     }
 }
@@ -267,7 +230,7 @@ fn prefixed_name(
 /// The attributes that are no declarations, if all their prefixes are declared.
 fn named_attributes(
     alloc: Global,
-    empty: &EmptyText,
+    pool: &mut Pool,
     scope: &Scope,
     attributes: &[RawAttribute<'_>],
 ) -> Result<Option<List<Attribute>>, AllocError>
@@ -275,7 +238,7 @@ fn named_attributes(
 {
     let mut named = List::new(alloc);
     for attribute in attributes {
-        if !name_one(alloc, empty, scope, attribute, &mut named)? {
+        if !name_one(alloc, pool, scope, attribute, &mut named)? {
             return Ok(None);
         }
     }
@@ -285,7 +248,7 @@ fn named_attributes(
 // Names one attribute, if it is no declaration, or says that its prefix is not declared.
 fn name_one(
     alloc: Global,
-    empty: &EmptyText,
+    pool: &mut Pool,
     scope: &Scope,
     attribute: &RawAttribute<'_>,
     named: &mut List<Attribute>,
@@ -297,7 +260,7 @@ fn name_one(
     if declared_by(attribute.name).is_some() {
         return Ok(true);
     }
-    match attribute_name(alloc, empty, scope, attribute.name)? {
+    match attribute_name(alloc, pool, scope, attribute.name)? {
         Some(name) => {
             let value = attribute.value.copy()?;
             named.push(Attribute { name, value })?;

@@ -1,4 +1,5 @@
 pub mod EscapeLemmas
+pub mod HeadLemmas
 pub mod PlainLemmas
 pub mod RunLemmas
 pub mod UsedLemmas

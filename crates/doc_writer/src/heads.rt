@@ -3,7 +3,6 @@ ghost use Rattle.doc_writer.specs.Heads.{head_of, keeps_prefix, may_declare, wit
 ghost use Rattle.doc_writer.specs.HeadView.{head_at};
 ghost use Rattle.name_scopes.specs.Scopes.{binding};
 
-use crate::plain::ascii_text;
 use crate::used::UsedPrefixes;
 use name_scopes::Scope;
 use std::alloc::{AllocError, Global};
@@ -55,7 +54,7 @@ impl Heads {
         }
     }
 
-    #[tactic(auto, unfolding(crate::specs::Heads::with_attribute))]
+    #[tactic(auto, using(crate::proofs::HeadLemmas::empty_text), unfolding(crate::specs::Heads::with_attribute))]
     fn open_attribute(&mut self, alloc: Global, place: usize, name: &Name) -> Result<(), AllocError>
         requires { place ≤ length self.old.scope }
         ensures outer { OnOk result (take place self.new.scope ≡ take place self.old.scope) }
@@ -63,7 +62,8 @@ impl Heads {
         ensures head { OnOk result (head_at place self.new.scope self.new.used ≡ with_attribute (head_at place self.old.scope self.old.used) name.now) }
     {
         if name.uri.is_empty() {
-            return self.write(ascii_text(alloc, "")?);
+            // The empty prefix is the empty uri's text.
+            return self.write(name.uri.copy()?);
         }
         if self.keeps_prefix(name) {
             return self.write(name.prefix.copy()?);
