@@ -53,7 +53,7 @@ impl Pool {
         self.empty.copy()
     }
 
-    /// The text of a name, which is made once. Want of memory for the table costs the sharing alone.
+    /// The text of a name, which is made once.
     pub(crate) fn text(&mut self, alloc: Global, name: &str) -> Result<Text, AllocError>
         ensures { IfOk result (λ text. text ≡ chars name.now) }
     {
@@ -67,6 +67,7 @@ impl Pool {
         Ok(text)
     }
 
+    // Keeps the text of a name. Where the table cannot grow, the name is not kept.
     fn keep(&mut self, alloc: Global, name: &str, text: &Text) -> Result<(), AllocError>
         requires { text.now ≡ chars name.now }
     {

@@ -75,7 +75,7 @@ fn root(document: &Tree) -> Option<&Tree> {
     first_element(document.kids())
 }
 
-// The child of the root at the place, and the first child of the root's first child.
+// Whether the first child of the root's first child, and the root's second child, are in these namespaces.
 fn uris_are(alloc: Global, text: &str, inner: &str, second: &str) -> Result<bool, AllocError> {
     match read(alloc, text.as_bytes()) {
         Ok(document) => Ok(are_children_in(root(&document), inner, second)),
