@@ -17,3 +17,4 @@ pub mod Tops
 pub mod Characters
 pub mod WrittenCharacters
 pub mod Documents
+pub mod ItemTexts

@@ -1,4 +1,4 @@
-//! Laws that the grammar of documents and their text keep together: what is written is read back.
+//! Laws of what is written: which items have a text, and that the text of a document is read back.
 //!
 //! Definitions and laws alone; nothing runs. `IsDocument` of doc_grammar says which tree a text stands for, and `written_tree`
 //! of doc_writer which bytes are written for a tree.
@@ -12,6 +12,8 @@ ghost use Rattle.doc_grammar.specs.Document.{Valued};
 ghost use Rattle.doc_grammar.specs.Lexemes.{Misc};
 ghost use Rattle.doc_writer.specs.Escapes.{escaped_value};
 ghost use Rattle.doc_writer.specs.Written.{written_comment, written_pi, written_tree, written_bare};
+ghost use Rattle.doc_writer.specs.WrittenItems.{written_items, written_items_bare};
+ghost use Rattle.doc_laws.specs.ItemTexts.{AttributesHaveNoText};
 ghost use Rattle.doc_laws.specs.ReadBack.{DocumentsReadBack, TextsReadBack};
 
 /// What is written for a text is read back as that text, wherever it stands in an element, and what is written for a value as
@@ -33,4 +35,10 @@ pub fn written_markup_reads_back()
 pub fn written_documents_read_back()
     ensures declared { DocumentsReadBack written_tree }
     ensures bare { DocumentsReadBack written_bare }
+{}
+
+/// Sound items have a text exactly where none of them is an attribute (Serialization, 2).
+pub fn attributes_alone_have_no_text()
+    ensures declared { AttributesHaveNoText written_items }
+    ensures bare { AttributesHaveNoText written_items_bare }
 {}
