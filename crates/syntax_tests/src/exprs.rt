@@ -47,7 +47,7 @@ pub(crate) fn filter(rt: &(impl Abort + AllocGlobal), of: Expr, predicate: Expr)
 }
 
 // `$v in source`
-fn bind(rt: &(impl Abort + AllocGlobal), source: Expr) -> Bind {
+pub(crate) fn bind(rt: &(impl Abort + AllocGlobal), source: Expr) -> Bind {
     Bind {
         var: name(rt, "v"),
         kind: None,
@@ -63,17 +63,24 @@ pub(crate) fn some(rt: &(impl Abort + AllocGlobal), source: Expr, test: Expr) ->
 
 // `for $v in / order by key return /`
 pub(crate) fn flwor(rt: &(impl Abort + AllocGlobal), key: Expr) -> Expr {
-    let order = Order {
-        key: shared(rt, key),
-        descending: false,
-    };
-    Expr::Flwor(Flwor {
+    Expr::Flwor(ordered(rt, key))
+}
+
+pub(crate) fn ordered(rt: &(impl Abort + AllocGlobal), key: Expr) -> Flwor {
+    Flwor {
         clauses: shared(rt, list_of(rt, Clause::For(bind(rt, Expr::Root), None))),
         test: None,
-        orders: shared(rt, list_of(rt, order)),
+        orders: shared(rt, list_of(rt, order(rt, key))),
         stable: false,
         body: shared(rt, Expr::Root),
-    })
+    }
+}
+
+pub(crate) fn order(rt: &(impl Abort + AllocGlobal), key: Expr) -> Order {
+    Order {
+        key: shared(rt, key),
+        descending: false,
+    }
 }
 
 // a direct element without attributes

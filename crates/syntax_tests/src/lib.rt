@@ -7,6 +7,8 @@
 #![tactic(auto)]
 
 #[cfg(test)]
+mod expr_copies;
+#[cfg(test)]
 mod exprs;
 #[cfg(test)]
 mod forms;
@@ -19,4 +21,10 @@ mod made;
 #[cfg(test)]
 mod nests;
 #[cfg(test)]
+mod query_copies;
+#[cfg(test)]
 mod sheet_copies;
+#[cfg(test)]
+mod sheet_nests;
+#[cfg(test)]
+mod type_copies;

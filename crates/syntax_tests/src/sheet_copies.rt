@@ -201,7 +201,7 @@ fn levels_are_copied(rt: HostRuntime) {
     drop(copy);
 }
 
-fn sheet(rt: &(impl Abort + AllocGlobal)) -> Sheet {
+pub(crate) fn sheet(rt: &(impl Abort + AllocGlobal)) -> Sheet {
     Sheet {
         levels: list_of(rt, Level { first: 5 }),
         globals: list_of(rt, global(rt, "v")),
