@@ -61,16 +61,16 @@ declaration_clean : are_clean xml_declaration ≡ true
 unfolding is_in_ranges
 declaration_clean = refl
 
+bare_clean : (kids : Forest) → AreReadable kids → are_clean (written_forest first_scope kids) ≡ true
+bare_clean kids r = forest_clean kids 0 [] false (top_allows kids r) r.sound r.returns
+
 document_clean : (kids : Forest) → AreReadable kids → are_clean (written_text (Doc kids)) ≡ true
-document_clean kids r = clean_join xml_declaration (written_forest first_scope kids) declaration_clean (forest_clean kids 0 [] false (top_allows kids r) r.sound r.returns)
+document_clean kids r = clean_join xml_declaration (written_forest first_scope kids) declaration_clean (bare_clean kids r)
 
 document_text : (kids : Forest) → AreReadable kids → IsDocumentText (written_text (Doc kids)) (as_written (Doc kids))
 document_text kids r =
     let P : Forest → Type 0 = λ f. Top opened blank [] (written_text (Doc kids)) (Doc f) in
     subst P (forest_same (as_written_forest first_scope kids)) (grammar.declares (declaration_back (written_forest first_scope kids)) (before_root fresh kids [] refl (top_allows kids r) r.sound r.one_element r.no_text))
-
-bare_clean : (kids : Forest) → AreReadable kids → are_clean (written_forest first_scope kids) ≡ true
-bare_clean kids r = forest_clean kids 0 [] false (top_allows kids r) r.sound r.returns
 
 bare_text : (kids : Forest) → AreReadable kids → IsDocumentText (written_forest first_scope kids) (as_written (Doc kids))
 bare_text kids r =

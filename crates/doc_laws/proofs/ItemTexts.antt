@@ -11,7 +11,7 @@ use Rattle.xt_atoms.specs.AtomTexts.{text_of}
 use Rattle.xt_tree.specs.Forest.{Forest, end, doc, elem, text, comment, pi, attr}
 use Rattle.xt_tree.specs.Place.{subtree_of}
 use Rattle.xt_tree.specs.Sound.{is_sound_comment, is_sound_pi, are_sound_behind, is_sound_root, is_sound_tree}
-use Rattle.xt_tree.specs.TreeView.{trees}
+use Rattle.xt_tree.specs.TreeView.{trees, forest_of}
 use Rattle.xt_tree.specs.declared.trees.Tree.{Tree}
 use Rattle.xt_tree.specs.declared.trees.Tree.TheVariants.{Doc, Elem, Text, Comment, Pi, Attr}
 use Rattle.xdm_items.specs.declared.items.Item.{Item}
@@ -24,7 +24,7 @@ use Rattle.node_builder.specs.declared.kinds.Duplicates.TheVariants.{Refuse}
 use Rattle.node_builder.specs.declared.kinds.Holder.TheVariants.{Document}
 use Rattle.node_builder.proofs.SubtreeLemmas.{subtree_sound}
 use Rattle.doc_writer.specs.Written.{written_tree, written_bare}
-use Rattle.doc_writer.specs.WrittenItems.{document_with, written_items, written_items_bare}
+use Rattle.doc_writer.specs.WrittenItems.{document_with, joined_document, written_items, written_items_bare}
 use Rattle.doc_laws.specs.ItemTexts.{is_attribute_below, is_attribute_item}
 
 -- no child of a sound document is an attribute
@@ -98,23 +98,21 @@ unfolding are_sound_items
 content_any items s =
     let xs = opened (map piece_tree (pieces_of items)) in merged_any (without_empty xs) ∙ without_any xs ∙ opened_items items s
 
--- a document has a text, and where content fails there is none
-decided : (q : Bool) (code : Code) (content : Content) → is_some (option_and_then written_tree (document_with (cond q (Fails code) (Gives content)))) ≡ not q
-decided true code content = refl
-decided false code content = refl
+-- where a document has a text, content that fails has none and other content has one
+decided : (written : Tree → Option (List ℕ)) → ((kids : Forest) → is_some (written (Doc kids)) ≡ true) → (q : Bool) (code : Code) (content : Content)
+    → is_some (option_and_then written (document_with (cond q (Fails code) (Gives content)))) ≡ not q
+decided written d true code content = refl
+decided written d false code content = d (forest_of content.kids)
 
-decided_bare : (q : Bool) (code : Code) (content : Content) → is_some (option_and_then written_bare (document_with (cond q (Fails code) (Gives content)))) ≡ not q
-decided_bare true code content = refl
-decided_bare false code content = refl
+items_decided : (written : Tree → Option (List ℕ)) → ((kids : Forest) → is_some (written (Doc kids)) ≡ true) → (items : List Item) → are_sound_items items ≡ true
+    → is_some (option_and_then written (joined_document items)) ≡ not (list_any is_attribute_item items)
+unfolding complex_content taken
+items_decided written d items s =
+    let nodes = content_nodes items in
+    decided written d (list_any is_attribute nodes) (misplaced Refuse Document) (record { attributes = []; kids = nodes }) ∙ ap not (content_any items s)
 
 pub items_declared : (items : List Item) → are_sound_items items ≡ true → is_some (written_items items) ≡ not (list_any is_attribute_item items)
-unfolding complex_content taken
-items_declared items s =
-    let nodes = content_nodes items in
-    decided (list_any is_attribute nodes) (misplaced Refuse Document) (record { attributes = []; kids = nodes }) ∙ ap not (content_any items s)
+items_declared = items_decided written_tree (λ kids. refl)
 
 pub items_bare : (items : List Item) → are_sound_items items ≡ true → is_some (written_items_bare items) ≡ not (list_any is_attribute_item items)
-unfolding complex_content taken
-items_bare items s =
-    let nodes = content_nodes items in
-    decided_bare (list_any is_attribute nodes) (misplaced Refuse Document) (record { attributes = []; kids = nodes }) ∙ ap not (content_any items s)
+items_bare = items_decided written_bare (λ kids. refl)

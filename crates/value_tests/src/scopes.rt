@@ -37,3 +37,11 @@ fn only_the_last_is_from_its_place_on(rt: HostRuntime) {
     assert!(rt; !scope.binds_from(1, &text(&rt, "p")));
     drop(scope);
 }
+
+#[test]
+fn the_last_binding_stands_behind_the_first(rt: HostRuntime) {
+    let scope = scope(&rt);
+    assert_eq!(rt; scope.len(), 2);
+    assert!(rt; matches!(scope.from(1), [only] if only.binding.prefix.is("q")));
+    drop(scope);
+}
