@@ -2,13 +2,12 @@
 # Compares the reading of a document: the user time in seconds and the peak memory in kilobytes of `xslt2xq transform`,
 # whose stylesheet looks at nothing of the document, and of `xmllint --noout`. Each is the best of three runs.
 #
-# usage: bench/read.sh BYTES    a catalogue of about so many bytes, made by the generator that GEN names
+# usage: bench/read.sh BYTES    a catalogue of about so many bytes, made by bench/catalogue.py
 #        bench/read.sh FILE     this document
 set -eu
 
 top=$(dirname "$(dirname "$(readlink -f "${BASH_SOURCE[0]}")")")
 data=$top/bench/data
-generator=${GEN:-$top/../shared/tools/gen.py}
 
 case ${1-} in
 '')
@@ -21,7 +20,7 @@ case ${1-} in
 *)
     mkdir -p "$data/catalogue-$1"
     document=$data/catalogue-$1/d.xml
-    [[ -s $document ]] || python3 "$generator" catalogue "$1" "$data/catalogue-$1"
+    [[ -s $document ]] || python3 "$top/bench/catalogue.py" "$1" "$document"
     ;;
 esac
 

@@ -24,7 +24,7 @@ pub(crate) fn attribute(rt: &(impl Abort + AllocGlobal), local: &str, value: &st
     }
 }
 
-fn list_of<T: Drop>(rt: &(impl Abort + AllocGlobal), item: T) -> List<T> {
+pub(crate) fn list_of<T: Drop>(rt: &(impl Abort + AllocGlobal), item: T) -> List<T> {
     let mut items = List::new(rt.alloc());
     items.push(item).expect(rt, "memory");
     items
