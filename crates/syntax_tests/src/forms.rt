@@ -1,4 +1,4 @@
-// Which expressions a text can spell.
+// Which expressions are regular and plain.
 use crate::exprs::{comma, text_of};
 use crate::made::list_of;
 use xt_forms::{is_plain, is_regular};

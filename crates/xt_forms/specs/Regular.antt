@@ -1,4 +1,4 @@
--- Expressions and parts that a text can spell (XPath 2.0, 3; XQuery 1.0, 3).
+-- Expressions and parts of the form that the grammar gives (XPath 2.0, 3; XQuery 1.0, 3).
 use Rattle.std.specs.Prelude.{ℕ, List, [], ◌∷◌, length, Bool, true, false, not, ◌&&◌, ◌||◌, ◌==◌, nat_le, pos, int_le, Option, Some, None, codes}
 use Rattle.std.specs.List.{list_all}
 use Rattle.std.specs.Str.{bytes_eq}

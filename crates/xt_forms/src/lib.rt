@@ -1,8 +1,8 @@
-//! What forms expressions have: how deep they nest, and which of them a text can spell.
+//! What forms expressions have: how deep they nest, and which of them are regular, plain and quiet.
 //!
-//! `is_regular` tells the expressions that a text can spell, `is_plain` those of them that a text of XPath spells, and
-//! `is_quiet` the predicates that fail on no node. Each is exact: its contract names a definition in `specs/` that goes
-//! over the forms one by one.
+//! `is_regular` tells the expressions of the form that texts are meant to give, `is_plain` those of them that use XPath
+//! alone, and `is_quiet` the predicates that fail on no node. Each is exact: its contract names a definition in `specs/`
+//! that goes over the forms one by one. There is no grammar of texts yet, so nothing here relates the forms to texts.
 //!
 //! Example: `1, $x` nests 2 levels, is regular and plain, and is not quiet.
 #![tactic(auto)]

@@ -1,4 +1,4 @@
-// Expressions that a text can spell.
+// Expressions of regular form.
 ghost use Rattle.std.specs.Prelude.{◌≡◌, map, option_map};
 ghost use Rattle.xt_forms.specs.Regular.{is_regular_expr, expr_facts_of, name_facts_of, part_facts_of, is_regular_arm, is_regular_bind, is_regular_clause, is_regular_order, is_regular_attr, is_regular_flwor, every, every_regular, are_regular_parts, test_regular};
 
@@ -12,8 +12,8 @@ use xt_names::Shared;
 use xt_syntax::{Arm, Bind, Clause, DirectAttr, Expr, Flwor, NameSource, Order, Part};
 use xt_types::{is_regular_test, is_regular_type};
 
-/// Whether a text can spell the expression (XPath 2.0, 3; XQuery 1.0, 3). It is so where all parts are regular and each of
-/// the following holds.
+/// Whether the expression has the form that the grammar gives (XPath 2.0, 3; XQuery 1.0, 3): all parts are regular, and each
+/// of the following holds.
 ///
 /// - An integer is not negative; a comma list does not have exactly one item; `or` and `and` have at least two operands.
 /// - An `if` has at least one arm, and its last part is no `if`. A FLWOR has at least one clause, and is stable only with

@@ -1,4 +1,4 @@
--- Tests and types that a text can spell (XPath 2.0, 2.5.3 and 3.2.1.2).
+-- Tests and types of the form that XPath 2.0, 2.5.3 and 3.2.1.2 give them.
 use Rattle.std.specs.Prelude.{Bool, true, false, not, ◌&&◌}
 use Rattle.xt_names.specs.Allowed.{is_empty_text}
 use Rattle.xt_types.specs.declared.node_tests.NameTest.{NameTest}

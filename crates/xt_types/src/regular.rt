@@ -1,4 +1,4 @@
-// Tests and types that a text can spell.
+// Tests and types of a regular form.
 ghost use Rattle.std.specs.Prelude.{◌≡◌};
 ghost use Rattle.xt_types.specs.Regular.{is_regular_name_test, is_kind_name, is_regular_test, is_named, is_regular_item, is_regular_type};
 
