@@ -1,4 +1,4 @@
-// Expressions that a text of XPath spells.
+// Expressions of XPath alone.
 ghost use Rattle.std.specs.Prelude.{◌≡◌, map};
 ghost use Rattle.xt_forms.specs.Plain.{is_plain_expr, has_plain_forms, is_plain_arm, is_plain_bind, is_plain_clause, is_plain_flwor};
 ghost use Rattle.xt_forms.specs.Regular.{every};
@@ -7,7 +7,7 @@ use crate::functions::is_function;
 use crate::regularity::is_regular;
 use xt_syntax::{Arm, Bind, Clause, Expr, Flwor};
 
-/// Whether a text of XPath spells the expression (XPath 2.0, 3), each function that it calls being one of the table: it is
+/// Whether the expression uses XPath alone (XPath 2.0, 3) and calls only functions of the table: it is
 /// regular, and in it stand no constructor, no `let`, no type on a variable, no position, no `where` and no order.
 pub fn is_plain(e: &Expr) -> bool
     ensures { result ≡ is_plain_expr e.now }

@@ -8,7 +8,7 @@ use crate::quiet_forms::{QuietForm, compared, condition_if, slashed};
 use crate::regularity::is_regular;
 use xt_syntax::Expr;
 
-/// Whether a text spells the expression that is one of these predicates, which fail on no node:
+/// Whether the expression is of regular form and is one of these predicates, which fail on no node:
 ///
 /// - an integer, or last(), alone;
 /// - `or` and `and` of the ones that follow, and not() of one;
