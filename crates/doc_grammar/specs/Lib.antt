@@ -1,4 +1,5 @@
 pub mod Characters
+pub mod Signs
 pub mod RawNames
 pub mod Scopes
 pub mod Lines

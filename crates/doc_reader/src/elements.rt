@@ -8,6 +8,7 @@ ghost use Rattle.doc_reader.specs.Reading.{reads, stop_of, Fails, Ran};
 ghost use Rattle.doc_reader.specs.Sources.{NextIs, NotNext};
 ghost use Rattle.doc_reader.specs.View.{name_of, tag_of};
 ghost use Rattle.doc_reader.specs.Frames.{open_in, here, base_of, stack_of, outside, stop_before, Pushes};
+ghost use Rattle.doc_grammar.specs.Signs as sign;
 
 use crate::classes::starts_name;
 use crate::names::RawName;
@@ -23,9 +24,9 @@ use xt_tree::Tree;
 impl<'a> Reader<'a> {
     /// Reads a start tag behind its `<`.
     pub(crate) fn start_tag(&mut self, alloc: Global) -> Result<Step, AllocError>
-        requires no_slash { NotNext 47 self.old.source }
-        requires no_bang { NotNext 33 self.old.source }
-        requires no_question { NotNext 63 self.old.source }
+        requires no_slash { NotNext sign.slash self.old.source }
+        requires no_bang { NotNext sign.exclamation self.old.source }
+        requires no_question { NotNext sign.question self.old.source }
         ensures ran { IfOk result (λ s. Ran (reads self.old.source (tag self.old.text (open_in self.old))) self.new.source (here self.new) s) }
         ensures shorter { length self.new.source ≤ length self.old.source }
     {

@@ -140,6 +140,7 @@ fn unmarked(text: &str) -> &str
     ensures size { length text.now ≡ mark_bytes (chars text.now) + length result.now }
 {
     let mut chars = text.chars();
+    // The proof speaks of what the iterator has left.
     let _text = chars.as_str();
     match chars.next() {
         Some('\u{FEFF}') => chars.as_str(),

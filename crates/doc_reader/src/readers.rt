@@ -9,6 +9,7 @@ ghost use Rattle.doc_grammar.specs.Machine.{tag, bang, targeting, marked, conten
 ghost use Rattle.doc_reader.specs.Reading.{reads, stop_of, Ran, OnStep};
 ghost use Rattle.doc_reader.specs.Sources.{NextIs, NotNext};
 ghost use Rattle.doc_reader.specs.Frames.{level_of, open_in, here};
+ghost use Rattle.doc_grammar.specs.Signs as sign;
 
 use crate::buffers::Buffer;
 use crate::classes::{Bracket, PlainText};
@@ -105,7 +106,7 @@ impl<'a> Reader<'a> {
     fn around(&mut self) -> Step
         requires some { 0 < length self.old.source }
         requires ground { self.old.frames.items ≡ [] }
-        requires no_markup { NotNext 60 self.old.source }
+        requires no_markup { NotNext sign.less_than self.old.source }
         ensures ran { Ran (reads self.old.source (here self.old)) self.new.source (here self.new) result }
         ensures falls { OnStep result (length self.new.source < length self.old.source) }
     {
@@ -136,7 +137,7 @@ impl<'a> Reader<'a> {
     fn characters(&mut self) -> Result<Step, AllocError>
         requires some { 0 < length self.old.source }
         requires element { 0 < length self.old.frames.items }
-        requires no_markup { NotNext 60 self.old.source }
+        requires no_markup { NotNext sign.less_than self.old.source }
         ensures ran { IfOk result (λ s. Ran (reads self.old.source (here self.old)) self.new.source (here self.new) s) }
         ensures falls { IfOk result (λ s. OnStep s (length self.new.source < length self.old.source)) }
     {
@@ -162,10 +163,10 @@ impl<'a> Reader<'a> {
     fn plain_text(&mut self) -> Result<Step, AllocError>
         requires some { 0 < length self.old.source }
         requires element { 0 < length self.old.frames.items }
-        requires no_markup { NotNext 60 self.old.source }
-        requires no_reference { NotNext 38 self.old.source }
-        requires no_close { NotNext 62 self.old.source }
-        requires no_bracket { NotNext 93 self.old.source }
+        requires no_markup { NotNext sign.less_than self.old.source }
+        requires no_reference { NotNext sign.ampersand self.old.source }
+        requires no_close { NotNext sign.greater_than self.old.source }
+        requires no_bracket { NotNext sign.right_bracket self.old.source }
         ensures ran { IfOk result (λ s. Ran (reads self.old.source (here self.old)) self.new.source (here self.new) s) }
         ensures falls { IfOk result (λ s. OnStep s (length self.new.source < length self.old.source)) }
     {
@@ -242,7 +243,7 @@ impl<'a> Reader<'a> {
 
     fn section(&mut self) -> Result<Step, AllocError>
         requires element { 0 < length self.old.frames.items }
-        requires no_comment { NotNext 45 self.old.source }
+        requires no_comment { NotNext sign.hyphen self.old.source }
         ensures ran { IfOk result (λ s. Ran (reads self.old.source (bang self.old.text (open_in self.old))) self.new.source (here self.new) s) }
         ensures shorter { length self.new.source ≤ length self.old.source }
     {
@@ -258,7 +259,7 @@ impl<'a> Reader<'a> {
 
     fn doctype(&mut self) -> Step
         requires ground { self.old.frames.items ≡ [] }
-        requires no_comment { NotNext 45 self.old.source }
+        requires no_comment { NotNext sign.hyphen self.old.source }
         ensures ran { Ran (reads self.old.source (bang self.old.text (open_in self.old))) self.new.source (here self.new) result }
         ensures shorter { length self.new.source ≤ length self.old.source }
     {

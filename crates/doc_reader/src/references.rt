@@ -7,6 +7,7 @@ ghost use Rattle.doc_grammar.specs.Machine.{other};
 ghost use Rattle.doc_reader.specs.Reading.{stop_of};
 ghost use Rattle.doc_reader.specs.References.{ref_reads, finds, stops, stop_by, is_in_entity, base_view, before_digits, next_digit, BeginsDigits};
 ghost use Rattle.doc_reader.specs.Sources.{NotNext, NextIs};
+ghost use Rattle.doc_grammar.specs.Signs as sign;
 
 use crate::classes::{is_char, is_name_char, starts_name};
 use crate::sources::Source;
@@ -64,7 +65,7 @@ impl<'a> Source<'a> {
 
     /// Takes the name of a predefined entity, and the `;` behind it.
     fn entity(&mut self) -> Result<char, Stop>
-        requires { NotNext 35 self.old }
+        requires { NotNext sign.number_sign self.old }
         ensures reads { MatchResult result (λ c. ref_reads self.old ampersand ≡ finds c self.new) (λ why. ref_reads self.old ampersand ≡ stops (stop_of why) self.new) }
         ensures shorter { length self.new ≤ length self.old }
     {
@@ -201,7 +202,7 @@ impl<'a> Source<'a> {
     /// Takes a digit more behind this number, if it makes none past the last character.
     fn next_digit(&mut self, base: Base, n: u32) -> Option<u32>
         requires number { n ≤ 0x10_FFFF }
-        requires no_end { NotNext 59 self.old }
+        requires no_end { NotNext sign.semicolon self.old }
         ensures reads { MatchOption result (ref_reads self.old (number (base_view base) n) ≡ stops other self.new) (λ m. ref_reads self.old (number (base_view base) n) ≡ ref_reads self.new (number (base_view base) m)) }
         ensures small { IfSome result (λ m. m ≤ 0x10_FFFF) }
         ensures shorter { length self.new ≤ length self.old }
@@ -217,7 +218,7 @@ impl<'a> Source<'a> {
         requires number { n ≤ 0x10_FFFF }
         requires digit { d ≤ 15 }
         requires next { Some d ≡ next_digit (base_view base) self.old }
-        requires no_end { NotNext 59 self.old }
+        requires no_end { NotNext sign.semicolon self.old }
         ensures reads { MatchOption result (ref_reads self.old (number (base_view base) n) ≡ stops other self.new) (λ m. ref_reads self.old (number (base_view base) n) ≡ ref_reads self.new (number (base_view base) m)) }
         ensures small { IfSome result (λ m. m ≤ 0x10_FFFF) }
         ensures shorter { length self.new ≤ length self.old }

@@ -11,6 +11,7 @@ ghost use Rattle.doc_reader.specs.Reading.{reads, Fails, Ran, OnStep};
 ghost use Rattle.doc_reader.specs.Sources.{NotNext};
 ghost use Rattle.doc_reader.specs.Spelling.{spells, stops};
 ghost use Rattle.doc_reader.specs.View.{tag_of};
+ghost use Rattle.doc_grammar.specs.Signs as sign;
 
 use crate::buffers::Buffer;
 use crate::names::RawName;
@@ -36,7 +37,7 @@ pub(crate) struct RawTag<'a> {
 impl<'a> Source<'a> {
     /// Whether the end of a start tag comes next.
     fn is_at_end(&self) -> bool
-        ensures { MatchBool result (AtEnd self.now) (NotNext 62 self.now × NotNext 47 self.now) }
+        ensures { MatchBool result (AtEnd self.now) (NotNext sign.greater_than self.now × NotNext sign.slash self.now) }
     {
         matches!(self.peek(), Some('>' | '/'))
     }
@@ -76,8 +77,8 @@ impl<'a> Source<'a> {
         tag: &mut RawTag<'a>,
     ) -> Result<Step, AllocError>
         requires no_space { Ends is_space self.old }
-        requires no_close { NotNext 62 self.old }
-        requires no_slash { NotNext 47 self.old }
+        requires no_close { NotNext sign.greater_than self.old }
+        requires no_slash { NotNext sign.slash self.old }
         ensures ran { IfOk result (λ s. (st : Stack) → Ran (reads self.old (spaced (tag_of tag.old) st)) self.new (tagged (tag_of tag.new) st) s) }
         ensures falls { IfOk result (λ s. OnStep s (length self.new < length self.old)) }
         ensures name { tag.new.name ≡ tag.old.name }
@@ -121,7 +122,7 @@ impl<'a> Source<'a> {
 
     #[tactic(auto, unfolding(doc_grammar::specs::Characters::is_quote))]
     pub(crate) fn quote(&mut self) -> Option<char>
-        ensures quotes { MatchOption result ((self.new ≡ self.old) × NotNext 34 self.old × NotNext 39 self.old) (λ q. (self.old ≡ q ∷ self.new) × (is_quote q ≡ true)) }
+        ensures quotes { MatchOption result ((self.new ≡ self.old) × NotNext sign.double_quote self.old × NotNext sign.single_quote self.old) (λ q. (self.old ≡ q ∷ self.new) × (is_quote q ≡ true)) }
         ensures falls { OnSome result (length self.new < length self.old) }
         ensures shorter { length self.new ≤ length self.old }
     {

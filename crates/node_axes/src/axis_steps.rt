@@ -13,8 +13,8 @@ use crate::moves::{attribute_count, go_back, go_down, go_left, go_on, go_right, 
 use xt_tree::{Node, Tree};
 use xt_types::Axis;
 
-/// Whether an axis walk, which stands so, comes to a further node; it stands there then, and past the end otherwise. It
-/// takes no memory.
+/// Moves a walk of the axis on from where it stands. True where there is a further node, at which the walk stands then; false
+/// where there is none, and the walk stands past the end. It takes no memory.
 pub(crate) fn move_on(
     axis: Axis,
     start: &Node,

@@ -49,6 +49,7 @@ impl Cursor {
         ensures made { IfOk result (λ cursor. cursor ≡ record { start = node.now; axis = axis; test = test; begun = false; present = None }) }
         ensures all { IfOk result (λ cursor. to_come cursor ≡ axis_nodes axis node.now) }
     {
+        // A call on the node shows the proof that its place is one of the tree.
         let _kind = node.kind();
         Ok(Cursor {
             start: node.copy()?,

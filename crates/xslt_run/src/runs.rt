@@ -171,7 +171,8 @@ fn construct_element(
     close_element(alloc, name, content, out)
 }
 
-/// Puts an element of this content at the end. Apart from `construct_element`, whose frames are many.
+/// Puts an element of this content at the end. A function of its own, so that `construct_element`, which calls itself once for
+/// each level of nesting, keeps a small frame on the machine's stack.
 #[inline(never)]
 fn close_element(
     alloc: Global,
