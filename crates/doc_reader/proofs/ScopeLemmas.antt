@@ -6,7 +6,8 @@ use Rattle.std.specs.Str.{bytes_eq, chars}
 use Rattle.xt_names.specs.declared.names.Binding.{Binding}
 use Rattle.xt_tree.specs.declared.attributes.Attribute.{Attribute}
 use Rattle.xt_tree.specs.Sound.{names_differ, same_name}
-use Rattle.name_scopes.proofs.LookupLemmas.{drop_at, drop_past}
+use Rattle.xt_names.proofs.ListLemmas.{drop_at}
+use Rattle.name_scopes.proofs.LookupLemmas.{drop_past}
 use Rattle.doc_grammar.specs.RawNames.{RawAttribute}
 use Rattle.doc_grammar.specs.Scopes.{with_declaration, declarations, declared_by, one_named, behind_named, both_named, named_attributes, prefix_name, prefixes_differ}
 

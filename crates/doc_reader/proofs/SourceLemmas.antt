@@ -78,8 +78,5 @@ run_ends p rest at r c e s is other_class =
 pub run_ends_all : (p : ℕ → Bool) (rest at : List ℕ) (r : Option ℕ) → rest ≡ at → r ≡ slice_get (chars at) 0 → ((c : ℕ) → r ≡ Some c → ⊥) → Ends p (chars rest)
 run_ends_all p rest at r e s none = rw e (ends_next p (chars at) r s (λ d is. absurd (none d is)))
 
-pub front_of_range : (s front : List ℕ) (n : ℕ) → front ≡ slice_range s 0 n → front ≡ take n s
-front_of_range s front n e = grind (arith, e)
-
 pub shorter_run : (old run new : List ℕ) → old ≡ run ++ new → length new ≤ length old
 shorter_run old run new e = let size = ap length e ∙ length-append run new in omega arith

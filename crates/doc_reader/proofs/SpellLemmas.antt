@@ -2,10 +2,9 @@
 use Rattle.std.proofs.Common.{◌≡◌, ℕ, List, [], ◌∷◌, ◌++◌, length, Bool, true, false, ◌||◌, ◌==◌, nat_lt, MatchBool, Option, Some, None, MatchOption, slice_get, ◌-◌, ◌⊎◌, inl, inr, refl, sym, ap, ◌∙◌, eq-eqb, arith}
 use Rattle.std.proofs.lemmas.Bool.{ne_eqb, eqb-true, and_parts}
 use Rattle.std.proofs.lemmas.Str.{chars-IsAscii, chars-nil, encodes-chars}
-use Rattle.std.proofs.lemmas.Str.Ascii.{IsAscii-nil, IsAscii-cons}
-use Rattle.std.proofs.lemmas.Bool.Decides.{Decides-ltb}
 use Rattle.std.specs.List.{list_all}
 use Rattle.std.specs.Str.{chars, IsAscii, IsUtf8, encode_utf8_all}
+use Rattle.xt_names.proofs.TextLemmas.{ascii_list}
 use Rattle.doc_grammar.specs.Characters.{is_space, is_quote, starts_name, is_name_char}
 use Rattle.doc_grammar.specs.Lexemes.{Ends, Spaces}
 use Rattle.doc_grammar.specs.Lexemes as lexemes
@@ -170,12 +169,6 @@ literal_part p (c ∷ cs) next more f new n = rw (same_one c) (literal_part p cs
 
 abbrev pub IsPlain : List ℕ → Type 0
 IsPlain text = list_all (λ b. nat_lt b 128) text ≡ true
-
-ascii_list : (text : List ℕ) → IsPlain text → IsAscii text
-ascii_list [] a = IsAscii-nil
-ascii_list (b ∷ bs) a =
-    let parts = and_parts (nat_lt b 128) (list_all (λ x. nat_lt x 128) bs) a in
-    IsAscii-cons b bs ((Decides-ltb b 128).0 parts.0) (ascii_list bs parts.1)
 
 pub ascii : (text : List ℕ) → IsPlain text → chars text ≡ text
 ascii text a = chars-IsAscii text (ascii_list text a)

@@ -23,9 +23,6 @@ plain_more written whole rest rest' c t u e itself = record {
   plain = rw (flat_map-append written t.run (c ∷ []), t.plain, itself) refl;
 }
 
-pub front_of_range : (s front : List ℕ) (n : ℕ) → front ≡ slice_range s 0 n → front ≡ take n s
-front_of_range s front n e = grind (arith, e)
-
 short_front : (written : ℕ → List ℕ) (whole rest : List ℕ) → (t : BeginsPlain written whole rest) → length whole ≡ length t.front + length rest
 short_front written whole rest t = ap length t.is_whole ∙ length-append t.front rest
 

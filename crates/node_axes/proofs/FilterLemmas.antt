@@ -1,6 +1,7 @@
 -- The first and the last element that passes, in a list where each element stands before the later ones.
 use Rattle.std.proofs.Common.{◌≡◌, ℕ, zero, suc, ◌<◌, List, [], ◌∷◌, ◌++◌, length, get_or, Bool, true, false, ◌&&◌, not, cond, ◌⊎◌, inl, inr, refl, sym, ap, subst, ◌∙◌, arith}
 use Rattle.std.specs.List.{filter, AllPairs, Contains}
+use Rattle.xt_names.proofs.ListLemmas.{further}
 use Rattle.std.proofs.lemmas.Bool.{both_ways, and_left, and_right, and_parts, cases_Bool}
 
 abbrev pub In : {X : Type 0} → X → List X → Type 0
@@ -20,9 +21,6 @@ pub In-from_Contains : {X : Type 0} (t : X) (xs : List X) → Contains xs t → 
 In-from_Contains t [] (k, h, e) = absurd (omega arith)
 In-from_Contains t (x ∷ xs) (zero, h, e) = inl e
 In-from_Contains t (x ∷ xs) (suc k, h, e) = inr (In-from_Contains t xs (k, omega arith, e))
-
-further : {X : Type 0} (x y : X) (xs : List X) → Contains xs y → Contains (x ∷ xs) y
-further x y xs (k, h, e) = (suc k, omega arith, e)
 
 pub Contains-from_In : {X : Type 0} (t : X) (xs : List X) → In t xs → Contains xs t
 Contains-from_In t [] i = absurd i

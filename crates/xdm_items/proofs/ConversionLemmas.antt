@@ -2,8 +2,8 @@
 use Rattle.std.proofs.Common.{◌≡◌, ℕ, suc, ◌<◌, ◌≤◌, ◌+◌, add-one, length, drop, get_or, List, [], ◌∷◌, ◌++◌, map, true, Result, Ok, Err, refl, sym, ap, ◌∙◌, append_assoc, append-nil}
 use Rattle.std.proofs.lemmas.Bool.{and_parts}
 use Rattle.std.proofs.Math.ListN.{drop_of_length-le}
-use Rattle.std.proofs.Math.Seq.{drop-cons}
 use Rattle.std.specs.List.{list_all}
+use Rattle.xt_names.proofs.ListLemmas.{drop_at}
 use Rattle.xt_names.specs.declared.codes.Code.{Code}
 use Rattle.xt_names.specs.declared.kinds.AtomType.{AtomType}
 use Rattle.xt_names.specs.declared.kinds.AtomType.TheVariants as kind
@@ -64,8 +64,6 @@ none_converted : (to : AtomType) → converted_items to [] ≡ Ok []
 unfolding converted_items
 none_converted to = refl
 
-drop_at : {A : Type 0} (xs : List A) (i : ℕ) (x : A) → i < length xs → x ≡ get_or xs i x → drop i xs ≡ x ∷ drop (i + 1) xs
-drop_at xs i x h e = drop-cons xs i x h ∙ ap (λ y. y ∷ drop (suc i) xs) (sym e) ∙ ap (λ j. x ∷ drop j xs) (sym (add-one i))
 
 -- what is left begins with the item at the place
 left_at : (to : AtomType) (items : List Item) (i : ℕ) (item : Item) → i < length items → item ≡ get_or items i item

@@ -1,5 +1,6 @@
 use Rattle.std.proofs.Common.{arith}
-use Rattle.doc_writer.proofs.RunLemmas.{rest_within, seam_of, front_of_range, front_is_run, written_front}
+use Rattle.doc_writer.proofs.RunLemmas.{rest_within, seam_of, front_is_run, written_front}
+use Rattle.xt_names.proofs.ListLemmas.{front_of_range}
 use Rattle.doc_writer.proofs.escapes.push_piece.Goals as goal
 
 pub range-requires-clause-end_boundary : goal.range-requires-clause-end_boundary

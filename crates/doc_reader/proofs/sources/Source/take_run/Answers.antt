@@ -1,7 +1,8 @@
 use Rattle.std.proofs.Common.{◌++◌, sym, ◌∙◌, ap, arith, refl}
 use Rattle.std.specs.Char.{encode_utf8}
 use Rattle.std.specs.Str.{chars}
-use Rattle.doc_reader.proofs.SourceLemmas.{Taken-none, Taken-more, taken_run, taken_seam, taken_short, run_ends, run_ends_all, front_of_range, shorter_run}
+use Rattle.doc_reader.proofs.SourceLemmas.{Taken-none, Taken-more, taken_run, taken_seam, taken_short, run_ends, run_ends_all, shorter_run}
+use Rattle.xt_names.proofs.ListLemmas.{front_of_range}
 use Rattle.doc_reader.proofs.sources.Source.take_run.Goals.{in-Some+then-not-has, in_default}
 use Rattle.doc_reader.proofs.sources.Source.take_run.Goals as goal
 
