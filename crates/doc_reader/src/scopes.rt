@@ -57,7 +57,7 @@ pub(crate) fn open_tag(
     let Some(attributes) = named_attributes(alloc, pool, scope, &tag.attributes)? else {
         return Ok(None);
     };
-    if !names_differ(alloc, attributes.as_slice()) {
+    if !names_differ(alloc, attributes.as_slice())? {
         return Ok(None);
     }
     let attributes = pool.attributes(alloc, attributes)?;
@@ -126,7 +126,7 @@ fn prefixes_differ(alloc: Global, pool: &Pool, bindings: &[Binding]) -> Result<b
     ensures { IfOk result (λ differ. differ ≡ prefixes_differ bindings.now) }
 {
     let names = prefix_names(alloc, pool, bindings)?;
-    Ok(names_differ(alloc, names.as_slice()))
+    names_differ(alloc, names.as_slice())
 }
 
 #[tactic(auto, using(crate::proofs::ScopeLemmas::chars_empty))]

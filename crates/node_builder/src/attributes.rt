@@ -22,7 +22,8 @@ pub(crate) fn distinct(
 ) -> Result<List<Attribute>, BuildFault>
     ensures { Makes result (distinct side attributes) }
 {
-    if names_differ(alloc, attributes.as_slice()) {
+    let differ = names_differ(alloc, attributes.as_slice())?;
+    if differ {
         return Ok(attributes);
     }
     match side {

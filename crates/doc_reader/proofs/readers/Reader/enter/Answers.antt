@@ -8,7 +8,7 @@ pub returns-in_ok-push-clause-scope : goal.returns-in_ok-push-clause-scope
 returns-in_ok-push-clause-scope c =
     let r = c.args.self.now in
     let size : vec_len r.frames ≡ length r.frames.items = omega arith in
-    first_scope r.frames.items r.scope _ _ (base_of r) _ _ refl (rw size at c.if-is_empty.ensures) c.truncate.ensures c.in_ok-push.ensures c.in_ok-make.ensures.ok c.in_ok-uri.ensures.ok
+    first_scope r.frames.items r.scope _ _ (base_of r) _ _ refl (rw size at c.if-is_empty.ensures) c.truncate.ensures c.in_ok-push.ensures.ok c.in_ok-make.ensures.ok c.in_ok-uri.ensures.ok
 
 pub returns-else-is_empty-clause-scope : goal.returns-else-is_empty-clause-scope
 returns-else-is_empty-clause-scope c =
