@@ -21,7 +21,7 @@ use Rattle.doc_grammar.proofs.TagSteps.{end_is_no_space, end_starts_none, openin
 -- values
 
 -- a quote begins no reference
-quote_ampersand : (quote : ℕ) → is_quote quote ≡ true → (38 == quote) ≡ false
+pub quote_ampersand : (quote : ℕ) → is_quote quote ≡ true → (38 == quote) ≡ false
 quote_ampersand quote q = go (38 == quote) refl where
   go : (b : Bool) → (38 == quote) ≡ b → (38 == quote) ≡ false
   go true e = let P : ℕ → Type 0 = λ x. is_quote x ≡ true in no (subst P (sym (eqb-true 38 quote e)) q) ampersand_quote

@@ -25,7 +25,7 @@ use Rattle.doc_grammar.proofs.TargetSteps.{no_element as no_element_question}
 abbrev pub Finds : End → Tree → Type 0
 Finds e tree = (ds : List (List Binding)) × (e ≡ whole tree ds)
 
-no_ncname : {name rest : List ℕ} → NCName [] name rest → ⊥
+pub no_ncname : {name rest : List ℕ} → NCName [] name rest → ⊥
 no_ncname n = elim n [ ]
 
 no_qname : {name : RawName} {rest : List ℕ} → QName [] name rest → ⊥
@@ -116,7 +116,7 @@ no_dashes : {read text rest : List ℕ} → CommentText read (45 ∷ 45 ∷ []) 
 no_dashes (lexemes.more p d k) = cc
 no_dashes (lexemes.dash p d k) = cc
 
-no_lex : {l : Lex} {m : Made} {rest : List ℕ} → LexRest l [] m rest → ⊥
+pub no_lex : {l : Lex} {m : Made} {rest : List ℕ} → LexRest l [] m rest → ⊥
 no_lex (lex.in_comment t) = elim t [ ]
 no_lex (lex.in_comment_dash t) = no_dash t
 no_lex (lex.in_comment_dashes t) = no_dashes t
@@ -131,7 +131,7 @@ no_lex (lex.in_instruction_mark t) = no_second t
 no_hash_x : {v : ℕ} {rest : List ℕ} → Reference (35 ∷ 120 ∷ []) v rest → ⊥
 no_hash_x (lexemes.by_decimal e k i) = elim k [ ]
 
-no_reference : (r : Ref) (v : ℕ) (rest : List ℕ) → RefRest r [] v rest → ⊥
+pub no_reference : (r : Ref) (v : ℕ) (rest : List ℕ) → RefRest r [] v rest → ⊥
 no_reference ampersand v rest k = elim k [ ]
 no_reference letter_a v rest k = elim k [ ]
 no_reference (spelling left u) v rest k = elim k [ ]
@@ -146,7 +146,7 @@ no_spaced : {t whole : RawTag} {rest : List ℕ} → Spaced t [] whole rest → 
 no_spaced (doc.no_more e) = elim e [ ]
 no_spaced (doc.attribute d e q v a) = no_qname d
 
-no_rest : {n : NameState} {name : RawName} {rest : List ℕ} → NameRest n [] name rest → rest ≡ []
+pub no_rest : {n : NameState} {name : RawName} {rest : List ℕ} → NameRest n [] name rest → rest ≡ []
 no_rest (plain d e) = no_more d
 no_rest (prefixed d l) = absurd (not_empty (no_more d))
 no_rest (local d) = no_more d

@@ -30,3 +30,9 @@ pub mod SoundNames
 pub mod SoundTrees
 pub mod SoundDocuments
 pub mod PlaceLemmas
+pub mod LexReads
+pub mod TagReads
+pub mod MarkupReads
+pub mod DeclaredReads
+pub mod Counts
+pub mod ValueSizes

@@ -106,7 +106,7 @@ pub no_element_bang : {rules : Rules} {k : ℕ} {scope : List Binding} {ts rest 
 no_element_bang (doc.empty h d a o) = no (qname_begins d).0 bang_starts
 no_element_bang (doc.full h d a o c e) = no (qname_begins d).0 bang_starts
 
-no_doctype_dash : {ts rest : List ℕ} → Spelled doctype_declaration (45 ∷ ts) rest → ⊥
+pub no_doctype_dash : {ts rest : List ℕ} → Spelled doctype_declaration (45 ∷ ts) rest → ⊥
 unfolding doctype_declaration
 no_doctype_dash (forms.first_one h k) = cc
 

@@ -35,7 +35,7 @@ aside_placed text (ground l kids ds) m k = top (doc.aside m (topped k))
 aside_placed text (element name o kids st) m k = aside m k
 
 -- a child more, and those behind it
-more_kids : (front text_kids kids : List Tree) (n : Tree) → front ++ (text_kids ++ n ∷ kids) ≡ ((front ++ text_kids) ++ n ∷ []) ++ kids
+pub more_kids : (front text_kids kids : List Tree) (n : Tree) → front ++ (text_kids ++ n ∷ kids) ≡ ((front ++ text_kids) ++ n ∷ []) ++ kids
 more_kids front text_kids kids n = rw (append_assoc (front ++ text_kids) (n ∷ []) kids, append_assoc front text_kids (n ∷ kids))
 
 -- content of an element, and what follows it

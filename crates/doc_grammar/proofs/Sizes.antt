@@ -67,7 +67,7 @@ form_size (forms.no_other h k) = form_size k
 form_size (forms.left h k) = form_size k
 form_size (forms.right h k) = form_size k
 
-equals_size : {ts rest : List ℕ} → Equals ts rest → length rest < length ts
+pub equals_size : {ts rest : List ℕ} → Equals ts rest → length rest < length ts
 equals_size (doc.equals x y) = let a = spaces_size x in let b = spaces_size y in omega arith
 
 valued_size : {quote : ℕ} {read ts value rest : List ℕ} → Valued quote read ts value rest → length rest < length ts

@@ -114,7 +114,7 @@ mark_size (c ∷ cs) = go (c == mark) where
   go true = omega arith
   go false = omega arith
 
-text_size : (bytes : List ℕ) → length (text_of (chars bytes)) ≤ length bytes
+pub text_size : (bytes : List ℕ) → length (text_of (chars bytes)) ≤ length bytes
 text_size bytes =
     let a = lines_size false (without_mark (chars bytes)) in
     let b = mark_size (chars bytes) in

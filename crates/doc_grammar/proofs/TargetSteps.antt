@@ -30,7 +30,7 @@ use Rattle.doc_grammar.proofs.ContentSteps.{form_steps}
 
 -- behind `<?`
 
-xml_space : {c : ℕ} {ts rest : List ℕ} → Spelled xml_declaration (c ∷ ts) rest → is_space c ≡ true
+pub xml_space : {c : ℕ} {ts rest : List ℕ} → Spelled xml_declaration (c ∷ ts) rest → is_space c ≡ true
 unfolding xml_declaration
 xml_space (forms.first_one h k) = h
 
@@ -38,7 +38,7 @@ ends_xml : {ts rest : List ℕ} → Spelled xml_declaration ts rest → Ends is_
 ends_xml {ts = []} k = tt
 ends_xml {ts = c ∷ ts} k = space_name c (xml_space k)
 
-xml_named : {ts rest : List ℕ} → Spelled xml_declaration ts rest → Named (120 ∷ []) (109 ∷ 108 ∷ ts) (codes "xml") ts
+pub xml_named : {ts rest : List ℕ} → Spelled xml_declaration ts rest → Named (120 ∷ []) (109 ∷ 108 ∷ ts) (codes "xml") ts
 xml_named k = lexemes.more m_name (lexemes.more l_name (lexemes.whole (ends_xml k)))
 
 pub no_element : {rules : Rules} {k : ℕ} {scope : List Binding} {ts rest : List ℕ} {n : Tree} → Element rules k scope (60 ∷ 63 ∷ ts) n rest → ⊥
@@ -149,7 +149,7 @@ from_instruction : {rules : Rules} {w : Tree} {read text ts : List ℕ} {st : St
 from_instruction b = instruction b.targeted b.behind
 
 -- `xml` is the target of no instruction
-xml_target : is_target (codes "xml") ≡ false
+pub xml_target : is_target (codes "xml") ≡ false
 unfolding is_target is_xml_in_any_case
 xml_target = refl
 

@@ -12,3 +12,5 @@ pub mod Places
 pub mod Machine
 pub mod Faults
 pub mod Skeleton
+pub mod Declarations
+pub mod Amounts

@@ -15,8 +15,10 @@ ghost use Rattle.doc_grammar.specs.Skeleton.{IsFirstFault};
 ghost use Rattle.doc_grammar.specs.Lines.{text_of, offset};
 ghost use Rattle.doc_grammar.specs.Places.{IsPlace};
 
+mod declarations;
 mod spots;
 
+pub use declarations::{declarations_are_one, declarations_are_read, values_are_small};
 pub use spots::Spot;
 
 /// At most one tree stands for a text (XML 1.0; Namespaces in XML 1.0).

@@ -8,6 +8,7 @@ ghost use Rattle.xt_tree.specs.Sound.{is_sound_tree};
 ghost use Rattle.doc_grammar.specs.Scopes.{opened};
 ghost use Rattle.doc_grammar.specs.Lines.{lines, text_of, without_mark, mark_bytes, bytes_before, offset};
 ghost use Rattle.doc_grammar.specs.Document.{IsDocument};
+ghost use Rattle.doc_grammar.specs.Declarations.{IsDeclared};
 ghost use Rattle.doc_grammar.specs.Machine.{run, start, whole};
 ghost use Rattle.doc_grammar.specs.Faults.{first_fault, spot_at};
 ghost use Rattle.doc_reader.specs.Reading.{stop_of};
@@ -62,7 +63,7 @@ pub fn read(alloc: Global, bytes: &[u8]) -> Result<Tree, ReadFault>
 pub fn read_scoped(alloc: Global, bytes: &[u8]) -> Result<Scoped, ReadFault>
     ensures found { IfOk result (λ scoped. IsDocument bytes.now scoped.tree) }
     ensures sound { IfOk result (λ scoped. is_sound_tree scoped.tree ≡ true) }
-    ensures declared { IfOk result (λ scoped. run opened (text_of (chars bytes.now)) start ≡ whole scoped.tree scoped.declared) }
+    ensures declared { IfOk result (λ scoped. IsDeclared bytes.now scoped.tree scoped.declared) }
     ensures refused { IfErr result (HasReadCause bytes.now) }
 {
     match str::from_utf8(bytes) {
