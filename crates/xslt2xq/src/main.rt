@@ -1,28 +1,24 @@
 //! Runs XSLT 2.0 stylesheets.
 //!
-//! `xslt2xq transform SHEET DOC` writes what the stylesheet in the file SHEET makes of the document in the file DOC, as
-//! XML in UTF-8, to standard output. It refuses all other words, files that cannot be read or have more than 64 MiB,
-//! stylesheets and documents that it cannot read, and stylesheets that run into an error. Then one line on standard error
-//! says why, and the status of the process is its number, as `status` has it.
+//! `xslt2xq transform SHEET DOC` writes what the stylesheet in the file SHEET makes of the document
+//! in the file DOC, as XML in UTF-8, to standard output. It refuses all other words, files that
+//! cannot be read or have more than 64 MiB, stylesheets and documents that it cannot read, and
+//! stylesheets that run into an error. Then one line on standard error says why, and the status of
+//! the process is the number of `driver::Status`. What a run does is `driver::run`; here it is
+//! given the words, the files and the streams of the system.
 //!
-//! Example: with `<xsl:stylesheet version="2.0" xmlns:xsl="http://www.w3.org/1999/XSL/Transform"/>` in s.xsl and
-//! `<a>x</a>` in d.xml, `xslt2xq transform s.xsl d.xml` writes `<?xml version="1.0" encoding="UTF-8"?>x`.
+//! Example: with `<xsl:stylesheet version="2.0" xmlns:xsl="http://www.w3.org/1999/XSL/Transform"/>`
+//! in s.xsl and `<a>x</a>` in d.xml, `xslt2xq transform s.xsl d.xml` writes `<?xml version="1.0"
+//! encoding="UTF-8"?>x`.
 #![tactic(auto)]
 
-mod load;
-mod program;
-mod request;
-mod status;
-mod transform;
-
-use program::run;
-use status::Status;
+use driver::{Status, run};
 use std::process::ExitCode;
 use std::{env, io};
 use xt_io::{DiskFiles, StdSink};
 
-/// Ends with the number of the run's status. Where the system does not hand the words over it writes nothing, and ends
-/// with the number of want of memory, or with 13 for any other cause.
+/// Ends with the number of the run's status. Where the system does not hand the words over it
+/// writes nothing, and ends with the number of want of memory, or with 13 for any other cause.
 fn main(rt: HostRuntime) -> ExitCode {
     let words = match read_words(&rt) {
         Ok(words) => words,
@@ -38,7 +34,7 @@ fn main(rt: HostRuntime) -> ExitCode {
     ExitCode::from(status.number())
 }
 
-// The words behind the program's name.
+// The words after the program's name.
 fn read_words(rt: &HostRuntime) -> io::Result<Vec<String>> {
     let mut words = Vec::new(rt.alloc());
     for word in env::args(rt)?.skip(1) {

@@ -14,6 +14,3 @@ mod runs;
 
 pub use faults::EvalFault;
 pub use runs::run_first_sheet;
-
-#[cfg(test)]
-mod tests;

@@ -1,4 +1,5 @@
-// The edge to the system: a few lines over std, which tell nothing of what files hold or where bytes go.
+// The edge to the system: a few lines over std. The files tell nothing of what they hold; a sink
+// tells what its writer tells, and the writers of the system tell nothing.
 ghost use Rattle.std.specs.Prelude.{◌≡◌, ◌≤◌, ◌+◌, None, IfOk, IfErr, vec_len};
 ghost use Rattle.xt_io.specs.Disk.{HasReadCause};
 
@@ -60,8 +61,9 @@ impl<R: FileSystem> Files for DiskFiles<'_, R> {
     }
 }
 
-// Reads to the end, if it comes within the limit, and says how many bytes were read. The bytes go into one buffer, which
-// has room for `size` of them from the start, so that a file of that size is never copied.
+// Reads to the end, if it comes within the limit, and says how many bytes were read. The bytes go
+// into one buffer, which has room for `size` of them from the start, so that a file of that size is
+// never copied.
 fn read_within<R: Read>(
     alloc: Global,
     reader: &mut R,
@@ -107,14 +109,16 @@ pub struct StdSink<W> {
 impl<W: Write> StdSink<W> {
     /// A sink over the writer; nothing has failed.
     pub fn new(writer: W) -> Self
-        ensures { result.faults ≡ 0 }
+        ensures writer { result.writer ≡ writer }
+        ensures faults { result.faults ≡ 0 }
     {
         StdSink { writer, faults: 0 }
     }
 }
 
 impl<W: Write> Sink for StdSink<W> {
-    ghost state = { λ s. record { written = None; faults = s.faults } };
+    // It tells what the writer tells.
+    ghost state = { λ s. record { written = W.contents s.writer; faults = s.faults } };
 
     // A writer that takes nothing of a piece has failed.
     fn write(&mut self, piece: &[u8]) -> Result<usize, SinkFault> {
@@ -189,6 +193,56 @@ mod tests {
         let (taken, outcome) = read_within(rt.alloc(), &mut reader, 0, 100);
         assert_eq!(rt; taken, 3);
         assert!(rt; matches!(outcome, Err(LoadFault::Failed)));
+    }
+
+    // Keeps at most three bytes of a piece, and fails at the write with this number, from 1.
+    #[derive(Drop)]
+    struct Keeper {
+        kept: Vec<u8>,
+        writes: u64,
+        failing: u64,
+    }
+
+    impl Write for Keeper {
+        fn write(&mut self, buf: &[u8]) -> io::Result<usize> {
+            self.writes = self.writes.saturating_add(1);
+            if self.writes == self.failing {
+                return Err(io::Error::from(io::ErrorKind::BrokenPipe));
+            }
+            let n = buf.len().min(3);
+            self.kept.extend_from_slice(&buf[..n])?;
+            Ok(n)
+        }
+
+        fn flush(&mut self) -> io::Result<()> {
+            Ok(())
+        }
+    }
+
+    // The write that fails, and what is kept then of `abcdefgh`.
+    const WRITES: [(u64, &[u8]); 4] = [
+        (0, b"abcdefgh"),
+        (1, b""),
+        (3, b"abcdef"),
+        (4, b"abcdefgh"),
+    ];
+
+    #[test]
+    fn a_sink_hands_all_to_its_writer(rt: HostRuntime) {
+        for (failing, kept) in WRITES {
+            let mut writer = Keeper {
+                kept: Vec::new(rt.alloc()),
+                writes: 0,
+                failing,
+            };
+            let mut sink = StdSink::new(&mut writer);
+            let is_whole = put_all(&mut sink, b"abcdefgh").is_ok();
+            assert_eq!(rt; is_whole, kept.len() == 8);
+            assert_eq!(rt; sink.faults, u64::from(kept.len() < 8));
+            drop(sink);
+            assert_eq!(rt; writer.kept.as_slice(), kept, "failing at {failing}");
+            drop(writer);
+        }
     }
 
     #[test]

@@ -1,0 +1,6 @@
+pub mod Inputs
+pub mod Meaning
+pub mod Request
+pub mod Result
+pub mod Status
+pub mod Theorem
