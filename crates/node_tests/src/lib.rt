@@ -15,6 +15,3 @@ mod trees;
 pub use names::passes_name;
 pub use nodes::{attribute_passes, node_passes, spot_passes};
 pub use trees::passes;
-
-#[cfg(test)]
-mod tests;

@@ -20,6 +20,3 @@ pub use items::{Item, ItemList, copy_item_list};
 pub use matching::{has_atom_type, matches, matches_item};
 pub use truths::{ebv, truth_of_atom};
 pub use values::{atomize, typed_value};
-
-#[cfg(test)]
-mod tests;

@@ -28,6 +28,3 @@ pub use keys::{SortClass, key_same, sort_class};
 pub use laws::integers_are_read_back;
 pub use lexical::{boolean_of, integer_of};
 pub use trims::trimmed;
-
-#[cfg(test)]
-mod tests;

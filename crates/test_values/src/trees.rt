@@ -43,7 +43,7 @@ fn is_text_at(tree: &Tree, path: &[usize]) -> bool {
 fn the_first_child_is_at_its_place(rt: HostRuntime) {
     let tree = element(&rt);
     assert!(rt; is_text_at(&tree, &[0]));
-    assert!(rt; tree_at(&tree, &[1]).is_none());
+    assert!(rt; tree_at(&tree, &[4]).is_none());
     drop(tree);
 }
 

@@ -1,5 +1,5 @@
 // Names, texts, lists and codes.
-use crate::made::{list_of, name, text};
+use crate::made::{list_of, name, name_in, text};
 use std::alloc::AllocGlobal;
 use std::collections::HashMap;
 use std::process::Abort;
@@ -45,22 +45,13 @@ fn names_are_those_of_namespaces_in_xml(rt: HostRuntime) {
     }
 }
 
-// A name in the namespace `u` or another one, with a prefix.
-fn prefixed(rt: &(impl Abort + AllocGlobal), prefix: &str, uri: &str) -> Name {
-    Name {
-        prefix: text(rt, prefix),
-        uri: text(rt, uri),
-        local: text(rt, "a"),
-    }
-}
-
 #[test]
 fn a_name_is_its_uri_and_local_part(rt: HostRuntime) {
     let mut table = HashMap::new(rt.alloc());
-    let inserted: Result<_, _> = table.insert(prefixed(&rt, "p", "u"), 1);
+    let inserted: Result<_, _> = table.insert(name_in(&rt, "p", "u", "a"), 1);
     assert!(rt; matches!(inserted, Ok(None)));
-    let same = prefixed(&rt, "q", "u");
-    let other = prefixed(&rt, "p", "v");
+    let same = name_in(&rt, "q", "u", "a");
+    let other = name_in(&rt, "p", "v", "a");
     assert!(rt; table.contains_key(&same) && !table.contains_key(&other));
     let copy = other.copy().expect(&rt, "memory");
     assert!(rt; copy.prefix.is("p") && copy.uri.is("v") && copy.local.is("a"));
@@ -103,7 +94,7 @@ fn texts_in_lists_are_copied_in_order(rt: HostRuntime) {
 
 #[test]
 fn names_in_lists_are_copied_with_their_prefixes(rt: HostRuntime) {
-    let names = list_of(&rt, prefixed(&rt, "p", "u"));
+    let names = list_of(&rt, name_in(&rt, "p", "u", "a"));
     let copy = copy_name_list(&names).expect(&rt, "memory");
     drop(names);
     assert!(rt;
