@@ -9,6 +9,8 @@
 #[cfg(test)]
 mod commands;
 #[cfg(test)]
+mod examples;
+#[cfg(test)]
 mod files_asked;
 #[cfg(test)]
 mod limits;
