@@ -3,16 +3,19 @@ use crate::made::{TRANSFORM, files_of, status_of};
 use xt_io::MemSink;
 
 const ONE_ELEMENT: &[u8] =
-    b"<xsl:stylesheet version=\"2.0\" xmlns:xsl=\"http://www.w3.org/1999/XSL/Transform\"><xsl:template match=\"/\"><r/></xsl:template></xsl:stylesheet>";
+    b"<xsl:stylesheet version=\"2.0\" xmlns:xsl=\"http://www.w3.org/1999/XSL/Transform\">\
+    <xsl:template match=\"/\"><r/></xsl:template></xsl:stylesheet>";
 
 const NO_RULES: &[u8] =
-    b"<xsl:stylesheet version=\"2.0\" xmlns:xsl=\"http://www.w3.org/1999/XSL/Transform\"></xsl:stylesheet>";
+    b"<xsl:stylesheet version=\"2.0\" xmlns:xsl=\"http://www.w3.org/1999/XSL/Transform\"/>";
 
 const TWO_RULES: &[u8] =
-    b"<xsl:stylesheet version=\"2.0\" xmlns:xsl=\"http://www.w3.org/1999/XSL/Transform\"><xsl:template match=\"a\">1</xsl:template><xsl:template match=\"a\">2</xsl:template></xsl:stylesheet>";
+    b"<xsl:stylesheet version=\"2.0\" xmlns:xsl=\"http://www.w3.org/1999/XSL/Transform\">\
+    <xsl:template match=\"a\">1</xsl:template>\
+    <xsl:template match=\"a\">2</xsl:template></xsl:stylesheet>";
 
-const WHOLE: &[u8] =
-    b"<?xml version='1.0' encoding='utf-8'?>\r\n<!DOCTYPE a SYSTEM 's'><?t d?><a k='&lt;'>x&amp;<![CDATA[<y>]]><!--c--></a>";
+const WHOLE: &[u8] = b"<?xml version='1.0' encoding='utf-8'?>\r\n<!DOCTYPE a SYSTEM 's'><?t d?>\
+    <a k='&lt;'>x&amp;<![CDATA[<y>]]><!--c--></a>";
 
 // A run over these files.
 #[derive(Clone, Copy)]

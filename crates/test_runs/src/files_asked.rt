@@ -26,11 +26,12 @@ impl Files for Asked {
 const SHEET: &[u8] =
     b"<xsl:stylesheet version=\"2.0\" xmlns:xsl=\"http://www.w3.org/1999/XSL/Transform\"/>";
 
-const SHEET_WITH_NAMES: &[u8] =
-    b"<!DOCTYPE a SYSTEM \"e.dtd\"><?xml-stylesheet href=\"t.xsl\"?><xsl:stylesheet version=\"2.0\" xmlns:xsl=\"http://www.w3.org/1999/XSL/Transform\"/>";
+const SHEET_WITH_NAMES: &[u8] = b"<!DOCTYPE a SYSTEM \"e.dtd\"><?xml-stylesheet href=\"t.xsl\"?>\
+    <xsl:stylesheet version=\"2.0\" xmlns:xsl=\"http://www.w3.org/1999/XSL/Transform\"/>";
 
 const DOCUMENT_WITH_NAMES: &[u8] =
-    b"<!DOCTYPE a PUBLIC \"p\" \"e.dtd\"><?xml-stylesheet href=\"t.xsl\"?><a href=\"d2.xml\" xmlns=\"ns.xml\"/>";
+    b"<!DOCTYPE a PUBLIC \"p\" \"e.dtd\"><?xml-stylesheet href=\"t.xsl\"?>\
+    <a href=\"d2.xml\" xmlns=\"ns.xml\"/>";
 
 // Words, a stylesheet, a document, the number of the status, and the names that are asked for.
 type Case = (

@@ -1,6 +1,6 @@
 // Runs at the limits: bytes of a file, elements within each other, rules that are open, levels of a
 // result.
-use crate::made::{TRANSFORM, files_of, nested, output, sheet, status_of, widening_sheet};
+use crate::made::{TRANSFORM, files_of, nested, sheet, status_of, widening_sheet};
 use std::alloc::AllocGlobal;
 use std::process::Abort;
 use xt_io::MemSink;
@@ -18,8 +18,7 @@ fn ends_with(
     let mut out = MemSink::new(rt.alloc());
     let mut notes = MemSink::new(rt.alloc());
     let is_number = status_of(rt, TRANSFORM, &mut files, &mut out, &mut notes) == number;
-    let start = output(rt, "");
-    let is_out = out.bytes().starts_with(start.as_bytes()) == (number == 0);
+    let is_out = out.bytes().is_empty() == (number != 0);
     let is_line = notes.bytes() == line.as_bytes();
     drop(files);
     drop(out);

@@ -9,16 +9,13 @@ use xt_tree::Tree;
 /// The words of a run over the two files of `files_of`.
 pub(crate) const TRANSFORM: &[&str] = &["transform", "s.xsl", "d.xml"];
 
-/// The XML declaration that each output begins with, and then the text.
-pub(crate) fn output(rt: &(impl Abort + AllocGlobal), text: &str) -> String {
-    format!(in rt.alloc(); "<?xml version=\"1.0\" encoding=\"UTF-8\"?>{text}").expect(rt, "memory")
-}
+const SHEET_START: &str =
+    "<xsl:stylesheet version=\"2.0\" xmlns:xsl=\"http://www.w3.org/1999/XSL/Transform\">";
 
 /// A stylesheet with these parts.
 pub(crate) fn sheet(rt: &(impl Abort + AllocGlobal), parts: &str) -> String {
-    format!(in rt.alloc();
-        "<xsl:stylesheet version=\"2.0\" xmlns:xsl=\"http://www.w3.org/1999/XSL/Transform\">{parts}</xsl:stylesheet>"
-    ).expect(rt, "memory")
+    let text = format!(in rt.alloc(); "{SHEET_START}{parts}</xsl:stylesheet>");
+    text.expect(rt, "memory")
 }
 
 /// So many elements within each other, around this text.
