@@ -7,7 +7,7 @@ ghost use Rattle.lazy_seq.specs.Flow.{hits_to_come, steps_to_come, has_item, ite
 ghost use Rattle.lazy_seq.specs.Integers.{integers};
 ghost use Rattle.lazy_seq.specs.Looks.{Looks, is_stack};
 ghost use Rattle.lazy_seq.specs.Orders.{in_document_order};
-ghost use Rattle.lazy_seq.specs.Stacks.{parts_flow};
+ghost use Rattle.lazy_seq.specs.Stacks.{parts_flow, reach_along};
 
 use crate::integers::Integers;
 use crate::leaves::Leaf;
@@ -66,7 +66,8 @@ impl Model for Seq {
 impl Seq {
     /// The sequence of the items. It takes no memory.
     pub fn of_list(items: ItemList) -> Seq
-        ensures { result.items ≡ items }
+        ensures items { result.items ≡ items }
+        ensures reach { result.reach ≡ 0 }
     {
         Seq {
             shape: Shape::Leaf(Leaf::Stock(Stock::new(items))),
@@ -76,7 +77,8 @@ impl Seq {
     /// The integers from the first to the last, both included (XPath 2.0, 3.3.1). It takes no
     /// memory.
     pub fn of_range(from: i64, to: i64) -> Seq
-        ensures { result.items ≡ integers from to }
+        ensures items { result.items ≡ integers from to }
+        ensures reach { result.reach ≡ 0 }
     {
         Seq {
             shape: Shape::Leaf(Leaf::Integers(Integers::new(from, to))),
@@ -96,7 +98,8 @@ impl Seq {
 
     /// The parts one after another, as the comma has them (XPath 2.0, 3.3.1). It takes no memory.
     pub fn concat(parts: List<Seq>) -> Seq
-        ensures { result.items ≡ flat_map (λ p. p.items) parts }
+        ensures items { result.items ≡ flat_map (λ p. p.items) parts }
+        ensures reach { result.reach ≡ reach_along parts }
     {
         let mut parts = parts.into_vec();
         parts.reverse();
@@ -224,7 +227,8 @@ impl Seq {
     /// The same items, held so that a copy of the sequence copies none of them. A range stays a
     /// range.
     pub fn share(self, alloc: Global) -> Result<Seq, AllocError>
-        ensures { IfOk result (λ seq. seq.items ≡ self.items) }
+        ensures items { IfOk result (λ seq. seq.items ≡ self.items) }
+        ensures reach { IfOk result (λ seq. seq.reach ≡ 0) }
     {
         if self.is_range() {
             return Ok(self);
@@ -232,7 +236,10 @@ impl Seq {
         shared(alloc, self)
     }
 
-    fn is_range(&self) -> bool {
+    /// Whether the sequence is a range.
+    fn is_range(&self) -> bool
+        ensures { result ≡ true → self.now.reach ≡ 0 }
+    {
         matches!(&self.shape, Shape::Leaf(Leaf::Integers(_)))
     }
 
@@ -240,7 +247,8 @@ impl Seq {
     /// are not sorted again. Callers give nodes alone: atoms stand before all nodes and count as
     /// one.
     pub fn in_document_order(self, alloc: Global) -> Result<Seq, AllocError>
-        ensures { IfOk result (λ seq. seq.items ≡ in_document_order self.items) }
+        ensures items { IfOk result (λ seq. seq.items ≡ in_document_order self.items) }
+        ensures reach { IfOk result (λ seq. seq.reach ≡ 0) }
     {
         let items = self.to_list(alloc)?;
         let nodes = in_order(items)?;
@@ -346,7 +354,8 @@ fn take_first<L: Ledger>(
 }
 
 fn shared(alloc: Global, seq: Seq) -> Result<Seq, AllocError>
-    ensures { IfOk result (λ shared. shared.items ≡ seq.items) }
+    ensures items { IfOk result (λ shared. shared.items ≡ seq.items) }
+    ensures reach { IfOk result (λ shared. shared.reach ≡ 0) }
 {
     let items = seq.to_list(alloc)?;
     let stock = SharedStock::new(alloc, items)?;
