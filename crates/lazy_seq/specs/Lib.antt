@@ -1,0 +1,9 @@
+pub mod Flow
+pub mod Integers
+pub mod Leaves
+pub mod Looks
+pub mod Orders
+pub mod Shapes
+pub mod ShapesFall
+pub mod Stable
+pub mod Stacks
