@@ -1,0 +1,45 @@
+-- Keys are equal where atoms are the same key.
+use Rattle.std.proofs.Common.{◌≡◌, Bool, true, false, ◌&&◌, refl}
+use Rattle.xt_atoms.specs.Keys.{key_same}
+use Rattle.xt_atoms.specs.Comparisons.{same_name}
+use Rattle.xt_atoms.specs.declared.atoms.Atom.{Atom}
+use Rattle.xt_atoms.specs.declared.atoms.Atom.TheVariants as atom
+use Rattle.atom_keys.specs.Keys.{key_of}
+use Rattle.atom_keys.specs.declared.keys.AtomKey.{AtomKey}
+use Rattle.atom_keys.specs.contracts.keys.AtomKeyPartialEq.TheImpl as derived
+
+-- the equality of keys
+abbrev pub key_eq : AtomKey → AtomKey → Bool
+key_eq = (derived.ghosts).eq
+
+and_true : (b : Bool) → b && true ≡ b
+and_true true = refl
+and_true false = refl
+
+pub keys_agree : (a b : Atom) → key_eq (key_of a) (key_of b) ≡ key_same a b
+unfolding key_of key_same same_name
+keys_agree (atom.Str a) (atom.Str b) = refl
+keys_agree (atom.Str a) (atom.Untyped b) = refl
+keys_agree (atom.Untyped a) (atom.Str b) = refl
+keys_agree (atom.Untyped a) (atom.Untyped b) = refl
+keys_agree (atom.Int a) (atom.Int b) = refl
+keys_agree (atom.Bool a) (atom.Bool b) = refl
+keys_agree (atom.QName a) (atom.QName b) = refl
+keys_agree (atom.Str a) (atom.Int b) = refl
+keys_agree (atom.Str a) (atom.Bool b) = refl
+keys_agree (atom.Str a) (atom.QName b) = refl
+keys_agree (atom.Untyped a) (atom.Int b) = refl
+keys_agree (atom.Untyped a) (atom.Bool b) = refl
+keys_agree (atom.Untyped a) (atom.QName b) = refl
+keys_agree (atom.Int a) (atom.Str b) = refl
+keys_agree (atom.Int a) (atom.Untyped b) = refl
+keys_agree (atom.Int a) (atom.Bool b) = refl
+keys_agree (atom.Int a) (atom.QName b) = refl
+keys_agree (atom.Bool a) (atom.Str b) = refl
+keys_agree (atom.Bool a) (atom.Untyped b) = refl
+keys_agree (atom.Bool a) (atom.Int b) = refl
+keys_agree (atom.Bool a) (atom.QName b) = refl
+keys_agree (atom.QName a) (atom.Str b) = refl
+keys_agree (atom.QName a) (atom.Untyped b) = refl
+keys_agree (atom.QName a) (atom.Int b) = refl
+keys_agree (atom.QName a) (atom.Bool b) = refl

@@ -1,0 +1,30 @@
+use Rattle.std.proofs.Common.{◌≡◌, ◌++◌, ◌∷◌, [], None, if◌then◌else◌, sym, ◌∙◌, ap}
+use Rattle.std.proofs.lemmas.List.{map-append}
+use Rattle.std.specs.List.{list_any}
+use Rattle.atom_keys.specs.Keys.{key_of}
+use Rattle.atom_keys.specs.Tables.{index_of, with_place, keys_of, first_entry}
+use Rattle.atom_keys.specs.declared.tables.KeyEntry.{KeyEntry}
+use Rattle.atom_keys.proofs.KeyLemmas.{key_eq, keys_agree}
+use Rattle.atom_keys.proofs.TableLemmas.{placed_new, key_is_new}
+use Rattle.atom_keys.proofs.tables.KeyTable.add_entry.Goals as goal
+
+pub invariant_of-self-in-Ok : goal.invariant_of-self-in-Ok
+invariant_of-self-in-Ok c =
+    let es = c.self.inside.entries.items in
+    let k = key_of c.args.key.now in
+    let new : index_of es c.args.key.now ≡ None = ap (λ es. index_of es c.args.key.now) c.self.view_is ∙ c.requires in
+    c.in-Ok.ensures.ok
+    ∙ ap (λ b. if b then c.self.inside.keys.keys else c.self.inside.keys.keys ++ k ∷ []) (ap (λ ks. list_any (key_eq k) ks) c.self.invariant ∙ key_is_new key_eq keys_agree es c.args.key.now new)
+    ∙ ap (λ ks. ks ++ k ∷ []) c.self.invariant
+    ∙ sym (map-append (λ (e : KeyEntry). key_of e.key) es (first_entry c.args.key.now c.args.place ∷ []))
+    ∙ ap (λ e. keys_of (es ++ e ∷ [])) (sym c.in_ok-entry.ensures)
+    ∙ ap keys_of (sym c.in_ok-push.ensures.items)
+
+pub returns-in-Ok : goal.returns-in-Ok
+returns-in-Ok c =
+    let es = c.self.inside.entries.items in
+    let new : index_of es c.args.key.now ≡ None = ap (λ es. index_of es c.args.key.now) c.self.view_is ∙ c.requires in
+    c.in_ok-push.ensures.items
+    ∙ ap (λ e. es ++ e ∷ []) c.in_ok-entry.ensures
+    ∙ sym (placed_new es c.args.key.now c.args.place new)
+    ∙ ap (λ es. with_place es c.args.key.now c.args.place) c.self.view_is

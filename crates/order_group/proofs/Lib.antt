@@ -1,0 +1,4 @@
+pub mod Cells
+pub mod Natural
+pub mod Orders
+pub mod Places
