@@ -11,3 +11,4 @@ pub mod Places
 pub mod Machine
 pub mod Faults
 pub mod Skeleton
+pub mod SpotCases
