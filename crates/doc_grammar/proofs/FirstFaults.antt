@@ -19,7 +19,7 @@ use Rattle.doc_grammar.proofs.Lenient.{Refused, Follows, both_go, both_stop, ref
 abbrev Both : Type 0 → Type 0 → Type 0
 Both A B = (A → B) × (B → A)
 
-prefix_to : (rules : Rules) (w : Tree) (cs ts : List ℕ) (s s' : State) → after rules cs s ≡ Some s' → Both (Rest rules w s (cs ++ ts)) (Rest rules w s' ts)
+pub prefix_to : (rules : Rules) (w : Tree) (cs ts : List ℕ) (s s' : State) → after rules cs s ≡ Some s' → Both (Rest rules w s (cs ++ ts)) (Rest rules w s' ts)
 prefix_to rules w [] ts s s' e = let P : State → Type 0 = λ x. Both (Rest rules w s ts) (Rest rules w x ts) in subst P (same_Some _ _ e) ((λ r. r), (λ r. r))
 prefix_to rules w (c ∷ cs) ts s s' e = go (step rules s c) (steps rules w s c (cs ++ ts)) e (λ x d. prefix_to rules w cs ts x s' d)
   where
@@ -27,7 +27,7 @@ prefix_to rules w (c ∷ cs) ts s s' e = go (step rules s c) (steps rules w s c 
     go None k d again = absurd (none-some _ d)
     go (Some x) k d again = let t = again x d in ((λ r. t.0 (k.0 r)), (λ r. k.1 (t.1 r)))
 
-after_lives : (rules : Rules) (cs : List ℕ) (s s' : State) → after rules cs s ≡ Some s' → IsLive s → IsLive s'
+pub after_lives : (rules : Rules) (cs : List ℕ) (s s' : State) → after rules cs s ≡ Some s' → IsLive s → IsLive s'
 after_lives rules [] s s' e l = let P : State → Type 0 = λ x. IsLive x in subst P (same_Some _ _ e) l
 after_lives rules (c ∷ cs) s s' e l = go (step rules s c) (lives rules s c l) e (λ x d m. after_lives rules cs x s' d m)
   where
@@ -36,7 +36,7 @@ after_lives rules (c ∷ cs) s s' e l = go (step rules s c) (lives rules s c l) 
     go (Some x) m d again = again x d m
 
 -- what is reached by the rules on names is reached without them
-after_anyhow : (cs : List ℕ) (s s' : State) → after opened cs s ≡ Some s' → after anyhow cs s ≡ Some s'
+pub after_anyhow : (cs : List ℕ) (s s' : State) → after opened cs s ≡ Some s' → after anyhow cs s ≡ Some s'
 after_anyhow [] s s' e = e
 after_anyhow (c ∷ cs) s s' e = go (follows s c) e (λ x d. after_anyhow cs x s' d)
   where
@@ -76,7 +76,7 @@ finish_stops (ending left st) why rest e = stop_same e
 finish_stops (ended st) why rest e = stop_same e
 
 -- the state stops before the rest
-abbrev StopsHere : State → List ℕ → Stop → Type 0
+abbrev pub StopsHere : State → List ℕ → Stop → Type 0
 StopsHere s [] why = why ≡ other
 StopsHere s (c ∷ more) why = (step opened s c ≡ None) × (why ≡ stop_at s c)
 
@@ -89,10 +89,10 @@ run_short (c ∷ cs) rest why s e = go (step opened s c) e (λ x d. run_short cs
     go None d again = let f = ap length (stop_same d).1 in omega arith
     go (Some x) d again = let low = again x d in omega arith
 
-record Stands (s : State) (front rest : List ℕ) (why : Stop) : Type 0 where
-  here : State
-  reached : after opened front s ≡ Some here
-  stop : StopsHere here rest why
+pub record Stands (s : State) (front rest : List ℕ) (why : Stop) : Type 0 where
+  pub here : State
+  pub reached : after opened front s ≡ Some here
+  pub stop : StopsHere here rest why
 
 stands_here : (rest : List ℕ) (why : Stop) (s : State) → run opened rest s ≡ stops why rest → StopsHere s rest why
 stands_here [] why s e = (finish_stops s why [] e).0
@@ -107,7 +107,7 @@ not_longer front rest c e =
     let f = ap length e in
     let g = length-append front rest in omega arith
 
-stands : (front rest : List ℕ) (why : Stop) (s : State) → run opened (front ++ rest) s ≡ stops why rest → Stands s front rest why
+pub stands : (front rest : List ℕ) (why : Stop) (s : State) → run opened (front ++ rest) s ≡ stops why rest → Stands s front rest why
 stands [] rest why s e = record { here = s; reached = refl; stop = stands_here rest why s e }
 stands (c ∷ front) rest why s e = go (step opened s c) refl e (λ x d. stands front rest why x d)
   where
@@ -119,7 +119,7 @@ stands (c ∷ front) rest why s e = go (step opened s c) refl e (λ x d. stands 
 
 -- what that says of skeletons
 
-begins : (front : List ℕ) (s : State) → after anyhow front start ≡ Some s → IsLive s → Begins front
+pub begins : (front : List ℕ) (s : State) → after anyhow front start ≡ Some s → IsLive s → Begins front
 begins front s e l =
     let c = alive s l in
     (c.ts, c.w, topped ((prefix_to anyhow c.w front c.ts start s e).1 c.rest))

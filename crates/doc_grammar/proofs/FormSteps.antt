@@ -22,7 +22,7 @@ through f g c ts fails u v k = λ rest r. k rest (u rest r)
 last_on : {p : Part} {class : ℕ → Bool} {e c : ℕ} {ts rest : List ℕ} → Spelled (last p class e) (c ∷ ts) rest → (class c ≡ true) × (rest ≡ ts)
 last_on (forms.last_one h) = (h, refl)
 
-one_on : {p : Part} {class : ℕ → Bool} {e c : ℕ} {f : Form} {ts rest : List ℕ} → Spelled (one p class e f) (c ∷ ts) rest → (class c ≡ true) × Spelled f ts rest
+pub one_on : {p : Part} {class : ℕ → Bool} {e c : ℕ} {f : Form} {ts rest : List ℕ} → Spelled (one p class e f) (c ∷ ts) rest → (class c ≡ true) × Spelled f ts rest
 one_on (forms.first_one h k) = (h, k)
 
 many_on : {class : ℕ → Bool} {c : ℕ} {f : Form} {ts rest : List ℕ} → class c ≡ true → Spelled (many class f) (c ∷ ts) rest → Spelled (many class f) ts rest

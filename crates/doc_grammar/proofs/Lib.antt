@@ -24,6 +24,13 @@ pub mod Completions
 pub mod Alive
 pub mod Lenient
 pub mod FirstFaults
+pub mod Probes
+pub mod SpotForms
+pub mod SpotHistory
+pub mod SpotFits
+pub mod SpotPlaces
+pub mod SpotTurns
+pub mod SpotLaw
 pub mod SoundTexts
 pub mod Sizes
 pub mod SoundNames

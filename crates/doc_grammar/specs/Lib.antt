@@ -14,3 +14,4 @@ pub mod Faults
 pub mod Skeleton
 pub mod Declarations
 pub mod Amounts
+pub mod SpotCases

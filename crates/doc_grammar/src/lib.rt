@@ -14,6 +14,9 @@ ghost use Rattle.doc_grammar.specs.Machine.{run, start, Stop as AnyStop, stops};
 ghost use Rattle.doc_grammar.specs.Skeleton.{IsFirstFault};
 ghost use Rattle.doc_grammar.specs.Lines.{text_of, offset};
 ghost use Rattle.doc_grammar.specs.Places.{IsPlace};
+ghost use Rattle.doc_grammar.specs.Faults.{first_fault};
+ghost use Rattle.doc_grammar.specs.SpotCases.{IsSpot, HasSpot};
+ghost use Rattle.doc_grammar.specs.declared.spots.Spot.{Spot as AnySpot};
 
 mod declarations;
 mod spots;
@@ -32,6 +35,13 @@ pub fn documents_are_one()
 pub fn stops_at_the_first_fault()
     ensures leaves { (cs rest : List ℕ) (why : AnyStop) → run opened cs start ≡ stops why rest → (front : List ℕ) × (cs ≡ front ++ rest) }
     ensures first { (cs front rest : List ℕ) (why : AnyStop) → run opened cs start ≡ stops why rest → cs ≡ front ++ rest → IsFirstFault why front rest }
+{}
+
+/// The spot of a text that is no document is the first that fits, in the words of the grammar, and only one fits a text that is
+/// parted at its first fault.
+pub fn spots_fit_the_grammar()
+    ensures fits { (bytes : List ℕ) → HasSpot bytes (first_fault bytes) }
+    ensures one { (s t : AnySpot) (front rest : List ℕ) (at : ℕ) → IsSpot s front rest at → IsSpot t front rest at → s ≡ t }
 {}
 
 /// The place of a fault is the number of bytes before it: the characters of the text are parted there, the first ones have so many

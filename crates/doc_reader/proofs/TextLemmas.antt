@@ -1,5 +1,5 @@
 -- What a reading of bytes comes to.
-use Rattle.std.proofs.Common.{◌≡◌, ℕ, ◌+◌, ◌≤◌, List, ◌∷◌, ◌++◌, length, length-append, take, refl, sym, ap, ◌∙◌, arith}
+use Rattle.std.proofs.Common.{◌≡◌, ℕ, ◌+◌, ◌≤◌, List, ◌∷◌, ◌++◌, length, length-append, take, refl, sym, subst, ap, ◌∙◌, arith}
 use Rattle.std.proofs.lemmas.List.{take_all}
 use Rattle.std.proofs.lemmas.Str.{chars_past_char, utf8_valid_len-IsUtf8}
 use Rattle.std.specs.Char.{encode_utf8}
@@ -12,7 +12,9 @@ use Rattle.doc_grammar.specs.Document.{IsDocument}
 use Rattle.doc_grammar.specs.Machine.{Stop, whole, stops, run, start}
 use Rattle.doc_grammar.specs.Faults.{spot_of, valid_front, first_fault}
 use Rattle.doc_grammar.specs.declared.spots.Spot.{Spot}
+use Rattle.doc_grammar.specs.SpotCases.{HasSpot}
 use Rattle.doc_grammar.proofs.Runs.{runs_document, run_refuses}
+use Rattle.doc_grammar.proofs.SpotLaw.{has_spot}
 use Rattle.doc_grammar.proofs.FirstFaults.{left_over}
 use Rattle.doc_reader.specs.Fault.{Refused}
 
@@ -49,13 +51,22 @@ refused_at : (front : List ℕ) (spot : Spot) → Refused (run opened (text_of (
     → spot ≡ spot_of front (chars front) (run opened (text_of (chars front)) start)
 refused_at front spot r = r.is_spot ∙ ap (spot_of front (chars front)) (sym r.is_stopped)
 
+-- the first fault has the spot that the grammar tells
+pub fault_spot : (bytes : List ℕ) (spot : Spot) → spot ≡ first_fault bytes → HasSpot bytes spot
+fault_spot bytes spot e = let P : Spot → Type 0 = λ x. HasSpot bytes x in subst P (sym e) (has_spot bytes)
+
 -- text that is UTF-8 and no document
 pub as_fault : (text bytes : List ℕ) (spot : Spot) → text ≡ bytes → IsUtf8 bytes → Refused (run opened (text_of (chars text)) start) (offset (chars text)) spot
-    → ((tree : Tree) → IsDocument bytes tree → ⊥) × (spot ≡ first_fault bytes)
+    → ((tree : Tree) → IsDocument bytes tree → ⊥) × (spot ≡ first_fault bytes) × HasSpot bytes spot
 as_fault text bytes spot e u r =
     let f : List ℕ → Spot = λ front. spot_of front (chars front) (run opened (text_of (chars front)) start) in
     let here : Refused (run opened (text_of (chars bytes)) start) (offset (chars bytes)) spot = rw e at r in
-    (λ tree d. run_refuses opened (text_of (chars bytes)) here.rest here.why here.is_stopped tree d.1, refused_at bytes spot here ∙ ap f (sym (whole_front bytes u)))
+    let same : spot ≡ first_fault bytes = refused_at bytes spot here ∙ ap f (sym (whole_front bytes u)) in
+    (λ tree d. run_refuses opened (text_of (chars bytes)) here.rest here.why here.is_stopped tree d.1, same, fault_spot bytes spot same)
+
+-- bytes that are no UTF-8
+pub no_text_fault : (bytes : List ℕ) (spot : Spot) → (IsUtf8 bytes → ⊥) → spot ≡ first_fault bytes → ((tree : Tree) → IsDocument bytes tree → ⊥) × (spot ≡ first_fault bytes) × HasSpot bytes spot
+no_text_fault bytes spot n e = (λ tree d. n d.0, e, fault_spot bytes spot e)
 
 -- characters of which a rest is left
 

@@ -3,14 +3,15 @@ use Rattle.std.specs.Prelude.{◌≡◌, ℕ, List, ⊤}
 use Rattle.xt_tree.specs.declared.trees.Tree.{Tree}
 use Rattle.doc_grammar.specs.Document.{IsDocument}
 use Rattle.doc_grammar.specs.Faults.{first_fault, spot_at}
+use Rattle.doc_grammar.specs.SpotCases.{HasSpot}
 use Rattle.doc_grammar.specs.Machine.{Stop, End, stops}
 use Rattle.doc_grammar.specs.declared.spots.Spot.{Spot}
 use Rattle.doc_reader.specs.declared.faults.ReadFault.{ReadFault}
 use Rattle.doc_reader.specs.declared.faults.ReadFault.TheVariants.{Bad, Memory}
 
--- the first spot of bytes that are no document, or want of memory
+-- the first spot of bytes that are no document, which the grammar tells too, or want of memory
 abbrev pub HasReadCause : List ℕ → ReadFault → Type 0
-HasReadCause bytes (Bad spot) = ((tree : Tree) → IsDocument bytes tree → ⊥) × (spot ≡ first_fault bytes)
+HasReadCause bytes (Bad spot) = ((tree : Tree) → IsDocument bytes tree → ⊥) × (spot ≡ first_fault bytes) × HasSpot bytes spot
 HasReadCause bytes (Memory e) = ⊤
 
 -- a reading stops at this spot, where `offset` tells at which byte a rest of the text begins

@@ -1,7 +1,7 @@
 use Rattle.std.proofs.Common.{arith}
 use Rattle.doc_grammar.proofs.DeclaredReads.{found_declared}
 use Rattle.doc_grammar.proofs.SoundDocuments.{document_sound}
-use Rattle.doc_reader.proofs.TextLemmas.{as_document, as_fault}
+use Rattle.doc_reader.proofs.TextLemmas.{as_document, as_fault, no_text_fault}
 use Rattle.doc_reader.proofs.read_scoped.Goals as goal
 
 pub returns-in-Ok-2-clause-found : goal.returns-in-Ok-2-clause-found
@@ -19,3 +19,6 @@ returns-in-Ok-2-clause-sound c =
 pub returns-in-Ok-2-clause-declared : goal.returns-in-Ok-2-clause-declared
 returns-in-Ok-2-clause-declared c =
     found_declared c.args.bytes.now _ _ c.in-Ok.ensures.cases.1 (rw c.in-Ok.ensures.cases.0 at (rw c.in-Ok-2.is at c.in_ok-whole-in-Ok.ensures))
+
+pub returns-in_ok-spot-in-Err-clause-refused : goal.returns-in_ok-spot-in-Err-clause-refused
+returns-in_ok-spot-in-Err-clause-refused c = no_text_fault _ _ c.in-Err.ensures.cases.0 c.in_ok-spot-in-Err.ensures
