@@ -1,6 +1,6 @@
 -- Which characters are of which class.
 use Rattle.std.proofs.Common.{◌≡◌, ℕ, ◌≤◌, List, [], ◌∷◌, ◌++◌, arith, Bool, true, false, not, ◌||◌, ◌&&◌, ◌==◌, None, refl, sym, subst, eq-eqb}
-use Rattle.std.proofs.lemmas.Bool.{eqb-true}
+use Rattle.std.proofs.lemmas.Bool.{eqb-true, false_from_ne_true}
 use Rattle.xt_names.specs.Classes.{is_in_ranges, ncname_start_ranges}
 use Rattle.doc_grammar.specs.Characters.{is_space, is_char, is_text, is_value, is_quote, may_stand, starts_name, is_name_char, Base, decimal, hexadecimal, digit, last_char}
 
@@ -15,6 +15,12 @@ not_true {b = false} e = refl
 -- no test holds and fails
 pub no : {b : Bool} {P : Type 0} → b ≡ true → b ≡ false → P
 no a b = cc
+
+-- a character of a class is none that is not of the class
+pub is_other : (class : ℕ → Bool) (c d : ℕ) → class c ≡ true → class d ≡ false → (c == d) ≡ false
+is_other class c d x y =
+    let P : ℕ → Type 0 = λ n. class n ≡ true in
+    false_from_ne_true (c == d) (λ e. no (subst P (eqb-true c d e) x) y)
 
 pub open_stands : (n : ℕ) → may_stand n 60 ≡ false
 unfolding may_stand is_text is_char is_in_ranges
@@ -176,6 +182,11 @@ space_starts c s = let P : ℕ → Type 0 = λ x. starts_name x ≡ false in spa
 pub space_name : (c : ℕ) → is_space c ≡ true → is_name_char c ≡ false
 unfolding is_name_char is_in_ranges
 space_name c s = let P : ℕ → Type 0 = λ x. is_name_char x ≡ false in space_cases P c refl refl refl refl s
+
+-- white space is text
+pub space_text : (c : ℕ) → is_space c ≡ true → is_text c ≡ true
+unfolding is_text is_char is_in_ranges
+space_text c s = let P : ℕ → Type 0 = λ x. is_text x ≡ true in space_cases P c refl refl refl refl s
 
 -- no quote is white space
 pub space_quote : (c : ℕ) → is_space c ≡ true → is_quote c ≡ false

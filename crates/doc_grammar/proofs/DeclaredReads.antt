@@ -15,11 +15,11 @@ use Rattle.doc_grammar.specs.Document as doc
 use Rattle.doc_grammar.specs.Declarations.{in_element, in_content, in_document, IsDeclared}
 use Rattle.doc_grammar.specs.Lexing.{ampersand}
 use Rattle.doc_grammar.specs.Machine.{Stack, ground, element, content, tag, refers, tagged, slashed, ending, depth, scope_of, with_text, with_child, with_declared, may_open, step, whole, run, start}
-use Rattle.doc_grammar.proofs.CharacterFacts.{open_stands, ampersand_stands, open_space, close_space, slash_space}
+use Rattle.doc_grammar.proofs.CharacterFacts.{is_other, open_stands, ampersand_stands, open_space, close_space, slash_space}
 use Rattle.doc_grammar.proofs.Residue.{more_kids}
 use Rattle.doc_grammar.proofs.Runs.{runs_document}
 use Rattle.doc_grammar.proofs.LexReads.{Reads, goes, reference_reads}
-use Rattle.doc_grammar.proofs.TagReads.{differs, start_reads, end_reads}
+use Rattle.doc_grammar.proofs.TagReads.{start_reads, end_reads}
 use Rattle.doc_grammar.proofs.MarkupReads.{misc_reads, section_reads, declaration_reads, doctype_reads}
 
 -- with the declarations of some elements more
@@ -100,12 +100,9 @@ says_reads : {rules : Rules} {w : Tree} {ds : List (List Binding)} {n c : ℕ} {
     → Reads rules w ds (c ∷ ts) (content n text (element name o kids st))
 unfolding step
 says_reads {n = n} {c = c} p k =
-    goes (rw (
-      differs (may_stand n) c 60 p (open_stands n),
-      differs (may_stand n) c 38 p
-          (ampersand_stands n),
-      p,
-    ) refl) k
+    let no_tag = is_other (may_stand n) c 60 p (open_stands n) in
+    let no_reference = is_other (may_stand n) c 38 p (ampersand_stands n) in
+    goes (rw (no_tag, no_reference, p) refl) k
 
 refers_reads : {rules : Rules} {w : Tree} {ds : List (List Binding)} {n : ℕ} {text ts : List ℕ}
     {name : RawName} {o : Opened} {kids : List Tree} {st : Stack}
@@ -220,7 +217,7 @@ space_reads : {rules : Rules} {w : Tree} {ds : List (List Binding)} {n c : ℕ} 
     → is_space c ≡ true → Reads rules w ds ts (content 0 [] (ground (begun l) kids es))
     → Reads rules w ds (c ∷ ts) (content n text (ground l kids es))
 unfolding step
-space_reads {c = c} s k = goes (rw (differs is_space c 60 s open_space, s) refl) k
+space_reads {c = c} s k = goes (rw (is_other is_space c 60 s open_space, s) refl) k
 
 document_reads : {rules : Rules} {w : Tree} {l : Level} {kids : List Tree} {ts : List ℕ}
     (t : Top rules l kids ts w) (n : ℕ) (text : List ℕ) (es : List (List Binding))

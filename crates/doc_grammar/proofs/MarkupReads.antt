@@ -1,7 +1,7 @@
 -- A reading goes through comments, instructions, sections and declarations as the grammar says.
-use Rattle.std.proofs.Common.{◌≡◌, ℕ, List, [], ◌∷◌, ◌++◌, refl, Bool, true, false, ◌==◌, codes}
+use Rattle.std.proofs.Common.{◌≡◌, ℕ, List, [], ◌∷◌, ◌++◌, refl, true, false, ◌==◌, codes}
 use Rattle.std.specs.Str.{bytes_eq}
-use Rattle.std.proofs.lemmas.Bool.{eqb-true}
+use Rattle.std.proofs.lemmas.Bool.{eqb-true, false_from_ne_true}
 use Rattle.std.proofs.lemmas.Slice.Eq.{bytes_eq-Decides}
 use Rattle.xt_names.specs.declared.names.Binding.{Binding}
 use Rattle.xt_tree.specs.declared.trees.Tree.{Tree}
@@ -37,11 +37,10 @@ named_reads (lexemes.whole e) k = k
 -- the target of an instruction begins no XML declaration
 no_declaration : (st : Stack) (target : List ℕ) → is_target target ≡ true
     → declares st target ≡ false
-no_declaration (ground blank kids ds) target i = go (bytes_eq target (codes "xml")) refl where
-  go : (b : Bool) → bytes_eq target (codes "xml") ≡ b → bytes_eq target (codes "xml") ≡ false
-  go true e = let i' : is_target (codes "xml") ≡ true =
-      rw ((bytes_eq-Decides target (codes "xml")).0 e) at i in no i' xml_target
-  go false e = e
+no_declaration (ground blank kids ds) target i =
+    false_from_ne_true (bytes_eq target (codes "xml")) (λ e.
+    let is_xml : is_target (codes "xml") ≡ true =
+    rw ((bytes_eq-Decides target (codes "xml")).0 e) at i in no is_xml xml_target)
 no_declaration (ground fresh kids ds) target i = refl
 no_declaration (ground typed kids ds) target i = refl
 no_declaration (ground rooted kids ds) target i = refl
@@ -151,7 +150,5 @@ doctype_reads {rules = rules} {w = w} {ds = ds} {text = text} {ts = ts} {l = l} 
       where
         no_dash : (c : ℕ) {ts mid : List ℕ} → Spelled doctype_declaration (c ∷ ts) mid
             → (c == 45) ≡ false
-        no_dash c f = go (c == 45) refl where
-          go : (b : Bool) → (c == 45) ≡ b → (c == 45) ≡ false
-          go true e = absurd (no_doctype_dash (rw (eqb-true c 45 e) at f))
-          go false e = e
+        no_dash c f =
+            false_from_ne_true (c == 45) (λ e. no_doctype_dash (rw (eqb-true c 45 e) at f))

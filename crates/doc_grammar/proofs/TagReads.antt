@@ -1,6 +1,6 @@
 -- A reading goes through a start tag and an end tag as the grammar says.
-use Rattle.std.proofs.Common.{◌≡◌, ℕ, List, [], ◌∷◌, refl, subst, Bool, true, false, None, ◌==◌}
-use Rattle.std.proofs.lemmas.Bool.{eqb-true}
+use Rattle.std.proofs.Common.{◌≡◌, ℕ, List, [], ◌∷◌, refl, true, None}
+use Rattle.std.proofs.lemmas.Bool.{false_from_ne_true}
 use Rattle.xt_names.specs.declared.names.Binding.{Binding}
 use Rattle.xt_tree.specs.declared.trees.Tree.{Tree}
 use Rattle.doc_grammar.specs.Characters.{is_space, is_quote, is_value, starts_name}
@@ -12,17 +12,10 @@ use Rattle.doc_grammar.specs.Document.{Rules, QName, Valued, AtEnd, Attributes, 
 use Rattle.doc_grammar.specs.Document as doc
 use Rattle.doc_grammar.specs.Lexing.{ampersand}
 use Rattle.doc_grammar.specs.Machine.{Stack, element, reading, tag, tagged, spaced, equals, assigned, valued, ending, ended, with_text, may_open, behind, in_ended, step}
-use Rattle.doc_grammar.proofs.CharacterFacts.{no, slash_starts, bang_starts, mark_starts, close_starts, close_space, slash_space, equals_space, space_starts, space_quote, quote_value, ampersand_value, itself}
+use Rattle.doc_grammar.proofs.CharacterFacts.{no, is_other, slash_starts, bang_starts, mark_starts, close_starts, close_space, slash_space, equals_space, space_starts, space_quote, quote_value, ampersand_value, itself}
 use Rattle.doc_grammar.proofs.Rests as rests
 use Rattle.doc_grammar.proofs.AttributeSteps.{quote_ampersand}
 use Rattle.doc_grammar.proofs.LexReads.{Reads, Next, from, onward, goes, name_reads, attribute_reads, value_reference_reads}
-
--- a character of a class is none that is not of the class
-pub differs : (class : ℕ → Bool) (c d : ℕ) → class c ≡ true → class d ≡ false → (c == d) ≡ false
-differs class c d x y = go (c == d) refl where
-  go : (b : Bool) → (c == d) ≡ b → (c == d) ≡ false
-  go true e = let P : ℕ → Type 0 = λ n. class n ≡ true in no (subst P (eqb-true c d e) x) y
-  go false e = e
 
 -- values
 
@@ -33,12 +26,9 @@ value_reads : {rules : Rules} {w : Tree} {ds : List (List Binding)} {t : RawTag}
     → Reads rules w ds ts (valued t name quote read st)
 unfolding step
 value_reads {quote = quote} q (doc.more {c = c} p v) k =
-    goes (rw (
-      differs (is_value quote) c quote p (quote_value quote),
-      differs
-          (is_value quote) c 38 p (ampersand_value quote),
-      p,
-    ) refl) (value_reads q v k)
+    let no_quote = is_other (is_value quote) c quote p (quote_value quote) in
+    let no_reference = is_other (is_value quote) c 38 p (ampersand_value quote) in
+    goes (rw (no_quote, no_reference, p) refl) (value_reads q v k)
 value_reads {t = t} {name = name} {quote = quote} {read = read} {st = st} q
     (doc.refers {v = v} {ts = ts} {mid = mid} r u) k =
     goes (rw (quote_ampersand quote q) refl)
@@ -51,12 +41,8 @@ assigned_reads : {rules : Rules} {w : Tree} {ds : List (List Binding)} {t : RawT
     → Reads rules w ds rest (valued t name quote [] st) → Reads rules w ds ts (assigned t name st)
 unfolding step
 assigned_reads {quote = quote} q lexemes.no_space k =
-    goes (rw (quote_no_space quote q, q) refl) k where
-      quote_no_space : (c : ℕ) → is_quote c ≡ true → is_space c ≡ false
-      quote_no_space c q = go (is_space c) refl where
-        go : (b : Bool) → is_space c ≡ b → is_space c ≡ false
-        go true e = no q (space_quote c e)
-        go false e = e
+    let no_space = false_from_ne_true (is_space quote) (λ e. no q (space_quote quote e)) in
+    goes (rw (no_space, q) refl) k
 assigned_reads q (lexemes.a_space p s) k = goes (rw p refl) (assigned_reads q s k)
 
 equals_reads : {rules : Rules} {w : Tree} {ds : List (List Binding)} {t : RawTag} {name : RawName}
@@ -66,7 +52,7 @@ equals_reads : {rules : Rules} {w : Tree} {ds : List (List Binding)} {t : RawTag
 unfolding step
 equals_reads lexemes.no_space k = goes refl k
 equals_reads (lexemes.a_space {c = c} p s) k =
-    goes (rw (differs is_space c 61 p equals_space, p) refl) (equals_reads s k)
+    goes (rw (is_other is_space c 61 p equals_space, p) refl) (equals_reads s k)
 
 -- attributes
 
@@ -87,12 +73,8 @@ first_letter : {rules : Rules} {w : Tree} {ds : List (List Binding)} {t : RawTag
     → Reads rules w ds mid (equals t name st) → Reads rules w ds (c ∷ ts) (spaced t st)
 unfolding step
 first_letter {t = t} {c = c} {ts = ts} {st = st} s r k =
-    goes (rw (no_space c s, s) refl) (attribute_reads t st ts (reading None (c ∷ [])) r k) where
-      no_space : (c : ℕ) → starts_name c ≡ true → is_space c ≡ false
-      no_space c s = go (is_space c) refl where
-        go : (b : Bool) → is_space c ≡ b → is_space c ≡ false
-        go true e = no s (space_starts c e)
-        go false e = e
+    let no_space = false_from_ne_true (is_space c) (λ e. no s (space_starts c e)) in
+    goes (rw (no_space, s) refl) (attribute_reads t st ts (reading None (c ∷ [])) r k)
 
 attribute_begins : {rules : Rules} {w : Tree} {ds : List (List Binding)} {t : RawTag}
     {name : RawName} {ts mid : List ℕ} {st : Stack}
@@ -129,9 +111,9 @@ element_letter : {rules : Rules} {w : Tree} {ds : List (List Binding)} {name : R
     → Reads rules w ds (c ∷ ts) (tag text st)
 unfolding step
 element_letter {c = c} {text = text} {ts = ts} {st = st} s m r k =
-    let slash = differs starts_name c 47 s slash_starts in
-    let bang = differs starts_name c 33 s bang_starts in
-    let mark = differs starts_name c 63 s mark_starts in
+    let slash = is_other starts_name c 47 s slash_starts in
+    let bang = is_other starts_name c 33 s bang_starts in
+    let mark = is_other starts_name c 63 s mark_starts in
     goes (rw (slash, bang, mark, s, m) refl)
     (name_reads (with_text text st) ts (reading None (c ∷ [])) r k)
 
@@ -154,7 +136,7 @@ ended_reads : {rules : Rules} {w : Tree} {ds : List (List Binding)} {name : RawN
 unfolding step
 ended_reads lexemes.no_space k = goes refl k
 ended_reads {name = name} {o = o} {kids = kids} {st = st} (lexemes.a_space {c = c} p s) k =
-    goes {s' = ended (element name o kids st)} (rw (differs is_space c 62 p close_space, p) refl)
+    goes {s' = ended (element name o kids st)} (rw (is_other is_space c 62 p close_space, p) refl)
     (ended_reads {name = name} {o = o} {kids = kids} {st = st} s k)
 
 name_ended : {rules : Rules} {w : Tree} {ds : List (List Binding)} {ts : List ℕ} {st : Stack}

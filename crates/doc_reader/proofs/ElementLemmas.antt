@@ -13,6 +13,7 @@ use Rattle.doc_grammar.specs.Lexemes as lexemes
 use Rattle.doc_grammar.specs.Document.{Level, QName, element_of}
 use Rattle.doc_grammar.specs.Document as doc
 use Rattle.doc_grammar.specs.Machine.{Stack, ground, element, reading, coloned, State, content, tag, naming, tagged, slashed, ending, ended, step, stop_at, Stop, stop_before_name, names, other, stops, behind, opens, closes, scope_of, may_open, with_text, with_child, with_declared}
+use Rattle.doc_grammar.proofs.CharacterFacts.{is_other, close_space, slash_space, slash_starts, bang_starts, mark_starts, colon_name}
 use Rattle.doc_reader.specs.declared.readers.Frame as code
 use Rattle.doc_reader.specs.declared.scopes.OpenedTag.{OpenedTag}
 use Rattle.doc_reader.specs.Sources.{NotNext, NextIs, NoName, DiffersAt}
@@ -22,8 +23,7 @@ use Rattle.doc_reader.specs.declared.steps.Step.{Step}
 use Rattle.doc_reader.specs.declared.steps.Step.TheVariants.{On, Stopped}
 use Rattle.doc_reader.specs.View.{name_of}
 use Rattle.doc_reader.specs.Frames.{with_frame, outside, stack_of, Pushes, stop_before}
-use Rattle.doc_reader.proofs.CharacterFacts.{close_space, slash_space, slash_starts, bang_starts, question_starts, colon_name}
-use Rattle.doc_reader.proofs.ReadLemmas.{goes, stuck, is_other}
+use Rattle.doc_reader.proofs.ReadLemmas.{goes, stuck}
 use Rattle.doc_reader.proofs.FrameLemmas.{popped, no_frames, declared_of, text_may_open, text_stop}
 
 -- end tags
@@ -278,7 +278,7 @@ local_end prefix name st (c ∷ cs) e = local_same prefix name st c cs e
 
 tag_step : (text : List ℕ) (st : Stack) (c : ℕ) → starts_name c ≡ true → may_open st ≡ true → step opened (tag text st) c ≡ Some (naming (reading None (c ∷ [])) (with_text text st))
 unfolding step
-tag_step text st c s h = rw (is_other starts_name c 47 s slash_starts, is_other starts_name c 33 s bang_starts, is_other starts_name c 63 s question_starts, s, h) refl
+tag_step text st c s h = rw (is_other starts_name c 47 s slash_starts, is_other starts_name c 33 s bang_starts, is_other starts_name c 63 s mark_starts, s, h) refl
 
 -- text, and behind it a `<` and the name of a start tag
 run_name : {ts rest : List ℕ} {name : RawName} (text : List ℕ) (st : Stack) → may_open st ≡ true → QName ts name rest → reads ts (tag text st) ≡ reads rest (tagged (tag_named name) (with_text text st))

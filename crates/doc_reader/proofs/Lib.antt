@@ -1,4 +1,3 @@
-mod CharacterFacts
 mod ReadLemmas
 mod SourceLemmas
 mod ScanLemmas

@@ -1,6 +1,5 @@
 -- A reading, one character at a time.
-use Rattle.std.proofs.Common.{◌≡◌, ℕ, List, [], ◌∷◌, Bool, true, false, Option, Some, None, ◌==◌, MatchBool, MatchResult, IfOk, Result, Ok, Err, length, refl, ap, ◌∙◌, sym}
-use Rattle.std.proofs.lemmas.Bool.{eqb-true}
+use Rattle.std.proofs.Common.{◌≡◌, ℕ, List, [], ◌∷◌, Bool, true, false, Option, Some, None, MatchBool, MatchResult, IfOk, Result, Ok, Err, length, ap, ◌∙◌, sym}
 use Rattle.doc_grammar.specs.Scopes.{opened}
 use Rattle.doc_grammar.specs.Machine.{State, End, stops, step, stop_at, or_stop, run, finish, whole}
 use Rattle.doc_reader.specs.Reading.{reads, Ran, OnStep, stop_of}
@@ -10,21 +9,11 @@ use Rattle.doc_reader.specs.declared.readers.Refusal.{Refusal}
 use Rattle.doc_reader.specs.declared.steps.Step.{Step}
 use Rattle.doc_reader.specs.declared.steps.Step.TheVariants.{On, Stopped}
 
-pub no : {b : Bool} {P : Type 0} → b ≡ true → b ≡ false → P
-no a b = cc
-
 pub goes : (s s' : State) (c : ℕ) (cs : List ℕ) → step opened s c ≡ Some s' → reads (c ∷ cs) s ≡ reads cs s'
 goes s s' c cs e = ap (λ (o : Option State). or_stop (run opened cs) (stops (stop_at s c) (c ∷ cs)) o) e
 
 pub stuck : (s : State) (c : ℕ) (cs : List ℕ) → step opened s c ≡ None → reads (c ∷ cs) s ≡ stops (stop_at s c) (c ∷ cs)
 stuck s c cs e = ap (λ (o : Option State). or_stop (run opened cs) (stops (stop_at s c) (c ∷ cs)) o) e
-
--- a class that does not have a character has none that is equal to it
-pub is_other : (p : ℕ → Bool) (c d : ℕ) → p c ≡ true → p d ≡ false → (c == d) ≡ false
-is_other p c d a b = go (c == d) refl where
-  go : (x : Bool) → (c == d) ≡ x → (c == d) ≡ false
-  go true e = let same : c ≡ d = eqb-true c d e in let there : p d ≡ true = rw same at a in no there b
-  go false e = e
 
 -- what a step has done to a reading that is the same
 pub ran_from : (e e' : End) (source : List ℕ) (s : State) (st : Step) → e ≡ e' → Ran e' source s st → Ran e source s st

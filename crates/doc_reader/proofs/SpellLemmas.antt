@@ -12,10 +12,10 @@ use Rattle.doc_grammar.specs.Forms.{Form, Part, elsewhere, encoding, doctype_end
 use Rattle.doc_grammar.specs.Prolog.{is_one, is_letter, space, equals, quoted, starts_colon_name, is_colon_name_char}
 use Rattle.doc_grammar.specs.Machine.{other, subset}
 use Rattle.doc_grammar.specs.Machine as machine
+use Rattle.doc_grammar.proofs.CharacterFacts.{name_starts}
 use Rattle.doc_reader.specs.Sources.{NextIs, NotNext, DiffersAt}
 use Rattle.doc_reader.specs.Spelling.{FormEnd, stops, stands, spells, stops_in, Takes}
 use Rattle.doc_reader.specs.PrologParts.{letter, colon_name}
-use Rattle.doc_reader.proofs.CharacterFacts.{name_starts}
 use Rattle.doc_reader.proofs.ScanLemmas.{begun}
 
 -- white space that was taken

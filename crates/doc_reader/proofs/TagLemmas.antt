@@ -10,12 +10,12 @@ use Rattle.doc_grammar.specs.Lexemes as lexemes
 use Rattle.doc_grammar.specs.Document.{QName, AtEnd}
 use Rattle.doc_grammar.specs.Document as doc
 use Rattle.doc_grammar.specs.Machine.{Stack, State, NameState, reading, coloned, tagged, spaced, attribute, equals, assigned, valued, step, stop_at, stops, other, or_stop, run, End}
+use Rattle.doc_grammar.proofs.CharacterFacts.{no, is_other, close_space, slash_space, close_starts, slash_starts, equals_space, colon_name, space_starts}
 use Rattle.doc_reader.specs.Reading.{reads, Fails, Ran, OnStep}
 use Rattle.doc_reader.specs.Sources.{NotNext, NoName}
 use Rattle.doc_reader.specs.declared.steps.Step.{Step}
 use Rattle.doc_reader.specs.declared.steps.Step.TheVariants.{On, Stopped}
-use Rattle.doc_reader.proofs.CharacterFacts.{close_space, slash_space, close_starts, slash_starts, equals_space, colon_name, space_starts}
-use Rattle.doc_reader.proofs.ReadLemmas.{goes, stuck, no, is_other}
+use Rattle.doc_reader.proofs.ReadLemmas.{goes, stuck}
 use Rattle.doc_reader.proofs.ValueLemmas.{quote_cases}
 
 -- white space

@@ -11,13 +11,14 @@ use Rattle.doc_grammar.specs.Lexing.{ampersand}
 use Rattle.doc_grammar.specs.Scopes.{opened}
 use Rattle.doc_grammar.specs.Document.{Level, blank, fresh, typed, rooted, begun}
 use Rattle.doc_grammar.specs.Machine.{Stack, ground, element, State, content, refers, other, stops, step, or_stop, run}
+use Rattle.doc_grammar.proofs.CharacterFacts.{no, is_other}
 use Rattle.doc_reader.specs.Classes.{is_plain_text, is_bracket}
 use Rattle.doc_reader.specs.References.{RefEnd, finds, ref_reads}
 use Rattle.doc_reader.specs.References as refs
 use Rattle.doc_reader.specs.Reading.{reads, stop_of, Fails}
 use Rattle.doc_reader.specs.Sources.{NotNext, NextIs}
 use Rattle.doc_reader.specs.declared.steps.Stop as code
-use Rattle.doc_reader.proofs.ReadLemmas.{goes, stuck, no, is_other}
+use Rattle.doc_reader.proofs.ReadLemmas.{goes, stuck}
 use Rattle.doc_reader.proofs.ReferenceReads.{found_in_content, stops_in_content}
 use Rattle.doc_reader.proofs.ValueLemmas.{not_true}
 use Rattle.doc_reader.proofs.TagLemmas.{TakesSpaces, spaces_in}

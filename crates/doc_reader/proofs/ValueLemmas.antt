@@ -8,14 +8,14 @@ use Rattle.doc_grammar.specs.Lexing.{ampersand}
 use Rattle.doc_grammar.specs.RawNames.{RawName, RawTag, with_attribute}
 use Rattle.doc_grammar.specs.Scopes.{opened}
 use Rattle.doc_grammar.specs.Machine.{Stack, tagged, valued, value_refers, other, step, stops}
+use Rattle.doc_grammar.proofs.CharacterFacts.{no, space_cases, space_text}
 use Rattle.doc_reader.specs.Classes.{is_plain_value}
 use Rattle.doc_reader.specs.References.{RefEnd, finds, ref_reads}
 use Rattle.doc_reader.specs.References as refs
 use Rattle.doc_reader.specs.Reading.{reads, stop_of}
 use Rattle.doc_reader.specs.Sources.{NotNext}
 use Rattle.doc_reader.specs.declared.steps.Stop as code
-use Rattle.doc_reader.proofs.CharacterFacts.{space_cases, text_32, text_9, text_10, text_13}
-use Rattle.doc_reader.proofs.ReadLemmas.{goes, stuck, no}
+use Rattle.doc_reader.proofs.ReadLemmas.{goes, stuck}
 use Rattle.doc_reader.proofs.ReferenceReads.{found_in_value, stops_in_value}
 use Rattle.doc_reader.proofs.ReferenceLemmas.{Skips}
 
@@ -93,9 +93,6 @@ value_refers_to old mid new (Ok c) t name q read st e o m = reference_goes old m
 value_refers_to old mid new (Err why) t name q read st e o m = reference_goes old mid t name q read st e o ∙ stops_in_value t name q read st mid new ampersand (stop_of why) m
 
 -- white space
-
-space_text : (c : ℕ) → is_space c ≡ true → is_text c ≡ true
-space_text c e = let P : ℕ → Type 0 = λ x. is_text x ≡ true in space_cases P c text_32 text_9 text_10 text_13 e
 
 space_no_reference : (c : ℕ) → is_space c ≡ true → (c == 38) ≡ false
 space_no_reference c e = let P : ℕ → Type 0 = λ x. (x == 38) ≡ false in space_cases P c refl refl refl refl e

@@ -1,6 +1,6 @@
 use Rattle.std.proofs.Common.{sym, ◌∙◌}
 use Rattle.doc_grammar.specs.Characters.{is_name_char}
-use Rattle.doc_reader.proofs.CharacterFacts.{name_starts}
+use Rattle.doc_grammar.proofs.CharacterFacts.{name_starts}
 use Rattle.doc_reader.proofs.ScanLemmas.{begun, begun_name}
 use Rattle.doc_reader.proofs.sources.Source.ncname.Goals as goal
 
