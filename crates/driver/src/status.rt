@@ -36,27 +36,27 @@ pub enum Status {
     NoPlace,
 }
 
-/// A rule that every stylesheet keeps which can be translated.
+/// A rule that stylesheets keep which can be translated.
 #[derive(Clone, Copy, PartialEq, Eq, Debug)]
 pub enum ProfileRule {
     /// Every global parameter is required.
     P1,
-    /// xsl:apply-imports and xsl:next-match stand in a template with `match` and without `name`,
-    /// outside xsl:for-each and xsl:for-each-group.
+    /// `xsl:apply-imports` and `xsl:next-match` stand in a template with `match` and without `name`,
+    /// outside of `xsl:for-each` and `xsl:for-each-group`.
     P2,
-    /// The mode `#current` stands in a template with `match` and without `name`.
+    /// `#current` stands in a template with `match` and without `name`.
     P3,
-    /// xsl:call-template stands where there is a context item, so in no function outside
-    /// xsl:for-each and xsl:for-each-group.
+    /// `xsl:call-template` stands where there is a focus, so in no function outside of
+    /// `xsl:for-each` and `xsl:for-each-group`.
     P4,
     /// No variable or parameter has a name in `urn:xslt2xq`, and no function one in
     /// `http://www.w3.org/2005/xquery-local-functions`.
     P5,
-    /// The stylesheet strips and preserves no white space, and keeps the XML declaration.
+    /// The stylesheet says nothing of white space, and omits no XML declaration.
     P6,
     /// The stylesheet has no tunnel parameter.
     P7,
-    /// No function has a name in a reserved namespace.
+    /// No function has a name in a namespace that is reserved in stylesheets.
     P8,
 }
 
