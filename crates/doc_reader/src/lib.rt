@@ -163,8 +163,3 @@ fn spot(stop: Stop, at: u64) -> Spot
         Stop::Other => Spot::At(at),
     }
 }
-
-#[cfg(test)]
-mod scope_tests;
-#[cfg(test)]
-mod tests;

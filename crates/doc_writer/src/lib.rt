@@ -23,8 +23,3 @@ mod writers;
 pub use causes::WriteRefusal;
 pub use item_writers::{write_items, write_items_bare};
 pub use writers::{write_tree, write_tree_bare};
-
-#[cfg(test)]
-mod item_tests;
-#[cfg(test)]
-mod tests;
