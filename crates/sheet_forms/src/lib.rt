@@ -10,6 +10,3 @@ mod sheets;
 
 pub use nesting::{nest_body, nest_bound, nest_instruction};
 pub use sheets::nest_sheet;
-
-#[cfg(test)]
-mod tests;

@@ -1,6 +1,6 @@
 // Copies of lists of expressions and of their parts.
-use crate::exprs::{bind, leaf_arm, order, ordered};
-use crate::made::{bare_name, list_of, shared, text};
+use crate::exprs::{bind, comma, leaf_arm, order, ordered};
+use crate::made::{bare_name, list_of, list_of_two, shared, text};
 use xt_syntax::{
     Arm, Clause, DirectAttr, Expr, Flwor, NameSource, Part, copy_arm_list, copy_bind_list,
     copy_clause_list, copy_direct_attr_list, copy_expr_list, copy_flwor_list,
@@ -11,6 +11,19 @@ use xt_syntax::{
 fn an_expression_that_may_be_there_is_copied(rt: HostRuntime) {
     let copy = copy_shared_option(&Some(shared(&rt, Expr::Root))).expect(&rt, "memory");
     assert!(rt; matches!(&copy, Some(only) if matches!(only.get(), Expr::Root)));
+    drop(copy);
+}
+
+fn is_one_and_context(items: &[Expr]) -> bool {
+    matches!(items, [Expr::Int(1), Expr::Context])
+}
+
+#[test]
+fn an_expression_is_copied(rt: HostRuntime) {
+    let made = comma(&rt, list_of_two(&rt, Expr::Int(1), Expr::Context));
+    let copy = made.copy().expect(&rt, "memory");
+    drop(made);
+    assert!(rt; matches!(&copy, Expr::Comma(all) if is_one_and_context(all.get().as_slice())));
     drop(copy);
 }
 

@@ -13,6 +13,8 @@ pub(crate) type Bound = instrs::Bound<Text, Text>;
 
 pub(crate) type Value = instrs::Value<Text, Text>;
 
+pub(crate) type AvtPart = values::AvtPart<Text>;
+
 pub(crate) type Avt = values::Avt<Text>;
 
 pub(crate) type AvtName = values::AvtName<Text>;
@@ -48,7 +50,7 @@ pub(crate) fn bound(rt: &(impl Abort + AllocGlobal), local: &str, value: Value) 
 }
 
 pub(crate) fn avt(rt: &(impl Abort + AllocGlobal), s: &str) -> Avt {
-    list_of(rt, values::AvtPart::Chars(text(rt, s)))
+    list_of(rt, AvtPart::Chars(text(rt, s)))
 }
 
 pub(crate) fn avt_name(rt: &(impl Abort + AllocGlobal), default_uri: &str) -> AvtName {

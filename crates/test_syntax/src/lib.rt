@@ -15,6 +15,8 @@ mod forms;
 #[cfg(test)]
 mod instr_copies;
 #[cfg(test)]
+mod instr_nests;
+#[cfg(test)]
 mod instrs;
 #[cfg(test)]
 mod made;
@@ -27,4 +29,6 @@ mod sheet_copies;
 #[cfg(test)]
 mod sheet_nests;
 #[cfg(test)]
-mod type_copies;
+mod types;
+#[cfg(test)]
+mod value_copies;

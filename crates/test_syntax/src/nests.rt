@@ -7,63 +7,37 @@ use xt_forms::{nest, nest_pattern};
 use xt_names::List;
 use xt_syntax::{Axis, Expr, Part, Pattern, PatternStep, Test};
 
-#[test]
-fn a_leaf_is_one_level(rt: HostRuntime) {
-    let e = Expr::Context;
-    assert_eq!(rt; nest(&e), 1);
+fn levels(e: Expr) -> u32 {
+    let levels = nest(&e);
     drop(e);
+    levels
 }
 
 #[test]
-fn a_comma_list_of_leaves_is_two_levels(rt: HostRuntime) {
-    let e = comma(&rt, list_of_two(&rt, Expr::Int(1), Expr::Root));
-    assert_eq!(rt; nest(&e), 2);
-    drop(e);
-}
-
-#[test]
-fn an_or_of_leaves_is_two_levels(rt: HostRuntime) {
-    let e = or(&rt, Expr::Root, Expr::Context);
-    assert_eq!(rt; nest(&e), 2);
-    drop(e);
-}
-
-#[test]
-fn an_and_in_an_or_is_three_levels(rt: HostRuntime) {
+fn a_whole_is_a_level_above_its_parts(rt: HostRuntime) {
+    assert_eq!(rt; levels(Expr::Context), 1);
+    assert_eq!(rt;
+        levels(comma(&rt, list_of_two(&rt, Expr::Int(1), Expr::Root))),
+        2
+    );
+    assert_eq!(rt; levels(or(&rt, Expr::Root, Expr::Context)), 2);
     let both = and(&rt, Expr::Root, Expr::Context);
-    let e = or(&rt, both, Expr::Root);
-    assert_eq!(rt; nest(&e), 3);
-    drop(e);
+    assert_eq!(rt; levels(or(&rt, both, Expr::Root)), 3);
+    let inner = sum(&rt, Expr::Int(1), Expr::Int(2));
+    assert_eq!(rt; levels(sum(&rt, Expr::Int(3), inner)), 3);
 }
 
 #[test]
 fn an_if_is_one_level_with_all_its_arms(rt: HostRuntime) {
     let two = list_of_two(&rt, leaf_arm(&rt), leaf_arm(&rt));
-    let e = if_of(&rt, with(&rt, two, leaf_arm(&rt)), Expr::Int(0));
-    assert_eq!(rt; nest(&e), 2);
-    drop(e);
-}
-
-#[test]
-fn a_step_without_predicates_is_one_level(rt: HostRuntime) {
-    let e = step(&rt, List::new(rt.alloc()));
-    assert_eq!(rt; nest(&e), 1);
-    drop(e);
+    let arms = with(&rt, two, leaf_arm(&rt));
+    assert_eq!(rt; levels(if_of(&rt, arms, Expr::Int(0))), 2);
 }
 
 #[test]
 fn a_predicate_stands_within_its_step(rt: HostRuntime) {
-    let e = step(&rt, list_of(&rt, Expr::Int(1)));
-    assert_eq!(rt; nest(&e), 2);
-    drop(e);
-}
-
-#[test]
-fn an_addition_in_an_addition_is_three_levels(rt: HostRuntime) {
-    let inner = sum(&rt, Expr::Int(1), Expr::Int(2));
-    let e = sum(&rt, Expr::Int(3), inner);
-    assert_eq!(rt; nest(&e), 3);
-    drop(e);
+    assert_eq!(rt; levels(step(&rt, List::new(rt.alloc()))), 1);
+    assert_eq!(rt; levels(step(&rt, list_of(&rt, Expr::Int(1)))), 2);
 }
 
 fn chain(rt: &(impl Abort + AllocGlobal), additions: u32) -> Expr {
@@ -76,56 +50,35 @@ fn chain(rt: &(impl Abort + AllocGlobal), additions: u32) -> Expr {
 
 #[test]
 fn each_addition_of_a_chain_is_a_level(rt: HostRuntime) {
-    let e = chain(&rt, 100);
-    assert_eq!(rt; nest(&e), 101);
-    drop(e);
+    assert_eq!(rt; levels(chain(&rt, 100)), 101);
 }
 
 #[test]
 fn a_filter_has_a_level_more_than_its_predicate(rt: HostRuntime) {
     let predicate = or(&rt, Expr::Root, Expr::Context);
-    let e = filter(&rt, Expr::Context, predicate);
-    assert_eq!(rt; nest(&e), 3);
-    drop(e);
+    assert_eq!(rt; levels(filter(&rt, Expr::Context, predicate)), 3);
 }
 
 #[test]
-fn the_test_of_a_some_stands_within_it(rt: HostRuntime) {
+fn the_test_and_the_source_of_a_some_stand_within_it(rt: HostRuntime) {
     let test = and(&rt, Expr::Root, Expr::Context);
-    let e = some(&rt, Expr::Root, test);
-    assert_eq!(rt; nest(&e), 3);
-    drop(e);
-}
-
-#[test]
-fn the_source_of_a_some_stands_within_it(rt: HostRuntime) {
+    assert_eq!(rt; levels(some(&rt, Expr::Root, test)), 3);
     let source = and(&rt, Expr::Root, Expr::Context);
-    let e = some(&rt, source, Expr::Root);
-    assert_eq!(rt; nest(&e), 3);
-    drop(e);
+    assert_eq!(rt; levels(some(&rt, source, Expr::Root)), 3);
 }
 
 #[test]
 fn the_order_keys_of_a_flwor_stand_within_it(rt: HostRuntime) {
     let key = sum(&rt, Expr::Int(1), Expr::Int(2));
-    let e = flwor(&rt, key);
-    assert_eq!(rt; nest(&e), 3);
-    drop(e);
-}
-
-#[test]
-fn an_empty_direct_element_is_one_level(rt: HostRuntime) {
-    let e = direct(&rt, List::new(rt.alloc()));
-    assert_eq!(rt; nest(&e), 1);
-    drop(e);
+    assert_eq!(rt; levels(flwor(&rt, key)), 3);
 }
 
 #[test]
 fn a_child_element_stands_within_its_parent(rt: HostRuntime) {
+    assert_eq!(rt; levels(direct(&rt, List::new(rt.alloc()))), 1);
     let child = direct(&rt, List::new(rt.alloc()));
-    let e = direct(&rt, list_of(&rt, Part::Child(shared(&rt, child))));
-    assert_eq!(rt; nest(&e), 2);
-    drop(e);
+    let parts = list_of(&rt, Part::Child(shared(&rt, child)));
+    assert_eq!(rt; levels(direct(&rt, parts)), 2);
 }
 
 fn pattern_step(rt: &(impl Abort + AllocGlobal), predicate: Expr) -> PatternStep {
@@ -137,26 +90,20 @@ fn pattern_step(rt: &(impl Abort + AllocGlobal), predicate: Expr) -> PatternStep
     }
 }
 
-fn pattern(steps: List<PatternStep>) -> Pattern {
-    Pattern {
-        rooted: false,
-        steps,
-    }
-}
-
-#[test]
-fn a_pattern_has_the_levels_of_its_predicate(rt: HostRuntime) {
-    let predicate = or(&rt, Expr::Root, Expr::Context);
-    let pattern = pattern(list_of(&rt, pattern_step(&rt, predicate)));
-    assert_eq!(rt; nest_pattern(&pattern), 2);
+fn pattern_levels(rooted: bool, steps: List<PatternStep>) -> u32 {
+    let pattern = Pattern { rooted, steps };
+    let levels = nest_pattern(&pattern);
     drop(pattern);
+    levels
 }
 
 #[test]
 fn a_pattern_has_the_levels_of_its_deepest_step(rt: HostRuntime) {
+    assert_eq!(rt; pattern_levels(true, List::new(rt.alloc())), 1);
+    let predicate = or(&rt, Expr::Root, Expr::Context);
+    let only = list_of(&rt, pattern_step(&rt, predicate));
+    assert_eq!(rt; pattern_levels(false, only), 2);
     let deep = pattern_step(&rt, or(&rt, Expr::Root, Expr::Context));
     let steps = list_of_two(&rt, deep, pattern_step(&rt, Expr::Int(1)));
-    let pattern = pattern(steps);
-    assert_eq!(rt; nest_pattern(&pattern), 2);
-    drop(pattern);
+    assert_eq!(rt; pattern_levels(false, steps), 2);
 }

@@ -58,6 +58,15 @@ fn is_query(query: &Query) -> bool {
 }
 
 #[test]
+fn a_query_is_copied(rt: HostRuntime) {
+    let made = query(&rt);
+    let copy = made.copy().expect(&rt, "memory");
+    drop(made);
+    assert!(rt; is_query(&copy));
+    drop(copy);
+}
+
+#[test]
 fn queries_are_copied(rt: HostRuntime) {
     let items = list_of(&rt, query(&rt));
     let copy = copy_query_list(&items).expect(&rt, "memory");

@@ -26,6 +26,3 @@ pub use quiet_calls::QuietCall;
 pub use quiet_forms::QuietForm;
 pub use quietness::is_quiet;
 pub use regularity::is_regular;
-
-#[cfg(test)]
-mod tests;

@@ -51,6 +51,3 @@ pub type LiteralAttr = values::LiteralAttr<Expr>;
 pub type Sort = values::Sort<Expr>;
 /// What puts items into one group.
 pub type Grouping = values::Grouping<Expr, Pattern>;
-
-#[cfg(test)]
-mod tests;

@@ -31,6 +31,3 @@ pub use query_copies::{
     copy_query_var_list,
 };
 pub use xt_types::{Axis, Count, ItemType, NameTest, SeqType, SpaceRule, Test};
-
-#[cfg(test)]
-mod tests;

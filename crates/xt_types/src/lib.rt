@@ -22,6 +22,3 @@ pub use copies::{
 pub use node_tests::{NameTest, SpaceRule, Test};
 pub use regular::{is_regular_name_test, is_regular_test, is_regular_type};
 pub use types::{Count, ItemType, SeqType};
-
-#[cfg(test)]
-mod tests;
