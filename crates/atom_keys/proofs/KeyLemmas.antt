@@ -1,5 +1,6 @@
 -- Keys are equal where atoms are the same key.
-use Rattle.std.proofs.Common.{◌≡◌, Bool, true, false, ◌&&◌, refl}
+use Rattle.std.proofs.Common.{◌≡◌, Bool, refl, sym, ◌∙◌}
+use Rattle.std.specs.Cmp.{IsEquivalence}
 use Rattle.xt_atoms.specs.Keys.{key_same}
 use Rattle.xt_atoms.specs.Comparisons.{same_name}
 use Rattle.xt_atoms.specs.declared.atoms.Atom.{Atom}
@@ -7,14 +8,11 @@ use Rattle.xt_atoms.specs.declared.atoms.Atom.TheVariants as atom
 use Rattle.atom_keys.specs.Keys.{key_of}
 use Rattle.atom_keys.specs.declared.keys.AtomKey.{AtomKey}
 use Rattle.atom_keys.specs.contracts.keys.AtomKeyPartialEq.TheImpl as derived
+use Rattle.atom_keys.specs.contracts.keys.AtomKeyEq.TheImpl.Laws.{laws-law}
 
 -- the equality of keys
 abbrev pub key_eq : AtomKey → AtomKey → Bool
 key_eq = (derived.ghosts).eq
-
-and_true : (b : Bool) → b && true ≡ b
-and_true true = refl
-and_true false = refl
 
 pub keys_agree : (a b : Atom) → key_eq (key_of a) (key_of b) ≡ key_same a b
 unfolding key_of key_same same_name
@@ -43,3 +41,11 @@ keys_agree (atom.QName a) (atom.Str b) = refl
 keys_agree (atom.QName a) (atom.Untyped b) = refl
 keys_agree (atom.QName a) (atom.Int b) = refl
 keys_agree (atom.QName a) (atom.Bool b) = refl
+
+-- to be the same key is an equivalence
+pub same_key_laws : IsEquivalence key_same
+same_key_laws = record {
+  refl = λ a. sym (keys_agree a a) ∙ laws-law.refl (key_of a);
+  symm = λ a b. sym (keys_agree a b) ∙ laws-law.symm (key_of a) (key_of b) ∙ keys_agree b a;
+  congr = λ a b c h. sym (keys_agree a c) ∙ laws-law.congr (key_of a) (key_of b) (key_of c) (keys_agree a b ∙ h) ∙ keys_agree b c;
+}

@@ -1,4 +1,5 @@
 ghost use Rattle.std.specs.Prelude.{◌≡◌, IfOk};
+ghost use Rattle.std.specs.Cmp.{IsEquivalence};
 ghost use Rattle.xt_atoms.specs.Keys.{key_same};
 ghost use Rattle.xt_atoms.specs.declared.atoms.Atom.{Atom as AnAtom};
 ghost use Rattle.atom_keys.specs.Keys.{key_of};
@@ -32,7 +33,8 @@ impl AtomKey {
     }
 }
 
-/// The keys of two atoms are equal exactly where the atoms are the same key.
+/// The keys of two atoms are equal exactly where the atoms are the same key, and to be the same key is an equivalence.
 pub fn equal_keys_are_the_same_key()
-    ensures { (a b : AnAtom) → ⟦<AtomKey as PartialEq>⟧.eq (key_of a) (key_of b) ≡ key_same a b }
+    ensures equal { (a b : AnAtom) → ⟦<AtomKey as PartialEq>⟧.eq (key_of a) (key_of b) ≡ key_same a b }
+    ensures laws { IsEquivalence key_same }
 {}
