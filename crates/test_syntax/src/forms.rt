@@ -1,4 +1,4 @@
-// Which expressions a text can spell, and which predicates are quiet.
+// Which expressions are regular and plain, and which predicates are quiet.
 use crate::exprs::{comma, text_of};
 use crate::made::{list_of, shared, text};
 use std::alloc::AllocGlobal;
