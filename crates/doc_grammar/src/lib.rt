@@ -1,7 +1,10 @@
 //! The grammar of documents: which text stands for which tree, and where a text fails to be one.
 //!
-//! Definitions and laws alone; nothing runs. `IsDocument` of specs/Document.antt is the grammar, by the productions of XML 1.0 and
-//! Namespaces in XML 1.0, without internal subsets and with no encoding but UTF-8.
+//! Definitions and laws alone; nothing runs. `IsDocument` of specs/Document.antt is the grammar, by the
+//! productions of XML 1.0 and Namespaces in XML 1.0, without internal subsets and with no encoding but
+//! UTF-8. `IsDeclared` of specs/Declarations.antt says which namespace declarations a document has, and
+//! `HasSpot` of specs/SpotCases.antt which spot a refused text gets. specs/Machine.antt is a machine
+//! that reads a text character by character; the laws below tie it to the grammar.
 #![tactic(auto)]
 
 ghost use Rattle.std.specs.Prelude.{◌≡◌, ℕ, ◌≤◌, List, ◌++◌, length, true};

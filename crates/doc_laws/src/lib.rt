@@ -1,7 +1,10 @@
 //! Laws of what is written: which items have a text, and that the text of a document is read back.
 //!
-//! Definitions and laws alone; nothing runs. `IsDocument` of doc_grammar says which tree a text stands for, and `written_tree`
-//! of doc_writer which bytes are written for a tree.
+//! Definitions and laws alone; nothing runs. `IsDocument` of doc_grammar says which tree a text stands
+//! for, and `written_tree` of doc_writer which bytes are written for a tree. A sound document with one
+//! element and no text at its top, and no carriage return in comments and instructions, is read back
+//! from what is written of it, with the XML declaration and without it; sound items have a text
+//! exactly where none of them is an attribute.
 #![tactic(auto)]
 
 ghost use Rattle.std.specs.Prelude.{◌≡◌, ℕ, List, [], ◌∷◌, ◌++◌, true};

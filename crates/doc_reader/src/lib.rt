@@ -1,4 +1,11 @@
-//! Reads the text of a document as a tree.
+//! Reads the text of a document as a tree (XML 1.0; Namespaces in XML 1.0).
+//!
+//! `read` gives the tree that stands for the bytes, and that tree is sound. It refuses them exactly
+//! where no tree stands for them, with the first spot that fits, as the grammar of `doc_grammar` tells
+//! it. `read_scoped` gives besides, for each element in document order, the namespace declarations that
+//! are written on it. No depth of nesting takes stack of the machine, and no other file is looked at.
+//!
+//! Example: of `<a k="1">x</a>` `read` makes the document of the element `a`; `<a>` is refused at byte 3.
 #![tactic(auto)]
 
 ghost use Rattle.std.specs.Prelude.{◌≡◌, ◌≤◌, ◌<◌, ◌+◌, ◌-◌, true, false, length, take, IfOk, IfErr, MatchResult};

@@ -2,6 +2,8 @@
 //!
 //! Contracts see an atom as its kind with a list of characters, an integer, a truth value or a name, so that two atoms
 //! are one where kind and value are; of a QName the prefix counts too. `text_of` is the text of an atom.
+//! `cast`, `castable`, `to_text`, `value_compare`, `general_compare`, `arith`, `key_same` and
+//! `sort_class` give exactly what the definitions of `specs/` say, error codes and order of tests included.
 //!
 //! Example: `Atom::Int(1)` and the untyped atom `01` are equal to `general_compare`, and not comparable to
 //! `value_compare`, which takes the untyped one as a text.
