@@ -1,12 +1,13 @@
 -- The first fault has the spot that the grammar tells, and no other.
-use Rattle.std.proofs.Common.{◌≡◌, ℕ, List, [], ◌∷◌, ◌++◌, refl, sym, subst, ap, ◌∙◌, inl, inr, Some}
+use Rattle.std.proofs.Common.{◌≡◌, ℕ, List, [], ◌∷◌, ◌++◌, refl, sym, subst, ap, ◌∙◌, inl, inr, Some, append_assoc}
 use Rattle.std.specs.Str.{chars}
 use Rattle.doc_grammar.specs.Scopes.{opened}
 use Rattle.doc_grammar.specs.Lines.{text_of, offset}
 use Rattle.doc_grammar.specs.Machine.{State, start, run, Stop, names, deep, entity, subset, encoding, other, stop_at, End, whole, stops}
-use Rattle.doc_grammar.specs.Skeleton.{after, IsLongest, IsFirstTag, IsFirstFault}
+use Rattle.doc_grammar.specs.Document.{IsText}
+use Rattle.doc_grammar.specs.Skeleton.{anyhow, after, IsLongest, IsFirstFault}
 use Rattle.doc_grammar.specs.Faults.{spot_at, spot_of, valid_front, first_fault}
-use Rattle.doc_grammar.specs.SpotCases.{AtSubset, AtEncoding, AtEntity, AtDeep, IsElsewhere, IsSpot, HasSpot}
+use Rattle.doc_grammar.specs.SpotCases.{AtBrokenTag, AtSubset, AtEncoding, AtEntity, AtDeep, IsElsewhere, IsSpot, HasSpot}
 use Rattle.doc_grammar.specs.declared.spots.Spot.{Spot}
 use Rattle.doc_grammar.specs.declared.spots.Spot.TheVariants.{At, Subset, Encoding, Entity, Deep}
 use Rattle.doc_grammar.proofs.FirstFaults.{Stands, StopsHere, stands, left_over}
@@ -15,6 +16,7 @@ use Rattle.doc_grammar.proofs.PlaceLemmas.{place_of}
 use Rattle.doc_grammar.proofs.Runs.{runs_document}
 use Rattle.doc_grammar.proofs.SpotFits.{Fits, fits_here}
 use Rattle.doc_grammar.proofs.SpotHistory.{past_of}
+use Rattle.doc_grammar.proofs.SpotTags.{broken_tag}
 use Rattle.doc_grammar.proofs.SpotTurns.{subset_turns, encoding_turns, entity_turns, deep_turns}
 
 -- where the text stands in a place of its own, the reader tells so
@@ -39,7 +41,7 @@ turns_here why front more c s e w = record {
 }
 
 is_spot : (why : Stop) (front rest : List ℕ) (at : ℕ) → IsFirstFault why front rest → Fits why front rest → Turns why front rest → IsSpot (spot_at why at) front rest at
-is_spot names front rest at f k t = inl (f, refl)
+is_spot names front rest at f k t = inl (broken_tag front rest f, refl)
 is_spot deep front rest at f k t =
     (f, k, λ x. let e : deep ≡ subset = t.to_subset x in cc, λ x. let e : deep ≡ encoding = t.to_encoding x in cc, λ x. let e : deep ≡ entity = t.to_entity x in cc)
 is_spot entity front rest at f k t = (f, k, λ x. let e : entity ≡ subset = t.to_subset x in cc, λ x. let e : entity ≡ encoding = t.to_encoding x in cc)
@@ -90,8 +92,11 @@ has_spot bytes = go (run opened (text_of (chars (valid_front bytes))) start) ref
 
 -- only one spot fits
 
-names_apart : {P : Type 0} (front rest : List ℕ) → IsFirstTag front rest → IsLongest front rest → P
-names_apart front rest t l = absurd (l.1 62 t.0.0 t.0.1 t.1)
+names_apart : {P : Type 0} (front rest : List ℕ) → AtBrokenTag front rest → IsLongest front rest → P
+names_apart front rest t l =
+    let b = t.is_end.0 in
+    let more : IsText anyhow ((front ++ 62 ∷ []) ++ (60 ∷ 33 ∷ b.0)) b.1 = rw (append_assoc (front ++ 62 ∷ []) (60 ∷ 33 ∷ []) b.0) at b.2 in
+    absurd (l.1 62 t.more t.is_close (60 ∷ 33 ∷ b.0, b.1, more))
 
 pub one_spot : (s t : Spot) (front rest : List ℕ) (at : ℕ) → IsSpot s front rest at → IsSpot t front rest at → s ≡ t
 one_spot (At p) (At q) front rest at (inl a) (inl b) = ap At (a.1 ∙ sym b.1)

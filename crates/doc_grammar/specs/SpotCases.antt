@@ -10,7 +10,7 @@ use Rattle.doc_grammar.specs.RawNames.{RawName, written_name}
 use Rattle.doc_grammar.specs.Document.{limit, EndTag, IsText, IsDocumentText}
 use Rattle.doc_grammar.specs.Forms.{Form, Part, Spelled, one, many, choice}
 use Rattle.doc_grammar.specs.Prolog.{xml_declaration, encoding_name, doctype_declaration}
-use Rattle.doc_grammar.specs.Skeleton.{anyhow, Begins, IsLongest, IsFirstTag}
+use Rattle.doc_grammar.specs.Skeleton.{anyhow, Begins, BeginsNone, IsLongest}
 use Rattle.doc_grammar.specs.Lines.{text_of}
 use Rattle.doc_grammar.specs.Places.{IsPlace}
 use Rattle.doc_grammar.specs.Faults.{valid_front}
@@ -44,7 +44,7 @@ pub record AtSubset (front rest : List ℕ) : Type 0 where
   pub is_whole : Spelled doctype_declaration (inner ++ codes ">") []
   pub is_bracket : rest ≡ codes "[" ++ more
 
--- It stands between the quotes of the encoding value, behind no more than the five letters of `UTF-8`, or is the closing quote.
+-- It stands between the quotes of the encoding value, after no more than the five letters of `UTF-8`, or is the closing quote.
 pub record AtEncoding (front rest : List ℕ) : Type 0 where
   pub before : List ℕ
   pub inner : List ℕ
@@ -60,12 +60,12 @@ pub record AtEncoding (front rest : List ℕ) : Type 0 where
   pub is_open : length letters ≤ 5
   pub fails : rest ≡ failing ∷ more
 
--- a name begins here right behind `&`, or it goes on or ends behind these characters of it
+-- a name begins here right after `&`, or it goes on or ends after these characters of it
 abbrev pub NamesEntity : List ℕ → ℕ → Type 0
 NamesEntity [] c = starts_name c ≡ true
 NamesEntity (d ∷ ds) c = (is_name_char c || c == 59) ≡ true
 
--- It stands in a reference that is not by number: behind `&` and what may stand in a name.
+-- It stands in a reference that is not by number: after `&` and what may stand in a name.
 pub record AtEntity (front rest : List ℕ) : Type 0 where
   pub before : List ℕ
   pub name : List ℕ
@@ -99,14 +99,32 @@ pub record AtDeep (front rest : List ℕ) : Type 0 where
   pub names : starts_name failing ≡ true
   pub fails : rest ≡ failing ∷ more
 
+-- the characters begin some document
+abbrev pub BeginsDocument : List ℕ → Type 0
+BeginsDocument front = (rest : List ℕ) × (tree : Tree) × IsDocumentText (front ++ rest) tree
+
+-- It is the `>` of the first start tag that breaks a rule on names. What comes before the tag begins a document. With the `>`,
+-- after which markup may begin again for the first time, a skeleton begins, but no document.
+pub record AtBrokenTag (front rest : List ℕ) : Type 0 where
+  pub before : List ℕ
+  pub inner : List ℕ
+  pub more : List ℕ
+  pub is_front : front ≡ before ++ (codes "<" ++ inner)
+  pub is_close : rest ≡ codes ">" ++ more
+  pub is_markup : MarkupMayBegin before
+  pub is_document : BeginsDocument before
+  pub is_end : MarkupMayBegin (front ++ codes ">")
+  pub is_first : (part others : List ℕ) → inner ≡ part ++ (codes ">" ++ others) → MarkupMayBegin (before ++ (codes "<" ++ (part ++ codes ">"))) → ⊥
+  pub is_none : BeginsNone (front ++ codes ">")
+
 -- It stands in none of these places.
 abbrev pub IsElsewhere : List ℕ → List ℕ → Type 0
 IsElsewhere front rest = (AtSubset front rest → ⊥) × (AtEncoding front rest → ⊥) × (AtEntity front rest → ⊥) × (AtDeep front rest → ⊥)
 
--- The spot of a text that is parted at its first fault, so many bytes behind its beginning: the first that fits. A start tag that
--- breaks a rule on names comes first and is refused behind its `>`; where none does, no skeleton goes on with the failing character.
+-- The spot of a text that is parted at its first fault, so many bytes after its beginning: the first that fits. A start tag that
+-- breaks a rule on names comes first and is refused after its `>`; where none does, no skeleton goes on with the failing character.
 abbrev pub IsSpot : Spot → List ℕ → List ℕ → ℕ → Type 0
-IsSpot (At place) front rest at = (IsFirstTag front rest × (place ≡ suc at)) ⊎ (IsLongest front rest × IsElsewhere front rest × (place ≡ at))
+IsSpot (At place) front rest at = (AtBrokenTag front rest × (place ≡ suc at)) ⊎ (IsLongest front rest × IsElsewhere front rest × (place ≡ at))
 IsSpot Subset front rest at = IsLongest front rest × AtSubset front rest
 IsSpot Encoding front rest at = IsLongest front rest × AtEncoding front rest × (AtSubset front rest → ⊥)
 IsSpot Entity front rest at = IsLongest front rest × AtEntity front rest × (AtSubset front rest → ⊥) × (AtEncoding front rest → ⊥)
