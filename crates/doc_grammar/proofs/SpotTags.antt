@@ -260,6 +260,14 @@ no_content (ended st) i k = i
 no_markup : (front : List ℕ) (s : State) → after opened front start ≡ Some s → IsInTag s → MarkupMayBegin front → ⊥
 no_markup front s e i k = no_content s i (markup_place front s (past_of front s e) (takes_markup front s e k))
 
+-- where markup may begin, a document is begun
+content_document : (before : List ℕ) (s : State) → after opened before start ≡ Some s → IsContent s → BeginsDocument before
+content_document before (content n text st) e k = begins_document before n text st e
+content_document before s e k = absurd k
+
+pub document_here : (before : List ℕ) (s : State) → after opened before start ≡ Some s → MarkupMayBegin before → BeginsDocument before
+document_here before s e k = content_document before s e (markup_place before s (past_of before s e) (takes_markup before s e k))
+
 tag_reached : (before inner : List ℕ) (n : ℕ) (text : List ℕ) (st : Stack) (s : State) → after opened before start ≡ Some (content n text st) → after opened inner (tag text st) ≡ Some s → after opened (before ++ 60 ∷ inner) start ≡ Some s
 unfolding step
 tag_reached before inner n text st s e d = after_both opened before (60 ∷ inner) start (content n text st) s e d
