@@ -1,6 +1,6 @@
--- Which spot a refused text gets, in the words of the grammar alone (XML 1.0, 2.1, 2.4, 2.8, 3.1, 4.1
--- and 4.3.3; Namespaces in XML 1.0, 5 and 6). The text is parted where it fails, into the front, which
--- begins the skeleton of some document, and the rest, whose first character is the failing one.
+-- Which spot a refused text gets, in the words of the grammar alone (XML 1.0, 2.1, 2.4, 2.8, 3.1,
+-- 4.1 and 4.3.3; Namespaces in XML 1.0, 5 and 6). The text is parted where it fails, into the front,
+-- which begins the skeleton of some document, and the rest, whose first character is the failing one.
 use Rattle.std.specs.Prelude.{◌≡◌, ℕ, suc, ◌≤◌, List, [], ◌∷◌, ◌++◌, Bool, true, false, ◌||◌, ◌==◌, ◌⊎◌, length, codes}
 use Rattle.std.specs.List.{list_all}
 use Rattle.std.specs.Str.{chars}
@@ -17,8 +17,8 @@ use Rattle.doc_grammar.specs.Faults.{valid_front}
 use Rattle.doc_grammar.specs.declared.spots.Spot.{Spot}
 use Rattle.doc_grammar.specs.declared.spots.Spot.TheVariants.{At, Subset, Encoding, Entity, Deep}
 
--- Markup begins with a `<` after the front: a comment or an instruction may begin, and `<` is no text,
--- after which a space could stand.
+-- Markup begins with a `<` after the front: a comment or an instruction may begin, and `<` is no
+-- text, after which a space could stand.
 abbrev pub MarkupMayBegin : List ℕ → Type 0
 MarkupMayBegin front =
     Begins (front ++ codes "<!") × Begins (front ++ codes "<?") × (Begins (front ++ codes "< ") → ⊥)
@@ -42,7 +42,7 @@ pub data Begun : Form → List ℕ → Form → Type 0 where
   right : {class : ℕ → Bool} {c : ℕ} {f f' g : Form} {cs : List ℕ} → class c ≡ false
       → Begun f' (c ∷ cs) g → Begun (choice class f f') (c ∷ cs) g
 
--- It is `[` in a DOCTYPE after its name or identifier: with `>` in its place the DOCTYPE were whole.
+-- It is `[` in a DOCTYPE after its name or identifier: with `>` in its place that would be whole.
 pub record AtSubset (front rest : List ℕ) : Type 0 where
   pub before : List ℕ
   pub inner : List ℕ
@@ -114,9 +114,9 @@ pub record AtDeep (front rest : List ℕ) : Type 0 where
 abbrev pub BeginsDocument : List ℕ → Type 0
 BeginsDocument front = (rest : List ℕ) × (tree : Tree) × IsDocumentText (front ++ rest) tree
 
--- It is the `>` of the first start tag that breaks a rule on names. What comes before the tag begins a
--- document. With the `>`, after which markup may begin again for the first time, the front begins a
--- skeleton, but no document.
+-- It is the `>` of the first start tag that breaks a rule on names. What comes before the tag begins
+-- a document. With the `>`, after which markup may begin again for the first time, the front begins
+-- a skeleton, but no document.
 pub record AtBrokenTag (front rest : List ℕ) : Type 0 where
   pub before : List ℕ
   pub inner : List ℕ
@@ -138,14 +138,14 @@ IsElsewhere front rest =
     × (AtEntity front rest → ⊥)
     × (AtDeep front rest → ⊥)
 
--- No skeleton goes on with the failing character, and no start tag before it breaks a rule on names.
+-- No skeleton goes on with it, and no start tag breaks a rule on names before.
 abbrev pub IsSkeletonFault : List ℕ → List ℕ → Type 0
 IsSkeletonFault front rest =
     IsLongest front rest
     × ((before after : List ℕ) → front ++ rest ≡ before ++ after → AtBrokenTag before after → ⊥)
 
--- The spot of a text that is parted at its first fault, so many bytes after its beginning: the first
--- that fits. A start tag that breaks a rule on names comes first, and is refused after its `>`.
+-- The spot of a text that is parted at its first fault, so many bytes after its beginning: the
+-- first that fits. A start tag that breaks a rule on names comes first, and is refused after its `>`.
 abbrev pub IsSpot : Spot → List ℕ → List ℕ → ℕ → Type 0
 IsSpot (At place) front rest at =
     (AtBrokenTag front rest × (place ≡ suc at))
