@@ -1,6 +1,7 @@
 -- Which spot a refused text gets, in the words of the grammar alone (XML 1.0, 2.1, 2.4, 2.8, 3.1,
--- 4.1 and 4.3.3; Namespaces in XML 1.0, 5 and 6). The text is parted where it fails, into the front,
--- which begins the skeleton of some document, and the rest, whose first character is the failing one.
+-- 4.1 and 4.3.3; Namespaces in XML 1.0, 5 and 6). The text is parted where it fails, into the
+-- front, which begins the skeleton of some document, and the rest, whose first character is the
+-- failing one.
 use Rattle.std.specs.Prelude.{◌≡◌, ℕ, suc, ◌≤◌, List, [], ◌∷◌, ◌++◌, Bool, true, false, ◌||◌, ◌==◌, ◌⊎◌, length, codes}
 use Rattle.std.specs.List.{list_all}
 use Rattle.std.specs.Str.{chars}
@@ -114,9 +115,9 @@ pub record AtDeep (front rest : List ℕ) : Type 0 where
 abbrev pub BeginsDocument : List ℕ → Type 0
 BeginsDocument front = (rest : List ℕ) × (tree : Tree) × IsDocumentText (front ++ rest) tree
 
--- It is the `>` of the first start tag that breaks a rule on names. What comes before the tag begins
--- a document. With the `>`, after which markup may begin again for the first time, the front begins
--- a skeleton, but no document.
+-- It is the `>` of the first start tag that breaks a rule on names. What comes before the tag
+-- begins a document. With the `>`, after which markup may begin again for the first time, the
+-- front begins a skeleton, but no document.
 pub record AtBrokenTag (front rest : List ℕ) : Type 0 where
   pub before : List ℕ
   pub inner : List ℕ
@@ -145,7 +146,8 @@ IsSkeletonFault front rest =
     × ((before after : List ℕ) → front ++ rest ≡ before ++ after → AtBrokenTag before after → ⊥)
 
 -- The spot of a text that is parted at its first fault, so many bytes after its beginning: the
--- first that fits. A start tag that breaks a rule on names comes first, and is refused after its `>`.
+-- first that fits. A start tag that breaks a rule on names comes first, and is refused after its
+-- `>`.
 abbrev pub IsSpot : Spot → List ℕ → List ℕ → ℕ → Type 0
 IsSpot (At place) front rest at =
     (AtBrokenTag front rest × (place ≡ suc at))
