@@ -28,6 +28,7 @@ pub mod Probes
 pub mod SpotForms
 pub mod SpotHistory
 pub mod SpotFits
+pub mod SpotTags
 pub mod SpotPlaces
 pub mod SpotTurns
 pub mod SpotLaw

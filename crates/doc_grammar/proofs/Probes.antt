@@ -1,4 +1,4 @@
--- What the front of a skeleton may go on with is what the reader takes behind it.
+-- What the front of a skeleton may go on with is what the reader takes after it.
 use Rattle.std.proofs.Common.{◌≡◌, ℕ, List, [], ◌∷◌, ◌++◌, refl, sym, ◌∙◌, ap, Option, Some, None, append_assoc}
 use Rattle.std.specs.Option.{option_and_then}
 use Rattle.std.proofs.lemmas.Option.{none-some}
@@ -46,12 +46,18 @@ no_rest rules w (c ∷ more) ts s e r = go (step rules s c) (steps rules w s c (
     go (Some t) k d again = again t d (k.0 r)
 
 -- a front goes on with what the reader takes
+pub goes_on : (front more : List ℕ) (m t : State) → after anyhow front start ≡ Some m → after anyhow more m ≡ Some t → Begins (front ++ more)
+goes_on front more m t e d =
+    begins (front ++ more) t (after_both anyhow front more start m t e d) (after_lives anyhow more m t d (after_lives anyhow front start m e tt))
+
 pub begins_with : (front more : List ℕ) (m t : State) → after opened front start ≡ Some m → after anyhow more m ≡ Some t → Begins (front ++ more)
-begins_with front more m t e d =
-    begins (front ++ more) t (after_both anyhow front more start m t (after_anyhow front start m e) d) (after_lives anyhow more m t d (after_lives opened front start m e tt))
+begins_with front more m t e d = goes_on front more m t (after_anyhow front start m e) d
 
 -- and with nothing else
-pub begins_not : (front more : List ℕ) (m : State) → after opened front start ≡ Some m → after anyhow more m ≡ None → Begins (front ++ more) → ⊥
-begins_not front more m e d b =
+pub stops_on : (front more : List ℕ) (m : State) → after anyhow front start ≡ Some m → after anyhow more m ≡ None → Begins (front ++ more) → ⊥
+stops_on front more m e d b =
     let t : IsText anyhow (front ++ (more ++ b.0)) b.1 = rw (append_assoc front more b.0) at b.2 in
-    no_rest anyhow b.1 more b.0 m d ((prefix_to anyhow b.1 front (more ++ b.0) start m (after_anyhow front start m e)).0 (top t))
+    no_rest anyhow b.1 more b.0 m d ((prefix_to anyhow b.1 front (more ++ b.0) start m e).0 (top t))
+
+pub begins_not : (front more : List ℕ) (m : State) → after opened front start ≡ Some m → after anyhow more m ≡ None → Begins (front ++ more) → ⊥
+begins_not front more m e d b = stops_on front more m (after_anyhow front start m e) d b

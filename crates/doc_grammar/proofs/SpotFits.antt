@@ -10,7 +10,7 @@ use Rattle.xt_tree.specs.declared.trees.Tree.TheVariants.{Doc}
 use Rattle.doc_grammar.specs.Characters.{starts_name, is_name_char}
 use Rattle.doc_grammar.specs.RawNames.{written_name}
 use Rattle.doc_grammar.specs.Scopes.{opened}
-use Rattle.doc_grammar.specs.Document.{limit, EndTag, element_of, text_nodes}
+use Rattle.doc_grammar.specs.Document.{limit, Rules, EndTag, element_of, text_nodes}
 use Rattle.doc_grammar.specs.Document as doc
 use Rattle.doc_grammar.specs.Forms.{Form, Part, form_part}
 use Rattle.doc_grammar.specs.Forms as form
@@ -24,7 +24,7 @@ use Rattle.doc_grammar.proofs.Residue.{Inside, top, topped}
 use Rattle.doc_grammar.proofs.Residue as residue
 use Rattle.doc_grammar.proofs.Completions.{end_spelled}
 use Rattle.doc_grammar.proofs.FirstFaults.{prefix_to, after_anyhow}
-use Rattle.doc_grammar.proofs.Probes.{after_then, after_both, begins_with, begins_not}
+use Rattle.doc_grammar.proofs.Probes.{goes_on, stops_on, after_then, after_both, begins_with, begins_not}
 use Rattle.doc_grammar.proofs.SpotForms.{is_end, is_code, lacks_part, close_spelled, in_value, name_short}
 use Rattle.doc_grammar.proofs.SpotHistory.{Behind, InDoctype, InXml, PastForm, in_doctype, in_xml, IsPart, PastReference, Past}
 
@@ -42,12 +42,15 @@ tag_asks : (n : ℕ) (text : List ℕ) (st : Stack) → after anyhow (60 ∷ 63 
 unfolding step
 tag_asks n text st = refl
 
-pub markup_begins : (before : List ℕ) (n : ℕ) (text : List ℕ) (st : Stack) → after opened before start ≡ Some (content n text st) → MarkupMayBegin before
-markup_begins before n text st e = (
-  begins_with before (60 ∷ 33 ∷ []) (content n text st) (bang text st) e (tag_bangs n text st),
-  begins_with before (60 ∷ 63 ∷ []) (content n text st) (question text st) e (tag_asks n text st),
-  begins_not before (60 ∷ 32 ∷ []) (content n text st) e (tag_stops n text st),
+pub markup_goes_on : (before : List ℕ) (n : ℕ) (text : List ℕ) (st : Stack) → after anyhow before start ≡ Some (content n text st) → MarkupMayBegin before
+markup_goes_on before n text st e = (
+  goes_on before (60 ∷ 33 ∷ []) (content n text st) (bang text st) e (tag_bangs n text st),
+  goes_on before (60 ∷ 63 ∷ []) (content n text st) (question text st) e (tag_asks n text st),
+  stops_on before (60 ∷ 32 ∷ []) (content n text st) e (tag_stops n text st),
 )
+
+pub markup_begins : (before : List ℕ) (n : ℕ) (text : List ℕ) (st : Stack) → after opened before start ≡ Some (content n text st) → MarkupMayBegin before
+markup_begins before n text st e = markup_goes_on before n text st (after_anyhow before start (content n text st) e)
 
 -- what may follow `&` in a reference
 record Refers (x : State) : Type 0 where
@@ -78,22 +81,22 @@ reference_begins before at x f e d =
 
 -- end tags for all that is open
 
-record Ended (n : ℕ) (text : List ℕ) (st : Stack) : Type 0 where
-  ts : List ℕ
-  w : Tree
-  tags : EndTags (depth st) ts
-  inside : Inside anyhow w n text st ts
+pub record Ended (rules : Rules) (n : ℕ) (text : List ℕ) (st : Stack) : Type 0 where
+  pub ts : List ℕ
+  pub w : Tree
+  pub tags : EndTags (depth st) ts
+  pub inside : Inside rules w n text st ts
 
-record EndedChild (st : Stack) (n : Tree) : Type 0 where
-  ts : List ℕ
-  w : Tree
-  tags : EndTags (depth st) ts
-  inside : Inside anyhow w 0 [] (with_child n st) ts
+record EndedChild (rules : Rules) (st : Stack) (n : Tree) : Type 0 where
+  pub ts : List ℕ
+  pub w : Tree
+  pub tags : EndTags (depth st) ts
+  pub inside : Inside rules w 0 [] (with_child n st) ts
 
-ended_child : (st : Stack) (n : Tree) → EndedChild st n
-ended_child (ground l kids ds) n = record { ts = []; w = Doc (forest_of (kids ++ n ∷ [])); tags = cases.none; inside = top doc.ends }
-ended_child (element name o kids st) n =
-    let k = ended_child st (element_of o ((kids ++ n ∷ []) ++ [])) in
+ended_child : (rules : Rules) (st : Stack) (n : Tree) → EndedChild rules st n
+ended_child rules (ground l kids ds) n = record { ts = []; w = Doc (forest_of (kids ++ n ∷ [])); tags = cases.none; inside = top doc.ends }
+ended_child rules (element name o kids st) n =
+    let k = ended_child rules st (element_of o ((kids ++ n ∷ []) ++ [])) in
     record {
       ts = 60 ∷ 47 ∷ (written_name name ++ 62 ∷ k.ts);
       w = k.w;
@@ -101,9 +104,9 @@ ended_child (element name o kids st) n =
       inside = residue.ends (end_spelled (written_name name) k.ts) k.inside;
     }
 
-ended_element : (n : ℕ) (text : List ℕ) (name : _) (o : _) (kids : List Tree) (st : Stack) → Ended n text (element name o kids st)
-ended_element n text name o kids st =
-    let k = ended_child st (element_of o (kids ++ text_nodes text)) in
+pub ended_element : (rules : Rules) (n : ℕ) (text : List ℕ) (name : _) (o : _) (kids : List Tree) (st : Stack) → Ended rules n text (element name o kids st)
+ended_element rules n text name o kids st =
+    let k = ended_child rules st (element_of o (kids ++ text_nodes text)) in
     record {
       ts = 60 ∷ 47 ∷ (written_name name ++ 62 ∷ k.ts);
       w = k.w;
@@ -114,7 +117,7 @@ ended_element n text name o kids st =
 -- so many end tags complete what was read
 has_open : (before : List ℕ) (n : ℕ) (text : List ℕ) (name : _) (o : _) (kids : List Tree) (st : Stack) → after opened before start ≡ Some (content n text (element name o kids st)) → HasOpen (suc (depth st)) before
 has_open before n text name o kids st e =
-    let k = ended_element n text name o kids st in
+    let k = ended_element anyhow n text name o kids st in
     (k.ts, k.w, k.tags, topped ((prefix_to anyhow k.w before k.ts start (content n text (element name o kids st)) (after_anyhow before start _ e)).1 k.inside))
 
 -- each reason

@@ -101,7 +101,7 @@ SpaceToo (goes g) = (h : Form) × (form_step g 32 ≡ goes h)
 SpaceToo done = ⊥
 SpaceToo fails = Unit {0}
 
--- behind such a character a space may come
+-- after such a character a space may come
 pub space_too : (d : ℕ) (f : Form) → calm d f ≡ true → SpaceToo (form_step f d)
 space_too d (last p class e) h = chosen SpaceToo (class d) _ _ (λ t. no t (not_true h)) (λ t. tt)
 space_too d (one p class e f) h = chosen SpaceToo (class d) _ _ (λ t. no t (not_true (both h).0)) (λ t. tt)
@@ -234,7 +234,7 @@ name_short at_dash = omega arith
 name_short at_eight = omega arith
 name_short at_quote = omega arith
 
--- the name goes on, or ends, and behind it stands no encoding
+-- the name goes on, or ends, and after it stands no encoding
 abbrev NameGoes : ℕ → ℕ → FormStep → Type 0
 NameGoes q n (goes g) = InName q (suc n) g ⊎ (lacks is_code g ≡ true)
 NameGoes q n done = Unit {0}
@@ -252,7 +252,7 @@ name_on q n g c at_quote = chosen (NameGoes q 5) (is_one q c) _ _ (λ h. inr ref
 abbrev Quiet : Form → Type 0
 Quiet f = (c : ℕ) → is_code (form_part f c) ≡ false
 
--- a form in which encodings stand whole, and not at once behind a choice
+-- a form in which encodings stand whole, and not at once after a choice
 pub data Early : Form → Type 0 where
   free : {f : Form} → lacks is_code f ≡ true → Early f
   here : (q : ℕ) → Early (encoding_name q)

@@ -69,7 +69,7 @@ are_letters [] = true
 are_letters (c ∷ []) = c == 59
 are_letters (c ∷ d ∷ cs) = is_name_char c && are_letters (d ∷ cs)
 
--- what was read of a reference behind `&`
+-- what was read of a reference after `&`
 abbrev pub PastName : Ref → List ℕ → Type 0
 PastName ampersand name = name ≡ []
 PastName letter_a name = IsPart name
@@ -78,7 +78,7 @@ PastName hash name = Unit {0}
 PastName hash_x name = Unit {0}
 PastName (number b n) name = Unit {0}
 
--- a reference that is begun; this is the state behind its `&`
+-- a reference that is begun; this is the state after its `&`
 pub record PastReference (front : List ℕ) (first : State) (r : Ref) : Type 0 where
   pub before : List ℕ
   pub at : State

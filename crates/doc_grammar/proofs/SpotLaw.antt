@@ -1,20 +1,23 @@
 -- The first fault has the spot that the grammar tells, and no other.
-use Rattle.std.proofs.Common.{◌≡◌, ℕ, List, [], ◌∷◌, ◌++◌, refl, sym, subst, ap, ◌∙◌, inl, inr, Some}
+use Rattle.std.proofs.Common.{◌≡◌, ℕ, List, [], ◌∷◌, ◌++◌, refl, sym, subst, ap, ◌∙◌, inl, inr, Some, append_assoc}
 use Rattle.std.specs.Str.{chars}
 use Rattle.doc_grammar.specs.Scopes.{opened}
 use Rattle.doc_grammar.specs.Lines.{text_of, offset}
 use Rattle.doc_grammar.specs.Machine.{State, start, run, Stop, names, deep, entity, subset, encoding, other, stop_at, End, whole, stops}
-use Rattle.doc_grammar.specs.Skeleton.{after, IsLongest, IsFirstTag, IsFirstFault}
+use Rattle.doc_grammar.specs.Document.{IsText}
+use Rattle.doc_grammar.specs.Skeleton.{anyhow, after, Begins, IsLongest, IsFirstFault}
 use Rattle.doc_grammar.specs.Faults.{spot_at, spot_of, valid_front, first_fault}
-use Rattle.doc_grammar.specs.SpotCases.{AtSubset, AtEncoding, AtEntity, AtDeep, IsElsewhere, IsSpot, HasSpot}
+use Rattle.doc_grammar.specs.SpotCases.{AtBrokenTag, IsSkeletonFault, AtSubset, AtEncoding, AtEntity, AtDeep, IsElsewhere, IsSpot, HasSpot}
 use Rattle.doc_grammar.specs.declared.spots.Spot.{Spot}
 use Rattle.doc_grammar.specs.declared.spots.Spot.TheVariants.{At, Subset, Encoding, Entity, Deep}
 use Rattle.doc_grammar.proofs.FirstFaults.{Stands, StopsHere, stands, left_over}
 use Rattle.doc_grammar.proofs.FirstFaults as faults
 use Rattle.doc_grammar.proofs.PlaceLemmas.{place_of}
+use Rattle.doc_grammar.proofs.Probes.{after_parts}
 use Rattle.doc_grammar.proofs.Runs.{runs_document}
 use Rattle.doc_grammar.proofs.SpotFits.{Fits, fits_here}
 use Rattle.doc_grammar.proofs.SpotHistory.{past_of}
+use Rattle.doc_grammar.proofs.SpotTags.{broken_tag, document_here}
 use Rattle.doc_grammar.proofs.SpotTurns.{subset_turns, encoding_turns, entity_turns, deep_turns}
 
 -- where the text stands in a place of its own, the reader tells so
@@ -38,30 +41,95 @@ turns_here why front more c s e w = record {
   to_deep = λ k. w ∙ deep_turns front more c s e k;
 }
 
-is_spot : (why : Stop) (front rest : List ℕ) (at : ℕ) → IsFirstFault why front rest → Fits why front rest → Turns why front rest → IsSpot (spot_at why at) front rest at
-is_spot names front rest at f k t = inl (f, refl)
-is_spot deep front rest at f k t =
-    (f, k, λ x. let e : deep ≡ subset = t.to_subset x in cc, λ x. let e : deep ≡ encoding = t.to_encoding x in cc, λ x. let e : deep ≡ entity = t.to_entity x in cc)
-is_spot entity front rest at f k t = (f, k, λ x. let e : entity ≡ subset = t.to_subset x in cc, λ x. let e : entity ≡ encoding = t.to_encoding x in cc)
-is_spot subset front rest at f k t = (f, k)
-is_spot encoding front rest at f k t = (f, k, λ x. let e : encoding ≡ subset = t.to_subset x in cc)
-is_spot other front rest at f k t =
+append_nil : (cs : List ℕ) → cs ++ [] ≡ cs
+append_nil [] = refl
+append_nil (c ∷ cs) = ap (λ (xs : List ℕ). c ∷ xs) (append_nil cs)
+
+-- where the end of a broken tag stands: in the front, or after it
+data Split (front rest before more : List ℕ) : Type 0 where
+  early : (others : List ℕ) → front ≡ (before ++ 62 ∷ []) ++ others → Split front rest before more
+  late : (others : List ℕ) → before ≡ front ++ others → rest ≡ others ++ 62 ∷ more → Split front rest before more
+
+same_head : {c d : ℕ} {cs ds : List ℕ} → c ∷ cs ≡ d ∷ ds → c ≡ d
+same_head e = cc
+
+same_tail : {c d : ℕ} {cs ds : List ℕ} → c ∷ cs ≡ d ∷ ds → cs ≡ ds
+same_tail e = cc
+
+split : (front rest before more : List ℕ) → front ++ rest ≡ before ++ 62 ∷ more → Split front rest before more
+split [] rest before more e = late before refl e
+split (c ∷ front) rest [] more e = early front (ap (λ (x : ℕ). x ∷ front) (same_head e))
+split (c ∷ front) rest (d ∷ before) more e = go (split front rest before more (same_tail e))
+  where
+    same : c ≡ d
+    same = same_head e
+
+    go : Split front rest before more → Split (c ∷ front) rest (d ∷ before) more
+    go (early others k) = early others (ap (λ (x : ℕ). x ∷ front) same ∙ ap (λ (xs : List ℕ). d ∷ xs) k)
+    go (late others k m) = late others (ap (λ (x : ℕ). x ∷ before) (sym same) ∙ ap (λ (xs : List ℕ). c ∷ xs) k) m
+
+-- with its `>` a broken tag begins a skeleton
+broken_begins : (front rest : List ℕ) → AtBrokenTag front rest → Begins (front ++ 62 ∷ [])
+broken_begins front rest t =
+    let b = t.is_end.0 in
+    let more : IsText anyhow ((front ++ 62 ∷ []) ++ (60 ∷ 33 ∷ b.0)) b.1 = rw (append_assoc (front ++ 62 ∷ []) (60 ∷ 33 ∷ []) b.0) at b.2 in
+    (60 ∷ 33 ∷ b.0, b.1, more)
+
+-- a shorter front begins what a longer one does
+shorter : (front more : List ℕ) → Begins (front ++ more) → Begins front
+shorter front more b =
+    let t : IsText anyhow (front ++ (more ++ b.0)) b.1 = rw (append_assoc front more b.0) at b.2 in (more ++ b.0, b.1, t)
+
+-- what was read before a fault of the skeleton has no broken tag
+no_early : (front others before after' : List ℕ) (s : State) → after opened front start ≡ Some s → front ≡ (before ++ 62 ∷ []) ++ others → AtBrokenTag before after' → ⊥
+no_early front others before after' s e same t =
+    let P : List ℕ → Type 0 = λ x. after opened x start ≡ Some s in
+    let a = after_parts opened (before ++ 62 ∷ []) others start s (subst P same e) in
+    let b = document_here (before ++ 62 ∷ []) a.0 a.1 t.is_end in
+    t.is_none b.0 b.1 b.2
+
+no_late : (front rest others before more : List ℕ) → IsLongest front rest → before ≡ front ++ others → rest ≡ others ++ 62 ∷ more → Begins (before ++ 62 ∷ []) → ⊥
+no_late front rest [] before more l same is b =
+    let P : List ℕ → Type 0 = λ x. Begins (x ++ 62 ∷ []) in
+    l.1 62 more is (subst P (same ∙ append_nil front) b)
+no_late front rest (d ∷ others) before more l same is b =
+    let P : List ℕ → Type 0 = λ x. Begins (x ++ 62 ∷ []) in
+    let Q : List ℕ → Type 0 = λ x. Begins x in
+    let parted = append_assoc front (d ∷ others) (62 ∷ []) ∙ sym (append_assoc front (d ∷ []) (others ++ 62 ∷ [])) in
+    l.1 d (others ++ 62 ∷ more) is (shorter (front ++ d ∷ []) (others ++ 62 ∷ []) (subst Q parted (subst P same b)))
+
+no_broken : (front rest : List ℕ) (s : State) → after opened front start ≡ Some s → IsLongest front rest → (before after' : List ℕ) → front ++ rest ≡ before ++ after' → AtBrokenTag before after' → ⊥
+no_broken front rest s e l before after' same t =
+    let P : List ℕ → Type 0 = λ x. front ++ rest ≡ before ++ x in go (split front rest before t.more (subst P t.is_close same))
+  where
+    go : Split front rest before t.more → ⊥
+    go (early others k) = no_early front others before after' s e k t
+    go (late others k m) = no_late front rest others before t.more l k m (broken_begins before after' t)
+
+is_spot : (why : Stop) (front rest : List ℕ) (at : ℕ) → IsFirstFault why front rest → (IsLongest front rest → (before after' : List ℕ) → front ++ rest ≡ before ++ after' → AtBrokenTag before after' → ⊥) → Fits why front rest → Turns why front rest → IsSpot (spot_at why at) front rest at
+is_spot names front rest at f n k t = inl (broken_tag front rest f, refl)
+is_spot deep front rest at f n k t =
+    ((f, n f), k, λ x. let e : deep ≡ subset = t.to_subset x in cc, λ x. let e : deep ≡ encoding = t.to_encoding x in cc, λ x. let e : deep ≡ entity = t.to_entity x in cc)
+is_spot entity front rest at f n k t = ((f, n f), k, λ x. let e : entity ≡ subset = t.to_subset x in cc, λ x. let e : entity ≡ encoding = t.to_encoding x in cc)
+is_spot subset front rest at f n k t = ((f, n f), k)
+is_spot encoding front rest at f n k t = ((f, n f), k, λ x. let e : encoding ≡ subset = t.to_subset x in cc)
+is_spot other front rest at f n k t =
     let none : IsElsewhere front rest = (
       λ x. let e : other ≡ subset = t.to_subset x in cc,
       λ x. let e : other ≡ encoding = t.to_encoding x in cc,
       λ x. let e : other ≡ entity = t.to_entity x in cc,
       λ x. let e : other ≡ deep = t.to_deep x in cc,
     ) in
-    inr (f, none, refl)
+    inr ((f, n f), none, refl)
 
 spot_stands : (front rest : List ℕ) (why : Stop) (at : ℕ) (s : State) → IsFirstFault why front rest → after opened front start ≡ Some s → StopsHere s rest why → IsSpot (spot_at why at) front rest at
 spot_stands front [] why at s f e h =
     let P : Stop → Type 0 = λ x. IsFirstFault x front [] in
     let Q : Stop → Type 0 = λ x. IsSpot (spot_at x at) front [] at in
-    subst Q (sym h) (is_spot other front [] at (subst P h f) tt (turns_at_end other front))
+    subst Q (sym h) (is_spot other front [] at (subst P h f) (no_broken front [] s e) tt (turns_at_end other front))
 spot_stands front (c ∷ more) why at s f e h =
     let P : Stop → Type 0 = λ x. Fits x front (c ∷ more) in
-    is_spot why front (c ∷ more) at f (subst P (sym h.1) (fits_here front more c s (past_of front s e) h.0)) (turns_here why front more c s e h.1)
+    is_spot why front (c ∷ more) at f (no_broken front (c ∷ more) s e) (subst P (sym h.1) (fits_here front more c s (past_of front s e) h.0)) (turns_here why front more c s e h.1)
 
 -- the spot of a reading that stops
 pub stops_at_spot : (cs front rest : List ℕ) (why : Stop) (at : ℕ) → run opened cs start ≡ stops why rest → cs ≡ front ++ rest → IsSpot (spot_at why at) front rest at
@@ -90,8 +158,8 @@ has_spot bytes = go (run opened (text_of (chars (valid_front bytes))) start) ref
 
 -- only one spot fits
 
-names_apart : {P : Type 0} (front rest : List ℕ) → IsFirstTag front rest → IsLongest front rest → P
-names_apart front rest t l = absurd (l.1 62 t.0.0 t.0.1 t.1)
+names_apart : {P : Type 0} (front rest : List ℕ) → AtBrokenTag front rest → IsSkeletonFault front rest → P
+names_apart front rest t l = absurd (l.1 front rest refl t)
 
 pub one_spot : (s t : Spot) (front rest : List ℕ) (at : ℕ) → IsSpot s front rest at → IsSpot t front rest at → s ≡ t
 one_spot (At p) (At q) front rest at (inl a) (inl b) = ap At (a.1 ∙ sym b.1)

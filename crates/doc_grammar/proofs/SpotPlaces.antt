@@ -18,7 +18,7 @@ use Rattle.doc_grammar.proofs.CharacterFacts.{no}
 use Rattle.doc_grammar.proofs.SpotForms.{calm, SpaceToo, space_too}
 use Rattle.doc_grammar.proofs.SpotHistory.{InDoctype, InXml, PastForm, in_doctype, in_xml, Past}
 
--- behind the step with a character
+-- after the step with a character
 abbrev Next : ℕ → Option State → Option State
 Next c o = option_and_then (after anyhow (c ∷ [])) o
 

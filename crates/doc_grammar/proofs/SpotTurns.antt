@@ -25,19 +25,13 @@ use Rattle.doc_grammar.proofs.FormSteps.{FormGoes, forms_go, one_on}
 use Rattle.doc_grammar.proofs.Probes.{after_parts, begins_with, begins_not}
 use Rattle.doc_grammar.proofs.SpotForms.{is_end, is_code, closes, closes_step, close_part, doctype_closes, name_part}
 use Rattle.doc_grammar.proofs.SpotHistory.{are_letters, past_of}
+use Rattle.doc_grammar.proofs.SpotTags.{takes_markup}
 use Rattle.doc_grammar.proofs.SpotPlaces.{TakesOn, IsContent, IsReferring, markup_place, reference_place}
 
 head_is : {c d : ℕ} {cs ds : List ℕ} → c ∷ cs ≡ d ∷ ds → d ≡ c
 head_is e = cc
 
 -- the state before markup
-
-takes_markup : (before : List ℕ) (m : State) → after opened before start ≡ Some m → MarkupMayBegin before → TakesOn 33 63 (step anyhow m 60)
-takes_markup before m r k = record {
-  on_a = λ e. begins_not before (60 ∷ 33 ∷ []) m r e k.0;
-  on_b = λ e. begins_not before (60 ∷ 63 ∷ []) m r e k.1;
-  no_space = λ t e. k.2 (begins_with before (60 ∷ 32 ∷ []) m t r e);
-}
 
 takes_reference : (before : List ℕ) (m : State) → after opened before start ≡ Some m → ReferenceMayBegin before → TakesOn 97 108 (step anyhow m 38)
 takes_reference before m r k = record {
@@ -105,7 +99,7 @@ deep_turns front more c s e k =
 
 -- references
 
--- a reference by name, behind some of it
+-- a reference by name, after some of it
 abbrev IsNamed : Ref → Type 0
 IsNamed ampersand = ⊥
 IsNamed letter_a = Unit {0}
@@ -335,7 +329,7 @@ code_stops form.encoding c e = refl
 code_stops form.doctype_end c e = absurd (cc)
 code_stops form.elsewhere c e = absurd (cc)
 
--- behind an opening quote of the value, the reader stands before the name
+-- after an opening quote of the value, the reader stands before the name
 value_reached : (inner text : List ℕ) (q : ℕ) (st : Stack) (m : State) → Begun xml_declaration inner (encoding_name q) → after opened inner (targeting (120 ∷ 109 ∷ 108 ∷ []) text st) ≡ Some m → m ≡ forming (encoding_name q) (with_begun st)
 value_reached [] text q st m b e = absurd (xml_not_name q (begun_empty b refl))
 value_reached (c ∷ cs) text q st m b e =

@@ -40,11 +40,13 @@ pub fn stops_at_the_first_fault()
     ensures first { (cs front rest : List ℕ) (why : AnyStop) → run opened cs start ≡ stops why rest → cs ≡ front ++ rest → IsFirstFault why front rest }
 {}
 
-/// The spot of a text that is no document is the first that fits, in the words of the grammar, and only one fits a text that is
-/// parted at its first fault.
+/// A text that is no document has the spot that the grammar tells: the first that fits of a start tag
+/// that breaks a rule on names, an internal subset, another encoding, an entity, an element too many,
+/// and any other place. Only one fits a text that is parted at its fault.
 pub fn spots_fit_the_grammar()
     ensures fits { (bytes : List ℕ) → HasSpot bytes (first_fault bytes) }
-    ensures one { (s t : AnySpot) (front rest : List ℕ) (at : ℕ) → IsSpot s front rest at → IsSpot t front rest at → s ≡ t }
+    ensures one { (s t : AnySpot) (front rest : List ℕ) (at : ℕ) → IsSpot s front rest at
+        → IsSpot t front rest at → s ≡ t }
 {}
 
 /// The place of a fault is the number of bytes before it: the characters of the text are parted there, the first ones have so many
