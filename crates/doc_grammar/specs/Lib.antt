@@ -6,10 +6,10 @@ pub mod Forms
 pub mod Prolog
 pub mod Lexemes
 pub mod Document
+pub mod Declarations
+pub mod Amounts
 pub mod Lexing
 pub mod Places
 pub mod Machine
 pub mod Faults
 pub mod Skeleton
-pub mod Declarations
-pub mod Amounts
