@@ -163,7 +163,8 @@ space_13 : starts_name 13 ≡ false
 unfolding starts_name is_in_ranges
 space_13 = refl
 
-one_of : (P : Type 0) (a b : Bool) → (a ≡ true → P) → (b ≡ true → P) → (a || b) ≡ true → P
+-- what holds by the one test and by the other
+pub one_of : (P : Type 0) (a b : Bool) → (a ≡ true → P) → (b ≡ true → P) → (a || b) ≡ true → P
 one_of P true b f g e = f refl
 one_of P false b f g e = g e
 

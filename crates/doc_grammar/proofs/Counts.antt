@@ -1,5 +1,5 @@
 -- A document has one list of declarations for each element.
-use Rattle.std.proofs.Common.{◌≡◌, ℕ, ◌+◌, List, [], ◌∷◌, ◌++◌, length, refl, sym, arith, length-append}
+use Rattle.std.proofs.Common.{◌≡◌, ℕ, ◌+◌, List, [], ◌∷◌, ◌++◌, length, refl, sym, ap, arith, length-append}
 use Rattle.xt_names.specs.declared.names.Binding.{Binding}
 use Rattle.xt_tree.specs.declared.trees.Tree.{Tree}
 use Rattle.xt_tree.specs.declared.trees.Tree.TheVariants.{Doc, Elem, Text, Comment, Pi, Attr}
@@ -9,7 +9,7 @@ use Rattle.doc_grammar.specs.Lexemes.{Misc}
 use Rattle.doc_grammar.specs.Lexemes as lexemes
 use Rattle.doc_grammar.specs.Document.{Rules, text_nodes, Element, Content, Level, Top}
 use Rattle.doc_grammar.specs.Document as doc
-use Rattle.doc_grammar.specs.Declarations.{in_element, in_content, in_document}
+use Rattle.doc_grammar.specs.Declarations.{in_element, in_content, in_document, IsDeclared}
 use Rattle.doc_grammar.specs.Amounts.{elements_in, element_count}
 
 elements-put : (t : Tree) (f : Forest) → elements_in (put t f) ≡ element_count t + elements_in f
@@ -88,7 +88,8 @@ document_lists {kids = kids} (doc.root {tree = n} m e k) =
 document_lists doc.ends = omega arith
 
 -- one list for each element
-pub lists_are_elements : {rules : Rules} {l : Level} {ts : List ℕ} {w : Tree}
-    (t : Top rules l [] ts w)
-    → length (in_document t) ≡ element_count w
-lists_are_elements t = let e = document_lists t in omega arith
+pub declared_lists : (bytes : List ℕ) (t : Tree) (ds : List (List Binding)) → IsDeclared bytes t ds
+    → length ds ≡ element_count t
+declared_lists bytes t ds d =
+    let e = document_lists d.1.0 in
+    let same = ap (λ (x : List (List Binding)). length x) d.1.1 in omega arith

@@ -10,7 +10,7 @@ use Rattle.doc_grammar.specs.Lexemes as lexemes
 use Rattle.doc_grammar.specs.Document.{QName, Equals, Valued, AtEnd, Attributes, Spaced, EndTag}
 use Rattle.doc_grammar.specs.Document as doc
 
-spaces_size : {ts rest : List ℕ} → Spaces ts rest → length rest ≤ length ts
+pub spaces_size : {ts rest : List ℕ} → Spaces ts rest → length rest ≤ length ts
 spaces_size lexemes.no_space = omega arith
 spaces_size (lexemes.a_space s k) = let low = spaces_size k in omega arith
 

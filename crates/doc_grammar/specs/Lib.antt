@@ -7,11 +7,11 @@ pub mod Forms
 pub mod Prolog
 pub mod Lexemes
 pub mod Document
+pub mod Declarations
+pub mod Amounts
 pub mod Lexing
 pub mod Places
 pub mod Machine
 pub mod Faults
 pub mod Skeleton
-pub mod Declarations
-pub mod Amounts
 pub mod SpotCases

@@ -7,13 +7,13 @@ use Rattle.xt_names.specs.Classes.{is_in_ranges, is_xml_text, begins_name, is_nc
 use Rattle.xt_names.specs.declared.names.Binding.{Binding}
 use Rattle.xt_names.specs.declared.names.Name.{Name}
 use Rattle.xt_tree.specs.declared.attributes.Attribute.{Attribute}
-use Rattle.doc_grammar.specs.Characters.{is_space, is_quote, is_name_char}
+use Rattle.doc_grammar.specs.Characters.{is_space, is_name_char}
 use Rattle.doc_grammar.specs.RawNames.{RawName, plain_name, prefixed_name, RawAttribute, RawTag, tag_named}
 use Rattle.doc_grammar.specs.Lexemes.{Ends, Spaces}
 use Rattle.doc_grammar.specs.Lexemes as lexemes
 use Rattle.doc_grammar.specs.Document.{QName, Equals, Valued, Attributes, AtEnd}
 use Rattle.doc_grammar.specs.Document as doc
-use Rattle.doc_grammar.proofs.CharacterFacts.{colon_name}
+use Rattle.doc_grammar.proofs.CharacterFacts.{colon_name, double_quote}
 use Rattle.doc_writer.specs.Escapes.{escaped_value}
 use Rattle.doc_writer.specs.Written.{qualified, quoted, declaration, declarations, written_attribute, written_attributes, later_prefixes, start_tag}
 use Rattle.doc_writer.specs.Heads.{Head}
@@ -78,10 +78,6 @@ pub a_blank : is_space 32 ≡ true
 unfolding is_space
 a_blank = refl
 
-a_quote : is_quote 34 ≡ true
-unfolding is_quote
-a_quote = refl
-
 abbrev tag : RawName → List RawAttribute → RawTag
 tag name attributes = record { name = name; attributes = attributes }
 
@@ -91,7 +87,8 @@ attribute_back : (front : List RawAttribute) (name raw : RawName) (spelled value
     → Attributes (tag raw (front ++ record { name = name; value = value } ∷ [])) ts whole rest
     → Attributes (tag raw front) (32 ∷ (spelled ++ 61 ∷ 34 ∷ (escaped_value value ++ 34 ∷ ts))) whole rest
 attribute_back front name raw spelled value ts rest whole q x k =
-    doc.space a_blank (doc.attribute q (doc.equals lexemes.no_space lexemes.no_space) a_quote (value_back [] value ts x) k)
+    doc.space a_blank (doc.attribute q (doc.equals lexemes.no_space lexemes.no_space) double_quote
+    (value_back [] value ts x) k)
 
 -- what is written in quotes, before these characters
 quoted_before : (value ts : List ℕ) → quoted value ++ ts ≡ 61 ∷ 34 ∷ (escaped_value value ++ 34 ∷ ts)

@@ -1,5 +1,5 @@
 -- What is read around the root.
-use Rattle.std.proofs.Common.{◌≡◌, ℕ, ◌<◌, ◌≤◌, List, [], ◌∷◌, length, reverse, true, false, ◌⊎◌, inl, inr, refl, ap, arith}
+use Rattle.std.proofs.Common.{◌≡◌, ℕ, ◌<◌, List, [], ◌∷◌, length, reverse, true, false, ◌⊎◌, inl, inr, refl, ap, arith}
 use Rattle.std.proofs.lemmas.List.{length-reverse}
 use Rattle.xt_names.specs.declared.names.Binding.{Binding}
 use Rattle.xt_tree.specs.Forest.{Forest}
@@ -7,10 +7,11 @@ use Rattle.xt_tree.specs.TreeView.{forest_of}
 use Rattle.xt_tree.specs.declared.trees.Tree.{Tree}
 use Rattle.xt_tree.specs.declared.trees.Tree.TheVariants.{Doc}
 use Rattle.doc_grammar.specs.Characters.{is_space}
-use Rattle.doc_grammar.specs.Lexemes.{Ends, Spaces, no_space, a_space, NCName}
+use Rattle.doc_grammar.specs.Lexemes.{Ends, NCName}
 use Rattle.doc_grammar.specs.Prolog.{xml_declaration, doctype_declaration}
 use Rattle.doc_grammar.specs.Document.{Level, blank, fresh, typed, rooted, begun, may_type}
 use Rattle.doc_grammar.specs.Machine.{ground, content, tag, bang, declares, with_begun, finish, finish_ground, whole, stops, other}
+use Rattle.doc_grammar.proofs.Sizes.{spaces_size}
 use Rattle.doc_reader.specs.Reading.{reads, Fails, Ran}
 use Rattle.doc_reader.specs.Sources.{NotNext}
 use Rattle.doc_reader.specs.Spelling.{Spells}
@@ -31,12 +32,11 @@ pub around_ran : (old mid new text text' : List ℕ) (frames frames' : List code
     → reads old (content 0 text (stack_of frames scope (ground l kids ds))) ≡ reads new (content 0 text' (stack_of frames' scope' (ground l' kids' ds')))
 around_ran old mid new text text' frames frames' scope scope' l l' kids kids' ds ds' f s t g m k d n = rw (n, t, g, f, m, k, d) (around_goes old mid text l kids ds s)
 
-spaces_shorter : {ts rest : List ℕ} → Spaces ts rest → length rest ≤ length ts
-spaces_shorter no_space = omega arith
-spaces_shorter (a_space p s) = let low = spaces_shorter s in omega arith
-
 pub spaces_fall : (old mid new : List ℕ) → TakesSpaces true old mid → new ≡ mid → length new < length old
-spaces_fall old mid new s n = let low = spaces_shorter s.4 in let size = ap length s.2 in let same = ap length n in omega arith
+spaces_fall old mid new s n =
+    let low = spaces_size s.4 in
+    let size = ap length s.2 in
+    let same = ap length n in omega arith
 
 pub doctype_fails : (old text : List ℕ) (frames : List code.Frame) (scope : List Binding) (l : Level) (kids : List Tree) (ds : List (List Binding)) → frames ≡ [] → NotNext 45 old → may_type l ≡ false
     → Fails (reads old (bang text (stack_of frames scope (ground l kids ds)))) old

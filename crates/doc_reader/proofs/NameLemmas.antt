@@ -1,13 +1,12 @@
 -- Names that are taken, in the grammar.
-use Rattle.std.proofs.Common.{◌≡◌, ℕ, ◌<◌, ◌≤◌, List, [], ◌∷◌, ◌++◌, length, Bool, true, false, Option, Some, MatchBool, refl, sym, ap, ◌∙◌, append-nil, append_assoc, arith}
+use Rattle.std.proofs.Common.{◌≡◌, ℕ, List, [], ◌∷◌, ◌++◌, length, Bool, true, false, Option, Some, MatchBool, refl, sym, ap, ◌∙◌, append-nil, append_assoc, arith}
 use Rattle.std.proofs.lemmas.Bool.{ne_eqb}
 use Rattle.std.proofs.lemmas.Str.{chars-nil, chars_past_char}
 use Rattle.std.specs.Char.{encode_utf8}
 use Rattle.std.specs.Str.{chars, IsUtf8}
 use Rattle.doc_grammar.specs.Characters.{is_colon}
-use Rattle.doc_grammar.specs.RawNames.{RawName, plain_name, prefixed_name, written_behind}
-use Rattle.doc_grammar.specs.Lexemes.{Ends, Named, NCName}
-use Rattle.doc_grammar.specs.Lexemes as lexemes
+use Rattle.doc_grammar.specs.RawNames.{plain_name, prefixed_name, written_behind}
+use Rattle.doc_grammar.specs.Lexemes.{Ends, NCName}
 use Rattle.doc_grammar.specs.Document.{QName}
 use Rattle.doc_grammar.specs.Document as doc
 use Rattle.doc_reader.specs.Sources.{NotNext, DiffersAt}
@@ -21,19 +20,6 @@ plain old name mid new n e = rw e.0 (doc.plain n (no_colon mid e.1))
 
 pub prefixed : (old prefix mid after local new : List ℕ) → NCName old prefix mid → mid ≡ 58 ∷ after → NCName after local new → QName old (prefixed_name prefix local) new
 prefixed old prefix mid after local new n e l = doc.prefixed (rw e at n) l
-
--- lengths
-
-named_shorter : {read ts name rest : List ℕ} → Named read ts name rest → length rest ≤ length ts
-named_shorter (lexemes.more p n) = let low = named_shorter n in omega arith
-named_shorter (lexemes.whole e) = omega arith
-
-ncname_shorter : {ts name rest : List ℕ} → NCName ts name rest → length rest < length ts
-ncname_shorter (lexemes.ncname s d) = let low = named_shorter d in omega arith
-
-pub qname_shorter : {ts rest : List ℕ} {name : RawName} → QName ts name rest → length rest < length ts
-qname_shorter (doc.plain n e) = ncname_shorter n
-qname_shorter (doc.prefixed n l) = let a = ncname_shorter n in let b = ncname_shorter l in omega arith
 
 -- the text of a name that is taken
 

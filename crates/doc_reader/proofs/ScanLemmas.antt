@@ -5,9 +5,7 @@ use Rattle.std.specs.List.{list_all}
 use Rattle.doc_grammar.specs.Characters.{is_space, starts_name, is_name_char}
 use Rattle.doc_grammar.specs.Lexemes.{Ends, Spaces, Named, NCName}
 use Rattle.doc_grammar.specs.Lexemes as doc
-
-pub no : {b : Bool} {P : Type 0} → b ≡ true → b ≡ false → P
-no a b = cc
+use Rattle.doc_grammar.proofs.CharacterFacts.{no}
 
 -- a run that its first character is of the class of, and what is behind that
 pub record Begun (p : ℕ → Bool) (c : ℕ) (old run new : List ℕ) : Type 0 where

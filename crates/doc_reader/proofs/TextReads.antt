@@ -11,7 +11,7 @@ use Rattle.doc_grammar.specs.Lexing.{ampersand}
 use Rattle.doc_grammar.specs.Scopes.{opened}
 use Rattle.doc_grammar.specs.Document.{Level, blank, fresh, typed, rooted, begun}
 use Rattle.doc_grammar.specs.Machine.{Stack, ground, element, State, content, refers, other, stops, step, or_stop, run}
-use Rattle.doc_grammar.proofs.CharacterFacts.{no, is_other}
+use Rattle.doc_grammar.proofs.CharacterFacts.{no, is_other, open_space}
 use Rattle.doc_reader.specs.Classes.{is_plain_text, is_bracket}
 use Rattle.doc_reader.specs.References.{RefEnd, finds, ref_reads}
 use Rattle.doc_reader.specs.References as refs
@@ -25,10 +25,6 @@ use Rattle.doc_reader.proofs.TagLemmas.{TakesSpaces, spaces_in}
 use Rattle.doc_reader.proofs.ContentLemmas.{IsElement}
 
 -- white space around the root
-
-open_space : is_space 60 ≡ false
-unfolding is_space
-open_space = refl
 
 begun_twice : (l : Level) → begun (begun l) ≡ begun l
 begun_twice blank = refl

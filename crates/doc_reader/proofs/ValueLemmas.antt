@@ -8,7 +8,7 @@ use Rattle.doc_grammar.specs.Lexing.{ampersand}
 use Rattle.doc_grammar.specs.RawNames.{RawName, RawTag, with_attribute}
 use Rattle.doc_grammar.specs.Scopes.{opened}
 use Rattle.doc_grammar.specs.Machine.{Stack, tagged, valued, value_refers, other, step, stops}
-use Rattle.doc_grammar.proofs.CharacterFacts.{no, space_cases, space_text}
+use Rattle.doc_grammar.proofs.CharacterFacts.{no, one_of, space_cases, space_text}
 use Rattle.doc_reader.specs.Classes.{is_plain_value}
 use Rattle.doc_reader.specs.References.{RefEnd, finds, ref_reads}
 use Rattle.doc_reader.specs.References as refs
@@ -67,10 +67,6 @@ pub value_ends : (old new : List ℕ) (t : RawTag) (name : RawName) (q : ℕ) (r
 value_ends old new t name q read st e = ap (λ (x : List ℕ). reads x (valued t name q read st)) e ∙ goes _ _ q new (end_step t name q read st)
 
 -- a reference
-
-one_of : (P : Type 0) (a b : Bool) → (a ≡ true → P) → (b ≡ true → P) → (a || b) ≡ true → P
-one_of P true b f g e = f refl
-one_of P false b f g e = g e
 
 pub quote_cases : (P : ℕ → Type 0) (q : ℕ) → P 34 → P 39 → is_quote q ≡ true → P q
 unfolding is_quote

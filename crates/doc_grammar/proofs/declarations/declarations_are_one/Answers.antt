@@ -1,8 +1,7 @@
-use Rattle.std.proofs.Common.{refl, ◌∙◌, ap, List, length}
-use Rattle.xt_names.specs.declared.names.Binding.{Binding}
+use Rattle.std.proofs.Common.{refl}
 use Rattle.doc_grammar.specs.Declarations.{in_document}
 use Rattle.doc_grammar.proofs.DeclaredReads.{declared_one}
-use Rattle.doc_grammar.proofs.Counts.{lists_are_elements}
+use Rattle.doc_grammar.proofs.Counts.{declared_lists}
 use Rattle.doc_grammar.proofs.declarations.declarations_are_one.Goals as goal
 
 pub returns-clause-some : goal.returns-clause-some
@@ -12,4 +11,4 @@ pub returns-clause-one : goal.returns-clause-one
 returns-clause-one c = declared_one
 
 pub returns-clause-each : goal.returns-clause-each
-returns-clause-each c = λ bytes t ds d. ap (λ (x : List (List Binding)). length x) d.1.1 ∙ lists_are_elements d.1.0
+returns-clause-each c = declared_lists
