@@ -1,12 +1,10 @@
-// Runs at the limits: bytes of a file, elements within each other, rules that are open, levels of a
-// result.
+// Runs at the limits of files, documents, open rules and results.
 use crate::made::{TRANSFORM, files_of, nested, sheet, status_of, widening_sheet};
 use std::alloc::AllocGlobal;
 use std::process::Abort;
 use xt_io::MemSink;
 
-// Whether a run ends with this number and this note, and with an output exactly where the number is
-// 0.
+// Whether a run ends with this number and this note, and writes something only at number 0.
 fn ends_with(
     rt: &(impl Abort + AllocGlobal),
     sheet: &str,
