@@ -109,6 +109,13 @@ on_end axis ax t t' n s h g l =
 pub on_as : (axis ax : Axis) (n s : Spot) → axis ≡ ax → on_axis axis n s ≡ true → on_axis ax n s ≡ true
 on_as axis ax n s h o = subst (λ z. on_axis z n s ≡ true) h o
 
+-- from what lies on the axis to a step along it, and to its end
+pub next_as : (axis ax : Axis) (t t' : Tree) (n s new : Spot) → axis ≡ ax → t' ≡ t → on_axis axis n s ≡ true → (on_axis ax n s ≡ true → Lands ax t' n (is_further ax s) new) → Lands axis t n (is_further axis s) new
+next_as axis ax t t' n s new h g o l = on_next axis ax t t' n s new h g (l (on_as axis ax n s h o))
+
+pub end_as : (axis ax : Axis) (t t' : Tree) (n s : Spot) → axis ≡ ax → t' ≡ t → on_axis axis n s ≡ true → (on_axis ax n s ≡ true → Ends ax t' n (is_further ax s)) → Ends axis t n (is_further axis s)
+end_as axis ax t t' n s h g o l = on_end axis ax t t' n s h g (l (on_as axis ax n s h o))
+
 pub base_skips : (t : Tree) (base : ℕ) (p q new : List ℕ) → base ≡ length p → Skips is_earlier t base q new → Skips is_earlier t (length p) q new
 base_skips t base p q new e s = subst (λ z. Skips is_earlier t z q new) e s
 

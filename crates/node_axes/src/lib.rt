@@ -16,6 +16,3 @@ mod steps;
 
 pub use cursors::Cursor;
 pub use steps::Steps;
-
-#[cfg(test)]
-mod tests;

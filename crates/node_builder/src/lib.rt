@@ -23,10 +23,3 @@ pub use contents::{Content, content_of};
 pub use faults::BuildFault;
 pub use kinds::{Duplicates, Holder};
 pub use simple_contents::simple;
-
-#[cfg(test)]
-mod large_tests;
-#[cfg(test)]
-mod samples;
-#[cfg(test)]
-mod tests;

@@ -13,7 +13,7 @@ use Rattle.xt_types.specs.declared.node_tests.Test.TheVariants as test
 use Rattle.xt_tree.specs.Place.{Place}
 use Rattle.xt_atoms.specs.declared.atoms.Atom.TheVariants as atom
 use Rattle.xt_syntax.specs.declared.exprs.Expr.{Expr}
-use Rattle.xt_syntax.specs.declared.exprs.Clause.TheOpen.{Int, Str, Var, Context, Root, Comma, Or, And, If, Flwor, Quant, General, Value, Is, Before, After, Range, Arith, Minus, Plus, Union, Intersect, Except, InstanceOf, Treat, Castable, Cast, Slash, Step, Filter, Call, ElemC, AttrC, DocC, TextC, CommentC, PiC, Direct}
+use Rattle.xt_syntax.specs.declared.exprs.Clause.TheOpen.{Int, Str, Or, And, General, Slash, Step, Call}
 use Rattle.xt_syntax.specs.Layers.{Kinds, Steps, ExprLayer, expr_gives}
 use Rattle.xt_forms.specs.Quiet.{quiet_call}
 use Rattle.xt_forms.specs.Regular.{is_regular_expr}
@@ -45,51 +45,26 @@ pub data Quietly : Type 0 where
 
 -- what `or`, `and` and `not` take
 unfoldable pub is_truth : Quietly → Bool
-is_truth (integer n) = false
-is_truth (literal t) = false
-is_truth position = false
-is_truth last = false
-is_truth (text_of g) = false
-is_truth (count_of g) = false
 is_truth (attribute g) = true
 is_truth (step g) = true
 is_truth (path g) = true
 is_truth (condition c) = true
-is_truth (numeric c) = false
-is_truth (conjunction c) = false
-is_truth other = false
+is_truth q = false
 
 -- what may stand once at the top of a pattern's predicate
 unfoldable pub is_numeric : Quietly → Bool
-is_numeric (integer n) = false
-is_numeric (literal t) = false
-is_numeric position = false
-is_numeric last = false
-is_numeric (text_of g) = false
-is_numeric (count_of g) = false
-is_numeric (attribute g) = false
-is_numeric (step g) = false
-is_numeric (path g) = false
-is_numeric (condition c) = false
 is_numeric (numeric c) = true
-is_numeric (conjunction c) = false
-is_numeric other = false
+is_numeric q = false
 
 -- what a whole predicate is: an integer and last() stand alone
 unfoldable pub is_predicate : Quietly → Bool
 is_predicate (integer n) = true
-is_predicate (literal t) = false
-is_predicate position = false
 is_predicate last = true
-is_predicate (text_of g) = false
-is_predicate (count_of g) = false
 is_predicate (attribute g) = true
 is_predicate (step g) = true
 is_predicate (path g) = true
 is_predicate (condition c) = true
-is_predicate (numeric c) = false
-is_predicate (conjunction c) = false
-is_predicate other = false
+is_predicate q = false
 
 abbrev pub has_some : List Place → Bool
 has_some [] = false
@@ -98,18 +73,14 @@ has_some (n ∷ rest) = true
 -- What is kept: an integer keeps the node at that position, last() the last one, a path those from which it leads somewhere.
 unfoldable pub holds_at : Quietly → Focus → Bool
 holds_at (integer n) f = compares Eq (atom.Int (pos f.position)) (atom.Int n)
-holds_at (literal t) f = false
-holds_at position f = false
 holds_at last f = nat_eq f.position f.size
-holds_at (text_of g) f = false
-holds_at (count_of g) f = false
 holds_at (attribute g) f = has_some (g f.node)
 holds_at (step g) f = has_some (g f.node)
 holds_at (path g) f = has_some (g f.node)
 holds_at (condition c) f = c f
 holds_at (numeric c) f = c f
 holds_at (conjunction c) f = c f
-holds_at other f = false
+holds_at q f = false
 
 -- forms
 
@@ -132,34 +103,16 @@ all_of all =
 
 unfoldable pub is_attribute_axis : Axis → Bool
 is_attribute_axis axis.Attribute = true
-is_attribute_axis axis.Child = false
-is_attribute_axis axis.Descendant = false
-is_attribute_axis axis.Itself = false
-is_attribute_axis axis.DescendantOrSelf = false
-is_attribute_axis axis.FollowingSibling = false
-is_attribute_axis axis.Following = false
-is_attribute_axis axis.Parent = false
-is_attribute_axis axis.Ancestor = false
-is_attribute_axis axis.PrecedingSibling = false
-is_attribute_axis axis.Preceding = false
-is_attribute_axis axis.AncestorOrSelf = false
+is_attribute_axis along = false
 
 -- an attribute by its name, without predicates
 unfoldable pub is_one_name : NameTest → Bool
-is_one_name names.Any = false
-is_one_name (names.Uri uri) = false
-is_one_name (names.Local local) = false
 is_one_name (names.Exact name) = true
+is_one_name wanted = false
 
 unfoldable pub is_named : Test → Bool
 is_named (test.Named wanted) = is_one_name wanted
-is_named test.Node = false
-is_named test.Text = false
-is_named test.Comment = false
-is_named (test.Pi target) = false
-is_named test.Doc = false
-is_named (test.Elem wanted) = false
-is_named (test.Attr wanted) = false
+is_named wanted = false
 
 abbrev pub is_bare : List Quietly → Bool
 is_bare [] = true
@@ -176,153 +129,73 @@ stepped along wanted tests =
 
 -- a path, with one step more
 unfoldable pub with_step : Nodes → Quietly → Quietly
-with_step next (integer n) = other
-with_step next (literal t) = other
-with_step next position = other
-with_step next last = other
-with_step next (text_of g) = other
-with_step next (count_of g) = other
 with_step next (attribute g) = path (slash_nodes g next)
 with_step next (step g) = path (slash_nodes g next)
 with_step next (path g) = path (slash_nodes g next)
-with_step next (condition c) = other
-with_step next (numeric c) = other
-with_step next (conjunction c) = other
-with_step next other = other
+with_step next a = other
 
 -- a path is read from the left, so behind its last `/` is one step
 unfoldable pub slashed : Quietly → Quietly → Quietly
-slashed a (integer n) = other
-slashed a (literal t) = other
-slashed a position = other
-slashed a last = other
-slashed a (text_of g) = other
-slashed a (count_of g) = other
 slashed a (attribute g) = with_step g a
 slashed a (step g) = with_step g a
-slashed a (path g) = other
-slashed a (condition c) = other
-slashed a (numeric c) = other
-slashed a (conjunction c) = other
-slashed a other = other
+slashed a b = other
 
 -- an attribute that is missing, or whose value is no integer, compares as false
 unfoldable pub compared_with_integer : CompareOp → ℤ → Quietly → Quietly
-compared_with_integer op k (integer n) = other
-compared_with_integer op k (literal t) = other
 compared_with_integer op k position = condition (λ f. compares op (atom.Int (pos f.position)) (atom.Int k))
 compared_with_integer op k last = condition (λ f. compares op (atom.Int (pos f.size)) (atom.Int k))
-compared_with_integer op k (text_of g) = other
 compared_with_integer op k (count_of g) = condition (λ f. compares op (atom.Int (pos (length (g f.node)))) (atom.Int k))
 compared_with_integer op k (attribute g) = numeric (λ f. some_compares op (atom.Int k) (g f.node))
-compared_with_integer op k (step g) = other
-compared_with_integer op k (path g) = other
-compared_with_integer op k (condition c) = other
-compared_with_integer op k (numeric c) = other
-compared_with_integer op k (conjunction c) = other
-compared_with_integer op k other = other
+compared_with_integer op k a = other
 
 unfoldable pub compared_with_literal : CompareOp → List ℕ → Quietly → Quietly
-compared_with_literal op text (integer n) = other
-compared_with_literal op text (literal t) = other
-compared_with_literal op text position = other
-compared_with_literal op text last = other
 compared_with_literal op text (text_of g) = condition (λ f. compares op (atom.Str (g f.node)) (atom.Str text))
-compared_with_literal op text (count_of g) = other
 compared_with_literal op text (attribute g) = condition (λ f. some_compares op (atom.Str text) (g f.node))
 compared_with_literal op text (step g) = condition (λ f. some_compares op (atom.Str text) (g f.node))
 compared_with_literal op text (path g) = condition (λ f. some_compares op (atom.Str text) (g f.node))
-compared_with_literal op text (condition c) = other
-compared_with_literal op text (numeric c) = other
-compared_with_literal op text (conjunction c) = other
-compared_with_literal op text other = other
+compared_with_literal op text a = other
 
 unfoldable pub compared_with_last : CompareOp → Quietly → Quietly
-compared_with_last op (integer n) = other
-compared_with_last op (literal t) = other
 compared_with_last op position = condition (λ f. compares op (atom.Int (pos f.position)) (atom.Int (pos f.size)))
-compared_with_last op last = other
-compared_with_last op (text_of g) = other
-compared_with_last op (count_of g) = other
-compared_with_last op (attribute g) = other
-compared_with_last op (step g) = other
-compared_with_last op (path g) = other
-compared_with_last op (condition c) = other
-compared_with_last op (numeric c) = other
-compared_with_last op (conjunction c) = other
-compared_with_last op other = other
+compared_with_last op a = other
 
 -- the integer, the literal or last() stands on the right
 unfoldable pub compared : CompareOp → Quietly → Quietly → Quietly
 compared op a (integer n) = compared_with_integer op n a
 compared op a (literal t) = compared_with_literal op t a
-compared op a position = other
 compared op a last = compared_with_last op a
-compared op a (text_of g) = other
-compared op a (count_of g) = other
-compared op a (attribute g) = other
-compared op a (step g) = other
-compared op a (path g) = other
-compared op a (condition c) = other
-compared op a (numeric c) = other
-compared op a (conjunction c) = other
-compared op a other = other
+compared op a b = other
 
 -- calls
 
 unfoldable pub called : QuietCall → List ℕ → Quietly
 called call.Constant local = condition (λ f. bytes_eq local (codes "true"))
-called call.Not local = other
 called call.Position local = position
 called call.Last local = last
-called call.Exists local = other
-called call.Count local = other
 called call.NameOf local = text_of (name_text (bytes_eq local (codes "name")))
-called call.Other local = other
+called f local = other
 
 abbrev pub negated : Quietly → Quietly
 negated a = if is_truth a then condition (λ f. not (holds_at a f)) else other
 
 -- exists() of a path, or empty()
 unfoldable pub some_in : Bool → Quietly → Quietly
-some_in exists (integer n) = other
-some_in exists (literal t) = other
-some_in exists position = other
-some_in exists last = other
-some_in exists (text_of g) = other
-some_in exists (count_of g) = other
 some_in exists (attribute g) = condition (λ f. if exists then has_some (g f.node) else not (has_some (g f.node)))
 some_in exists (step g) = condition (λ f. if exists then has_some (g f.node) else not (has_some (g f.node)))
 some_in exists (path g) = condition (λ f. if exists then has_some (g f.node) else not (has_some (g f.node)))
-some_in exists (condition c) = other
-some_in exists (numeric c) = other
-some_in exists (conjunction c) = other
-some_in exists other = other
+some_in exists a = other
 
 unfoldable pub counted : Quietly → Quietly
-counted (integer n) = other
-counted (literal t) = other
-counted position = other
-counted last = other
-counted (text_of g) = other
-counted (count_of g) = other
 counted (attribute g) = count_of g
 counted (step g) = count_of g
 counted (path g) = count_of g
-counted (condition c) = other
-counted (numeric c) = other
-counted (conjunction c) = other
-counted other = other
+counted a = other
 
 unfoldable pub called_with : QuietCall → List ℕ → Quietly → Quietly
-called_with call.Constant local a = other
 called_with call.Not local a = negated a
-called_with call.Position local a = other
-called_with call.Last local a = other
 called_with call.Exists local a = some_in (bytes_eq local (codes "exists")) a
 called_with call.Count local a = counted a
-called_with call.NameOf local a = other
-called_with call.Other local a = other
+called_with f local a = other
 
 unfoldable pub call_gives : QuietCall → List ℕ → List Quietly → Quietly
 call_gives f local [] = called f local
@@ -335,42 +208,13 @@ quietly = record { Clauses = Unit {0}; Exprs = Quietly; Names = Unit {0}; Parts 
 abbrev pub expr_quietly : ExprLayer quietly → Quietly
 expr_quietly (Int n) = integer n
 expr_quietly (Str text) = literal text
-expr_quietly (Var name) = other
-expr_quietly Context = other
-expr_quietly Root = other
-expr_quietly (Comma all) = other
 expr_quietly (Or all) = any_of all
 expr_quietly (And all) = all_of all
-expr_quietly (If arms last_part) = other
-expr_quietly (Flwor parts) = other
-expr_quietly (Quant every_one binds tested) = other
 expr_quietly (General op a b) = compared op a b
-expr_quietly (Value op a b) = other
-expr_quietly (Is a b) = other
-expr_quietly (Before a b) = other
-expr_quietly (After a b) = other
-expr_quietly (Range a b) = other
-expr_quietly (Arith op a b) = other
-expr_quietly (Minus a) = other
-expr_quietly (Plus a) = other
-expr_quietly (Union a b) = other
-expr_quietly (Intersect a b) = other
-expr_quietly (Except a b) = other
-expr_quietly (InstanceOf a kind) = other
-expr_quietly (Treat a kind) = other
-expr_quietly (Castable a kind empty) = other
-expr_quietly (Cast a kind empty) = other
 expr_quietly (Slash a b) = slashed a b
 expr_quietly (Step along node_test tests) = stepped along node_test tests
-expr_quietly (Filter of tests) = other
 expr_quietly (Call name args) = call_gives (quiet_call name) name.local args
-expr_quietly (ElemC name content) = other
-expr_quietly (AttrC name content) = other
-expr_quietly (DocC content) = other
-expr_quietly (TextC content) = other
-expr_quietly (CommentC content) = other
-expr_quietly (PiC name content) = other
-expr_quietly (Direct name attrs parts) = other
+expr_quietly e = other
 
 abbrev pub quietly_steps : Steps quietly
 quietly_steps = record {
@@ -394,19 +238,12 @@ holds_quietly e n at count = holds_at (quietly_of e) (record { node = n; positio
 
 -- a quiet predicate, or one in which an attribute is compared with an integer besides
 unfoldable pub is_pattern_form : Quietly → Bool
-is_pattern_form (integer n) = true
 is_pattern_form (literal t) = false
 is_pattern_form position = false
-is_pattern_form last = true
 is_pattern_form (text_of g) = false
 is_pattern_form (count_of g) = false
-is_pattern_form (attribute g) = true
-is_pattern_form (step g) = true
-is_pattern_form (path g) = true
-is_pattern_form (condition c) = true
-is_pattern_form (numeric c) = true
-is_pattern_form (conjunction c) = true
 is_pattern_form other = false
+is_pattern_form q = true
 
 -- what a text spells that is a predicate of a pattern
 abbrev pub is_pattern_predicate : Expr → Bool

@@ -1,9 +1,10 @@
-//! Tests that cross the syntax crates: how deep expressions and patterns nest, which forms are regular and plain, and
-//! that copies of instructions and stylesheets keep their parts.
+//! Tests of the syntax crates: how deep expressions, patterns and instructions nest, which forms
+//! are regular, plain and quiet, and that copies keep their parts.
 //!
-//! They stand apart from the crates that they test, since proofs of tests over these types are slow, and a change of a test
-//! need not prove those crates again. Two rules keep them short: what a test makes ends by `drop` and not with its block,
-//! and a helper ends the test where memory runs out, so that no `?` leaves while such a value is alive.
+//! They stand apart from the crates that they test, so that a change of a test need not prove those
+//! crates again. Two rules keep their proofs short: what a test makes ends by `drop` and not with
+//! its block, and a helper ends the test where memory runs out, so that no `?` leaves while such a
+//! value is alive.
 #![tactic(auto)]
 
 #[cfg(test)]

@@ -12,6 +12,3 @@ mod stripping;
 
 pub use laws::stripped_trees_are_sound;
 pub use stripping::strip;
-
-#[cfg(test)]
-mod tests;
