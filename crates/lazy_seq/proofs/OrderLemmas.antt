@@ -1,19 +1,17 @@
 -- The order of items is total.
-use Rattle.std.proofs.Common.{◌≡◌, ℕ, List, [], ◌∷◌, length, get_or, ◌+◌, ◌<◌, Bool, true, false, refl, sym, ap, ◌∙◌}
+use Rattle.std.proofs.Common.{◌≡◌, ℕ, List, [], ◌∷◌, length, get_or, ◌+◌, ◌<◌, refl, sym, ap, ◌∙◌}
 use Rattle.std.specs.Prelude.{cond, if◌then◌else◌}
 use Rattle.std.specs.Cmp.{IsTotalOrder, IsStrictWeakOrder}
-use Rattle.std.specs.Cmp.Lexicographic.{slice_cmp}
-use Rattle.std.specs.Ordering.{nat_cmp, ordering_then, ordering_reverse, is_eq, is_lt, eq_by_cmp}
+use Rattle.std.specs.Ordering.{ordering_reverse, is_eq, is_lt, eq_by_cmp}
 use Rattle.std.specs.List.{dedup, dedup_from}
 use Rattle.std.specs.List.Sorted.{IsStrictlySortedBy, IsSortedBy, IsStableBy}
 use Rattle.std.proofs.lemmas.List.Sorted.{ranks_by}
 use Rattle.std.proofs.lemmas.Map.Keys.{sorted_from_all_adjacent}
 use Rattle.std.specs.declared.cmp.Ordering.{Ordering}
-use Rattle.std.specs.declared.cmp.Ordering.TheVariants.{Less, Equal, Greater}
+use Rattle.std.specs.declared.cmp.Ordering.TheVariants.{Less, Greater}
 use Rattle.std.proofs.lemmas.Cmp.{nat_cmp_total, on_total, then_total, lists_total}
-use Rattle.xt_tree.specs.Place.{Place, steps, step_cmp, place_cmp}
+use Rattle.xt_tree.specs.Place.{step_cmp}
 use Rattle.xdm_items.specs.declared.items.Item.{Item}
-use Rattle.xdm_items.specs.declared.items.Item.TheVariants.{Node, Atom}
 use Rattle.lazy_seq.specs.Orders.{item_key, item_cmp, stands_before, in_document_order}
 use Rattle.lazy_seq.specs.Stable.{put_in, stable_order}
 use Rattle.lazy_seq.proofs.StableLemmas.{is_stable_order}
@@ -27,15 +25,6 @@ item_total = on_total item_key (lists_total step_total)
 
 pub item_ranks : IsStrictWeakOrder stands_before
 item_ranks = ranks_by item_total (λ (x : Item). x)
-
-then_equal : (a : Ordering) → ordering_then a Equal ≡ a
-then_equal Less = refl
-then_equal Equal = refl
-then_equal Greater = refl
-
-pub node_order : (m n : Place) → ordering_then (nat_cmp m.number n.number) (place_cmp m n) ≡ item_cmp (Node m) (Node n)
-unfolding item_cmp item_key
-node_order m n = ap (λ (o : Ordering). ordering_then o (place_cmp m n)) (sym (then_equal (nat_cmp m.number n.number)))
 
 -- each before the next
 pub rises_all : (xs : List Item) → ((k : ℕ) (d : Item) → k + 1 < length xs → item_cmp (get_or xs k d) (get_or xs (k + 1) d) ≡ Less) → IsStrictlySortedBy item_cmp xs

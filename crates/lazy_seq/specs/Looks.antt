@@ -1,7 +1,7 @@
 -- What a look at the top of a stack finds.
-use Rattle.std.specs.Prelude.{◌≡◌, ℕ, ◌+◌, ◌≤◌, ◌<◌, [], Bool, true, false}
+use Rattle.std.specs.Prelude.{◌≡◌, ◌<◌, [], Bool, true, false}
 use Rattle.lazy_seq.specs.Flow.{Flow, has_item}
-use Rattle.lazy_seq.specs.Stacks.{parts_flow, total_weight}
+use Rattle.lazy_seq.specs.Stacks.{parts_flow}
 use Rattle.lazy_seq.specs.declared.stacks.Top.{Top}
 use Rattle.lazy_seq.specs.declared.stacks.Top.TheVariants.{Ready, Nothing, Stack}
 

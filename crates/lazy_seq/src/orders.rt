@@ -37,7 +37,7 @@ fn rises(items: &[Item]) -> bool
 }
 
 /// The order of two nodes: by the number of the tree, and then document order.
-#[tactic(auto, using(crate::proofs::OrderLemmas::node_order), unfolding(crate::specs::Orders::item_cmp, crate::specs::Orders::item_key))]
+#[tactic(auto, unfolding(crate::specs::Orders::item_cmp, crate::specs::Orders::item_key))]
 fn order_items(a: &Item, b: &Item) -> Ordering
     ensures { result ≡ item_cmp a.now b.now }
 {

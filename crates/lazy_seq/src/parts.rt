@@ -50,7 +50,8 @@ pub(crate) fn count_parts(parts: &[Seq]) -> Result<Option<u64>, AllocError>
 
 /// The sum of two counts, where none stands for more than 2^63-1.
 fn sum(total: u64, more: Option<u64>) -> Option<u64>
-    ensures { (n : ℕ) → SomeIff more (n < 2 ^ 63) n → SomeIff result (total + n < 2 ^ 63) (total + n) }
+    ensures { (n : ℕ) → SomeIff more (n < 2 ^ 63) n
+        → SomeIff result (total + n < 2 ^ 63) (total + n) }
 {
     match more {
         Some(more) => {

@@ -1,4 +1,4 @@
-use Rattle.std.proofs.Common.{rules, ◌≡◌, sym, subst, ap, ◌∙◌}
+use Rattle.std.proofs.Common.{rules, subst, ◌∙◌}
 use Rattle.std.specs.List.Sorted.{IsStrictlySortedBy, IsStableBy}
 use Rattle.std.specs.Ordering.{eq_by_cmp}
 use Rattle.std.proofs.lemmas.Fn.{dedup_same}

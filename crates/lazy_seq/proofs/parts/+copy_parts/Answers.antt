@@ -1,4 +1,4 @@
-use Rattle.std.proofs.Common.{rules, ◌≡◌, ◌≤◌, ◌<◌, sym, ap, ◌∙◌, arith}
+use Rattle.std.proofs.Common.{sym, ap, ◌∙◌, arith}
 use Rattle.lazy_seq.specs.Flow.{Flow}
 use Rattle.lazy_seq.specs.Shapes.{flow_of}
 use Rattle.lazy_seq.specs.Stacks.{total_weight}

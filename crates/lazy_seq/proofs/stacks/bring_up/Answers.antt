@@ -1,4 +1,4 @@
-use Rattle.std.proofs.Common.{◌≡◌, true, Ok, Bool, Result, sym, ap, ◌∙◌}
+use Rattle.std.proofs.Common.{Ok, Bool, Result, sym, ap, ◌∙◌}
 use Rattle.std.specs.declared.alloc.AllocError.{AllocError}
 use Rattle.lazy_seq.specs.Flow.{has_item}
 use Rattle.lazy_seq.proofs.stacks.bring_up.Goals as goal

@@ -1,6 +1,5 @@
-use Rattle.std.proofs.Common.{rules, ◌≡◌, ◌≤◌, ◌<◌, ◌-◌, true, suc, length, slice_get, refl, sym, ap, ◌∙◌, arith}
-use Rattle.lazy_seq.specs.Flow.{has_item}
-use Rattle.lazy_seq.proofs.StackLemmas.{next_top, same_top, reach_top, first_top, ready_top, on_err}
+use Rattle.std.proofs.Common.{◌≡◌, ◌-◌, suc, length, sym, ap, ◌∙◌, arith}
+use Rattle.lazy_seq.proofs.StackLemmas.{next_top, same_top, on_err}
 use Rattle.lazy_seq.proofs.stacks.next_of_parts.Goals as goal
 
 pub returns-clause-ok : goal.returns-clause-ok

@@ -1,5 +1,5 @@
-use Rattle.std.proofs.Common.{rules, ◌≡◌, ◌<◌, ◌≤◌, ◌-◌, suc, length, get_or, refl, sym, ap, ◌∙◌, arith}
-use Rattle.lazy_seq.proofs.StackLemmas.{Turns, Falls, turn_ready, turn_nothing, turn_stack, turn_back}
+use Rattle.std.proofs.Common.{◌≡◌, ◌-◌, suc, length, refl, ap, arith}
+use Rattle.lazy_seq.proofs.StackLemmas.{turn_ready, turn_nothing, turn_stack, turn_back}
 use Rattle.lazy_seq.proofs.stacks.turn.Goals as goal
 
 pub returns-in-Ready-clause-items : goal.returns-in-Ready-clause-items
