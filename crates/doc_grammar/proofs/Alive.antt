@@ -22,7 +22,7 @@ pub record Completed (s : State) : Type 0 where
   pub w : Tree
   pub rest : Rest anyhow w s ts
 
--- `>` behind a slash
+-- `>` after a slash
 record CompletesTag (t : RawTag) (st : Stack) : Type 0 where
   ts : List ℕ
   w : Tree

@@ -91,7 +91,7 @@ value_reference_steps rules w t name quote read r st c ts = go (ref_step r c) (r
   )
   go lexing.fails k = λ b. k b.stands_for b.mid b.reference
 
--- behind `=`
+-- after `=`
 
 space_more : {c d : ℕ} {ts rest : List ℕ} → (is_space d ≡ true → ⊥) → is_space c ≡ true → Spaces (c ∷ ts) (d ∷ rest) → Spaces ts (d ∷ rest)
 space_more n s lexemes.no_space = absurd (n s)
@@ -128,7 +128,7 @@ assigned_steps rules w t name st c ts =
     ))
     (λ q b. no (assigned_quote s b).0 q))
 
--- behind the name of an attribute
+-- after the name of an attribute
 
 equals_on : {rules : Rules} {w : Tree} {t : RawTag} {name : RawName} {st : Stack} {c : ℕ} {ts : List ℕ} → (c == 61) ≡ true → InEquals rules w t name st (c ∷ ts) → InAssigned rules w t name st ts
 equals_on {rules = rules} {w = w} {t = t} {name = name} {st = st} {c = c} {ts = ts} e b = go e b.space b.behind where
@@ -168,7 +168,7 @@ attribute_steps rules w t n st c ts = go (name_step n c) (names_go n c ts) where
       (equals_steps rules w t name st c ts)
   go fails k = λ b. k b.name b.mid b.named
 
--- behind white space
+-- after white space
 
 spaced_space : {rules : Rules} {w : Tree} {t : RawTag} {st : Stack} {c : ℕ} {ts : List ℕ} → is_space c ≡ true → InSpaced rules w t st (c ∷ ts) → InSpaced rules w t st ts
 spaced_space {rules = rules} {w = w} {t = t} {st = st} {c = c} {ts = ts} s b = go b.attributes b.opening where

@@ -34,7 +34,7 @@ gives scope t = refl
 
 -- content
 
--- what completes the stack behind a text
+-- what completes the stack after a text
 pub record Completes (n : ℕ) (text : List ℕ) (st : Stack) : Type 0 where
   pub ts : List ℕ
   pub w : Tree

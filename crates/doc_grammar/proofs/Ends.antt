@@ -1,4 +1,4 @@
--- Where the text ends, only what stands behind a root is whole.
+-- Where the text ends, only what stands after a root is whole.
 use Rattle.std.proofs.Common.{◌≡◌, ℕ, List, [], ◌∷◌, refl, sym, subst}
 use Rattle.xt_names.specs.declared.names.Binding.{Binding}
 use Rattle.xt_tree.specs.declared.trees.Tree.{Tree}
@@ -201,7 +201,7 @@ at_end rules w (ended st) r = absurd (no_ended r)
 pub whole_same : {s t : Tree} {ds es : List (List Binding)} → whole s ds ≡ whole t es → s ≡ t
 whole_same e = cc
 
--- behind a root that is whole
+-- after a root that is whole
 finished_content : (rules : Rules) (tree : Tree) (ds : List (List Binding)) (n : ℕ) (text : List ℕ) (st : Stack) → finish (content n text st) ≡ whole tree ds → Inside rules tree n text st []
 finished_content rules tree ds n text (ground blank kids es) e = absurd (cc)
 finished_content rules tree ds n text (ground fresh kids es) e = absurd (cc)

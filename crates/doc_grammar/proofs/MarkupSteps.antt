@@ -1,4 +1,4 @@
--- The steps behind `<` and `<!`.
+-- The steps after `<` and `<!`.
 use Rattle.std.proofs.Common.{◌≡◌, ℕ, ◌<◌, List, [], ◌∷◌, ◌++◌, refl, arith, true, false, Some, None, ◌==◌, codes}
 use Rattle.std.proofs.lemmas.Bool.{ltb-true, lt-ltb}
 use Rattle.xt_names.specs.declared.names.Binding.{Binding}

@@ -6,7 +6,7 @@ use Rattle.std.proofs.lemmas.Bool.{and_parts, eqb-true}
 use Rattle.doc_grammar.specs.Lines.{lines_behind, lines, mark, text_of, bytes_of, bytes_before, offset}
 use Rattle.doc_grammar.specs.Places.{IsPlace}
 
--- the characters parted behind those that are read as the first n
+-- the characters parted after those that are read as the first n
 record Parted (cr : Bool) (cs : List ℕ) (n : ℕ) : Type 0 where
   before : List ℕ
   behind : List ℕ
@@ -115,7 +115,7 @@ fits cs front rest e = let size = ap length e ∙ length-append front rest in om
 counted : (cs front rest : List ℕ) → lines cs ≡ front ++ rest → length (lines cs) - length rest ≡ length front
 counted cs front rest e = ap (λ xs. length xs - length rest) e ∙ front_count front rest
 
--- behind a byte order mark
+-- after a byte order mark
 place_marked : (cs front rest : List ℕ) → lines cs ≡ front ++ rest → IsPlace (mark ∷ cs) rest (offset (mark ∷ cs) rest)
 unfolding encode_utf8
 place_marked cs front rest e =

@@ -10,7 +10,7 @@ use Rattle.doc_grammar.specs.Document.{Rules, EndTag, element_of, text_nodes, El
 use Rattle.doc_grammar.specs.Document as doc
 use Rattle.doc_grammar.specs.Machine.{Stack, ground, element, depth, scope_of, with_text, with_child, with_aside, with_declared, may_open}
 
--- between the parts of the content of the innermost element, behind so many `]` and a text; or among the children of the document
+-- between the parts of the content of the innermost element, after so many `]` and a text; or among the children of the document
 pub data Inside (rules : Rules) (w : Tree) : ℕ → List ℕ → Stack → List ℕ → Type 0 where
   top : {n : ℕ} {l : Level} {text ts : List ℕ} {kids : List Tree} {ds : List (List Binding)} → Top rules l kids ts w → Inside rules w n text (ground l kids ds) ts
   ends : {n : ℕ} {text end rest : List ℕ} {name : RawName} {o : Opened} {kids : List Tree} {st : Stack} → EndTag (written_name name) end rest → Inside rules w 0 [] (with_child (element_of o (kids ++ text_nodes text)) st) rest → Inside rules w n text (element name o kids st) (60 ∷ 47 ∷ end)
@@ -24,7 +24,7 @@ pub data Inside (rules : Rules) (w : Tree) : ℕ → List ℕ → Stack → List
 pub topped : {rules : Rules} {w : Tree} {n : ℕ} {l : Level} {text ts : List ℕ} {kids : List Tree} {ds : List (List Binding)} → Inside rules w n text (ground l kids ds) ts → Top rules l kids ts w
 topped (top t) = t
 
--- an element is placed where it stands, behind the text before it
+-- an element is placed where it stands, after the text before it
 pub placed : {rules : Rules} {w : Tree} {n : ℕ} (text : List ℕ) (st : Stack) {ts mid : List ℕ} {tree : Tree} → may_open st ≡ true → Element rules (depth st) (scope_of st) ts tree mid → Inside rules w 0 [] (with_child tree (with_text text st)) mid → Inside rules w n text st ts
 placed text (ground l kids ds) m e k = top (doc.root m e (topped k))
 placed text (element name o kids st) m e k = child e k
@@ -34,7 +34,7 @@ pub aside_placed : {rules : Rules} {w : Tree} {n : ℕ} (text : List ℕ) (st : 
 aside_placed text (ground l kids ds) m k = top (doc.aside m (topped k))
 aside_placed text (element name o kids st) m k = aside m k
 
--- a child more, and those behind it
+-- a child more, and those after it
 pub more_kids : (front text_kids kids : List Tree) (n : Tree) → front ++ (text_kids ++ n ∷ kids) ≡ ((front ++ text_kids) ++ n ∷ []) ++ kids
 more_kids front text_kids kids n = rw (append_assoc (front ++ text_kids) (n ∷ []) kids, append_assoc front text_kids (n ∷ kids))
 

@@ -68,7 +68,7 @@ pub record InValueReference (rules : Rules) (w : Tree) (t : RawTag) (name : RawN
   pub reference : RefRest r ts stands_for mid
   pub behind : InValue rules w t name quote (read ++ stands_for ∷ []) st mid
 
--- behind the `=` of an attribute
+-- after the `=` of an attribute
 pub record InAssigned (rules : Rules) (w : Tree) (t : RawTag) (name : RawName) (st : Stack) (ts : List ℕ) : Type 0 where
   pub quote : ℕ
   pub mid : List ℕ

@@ -134,7 +134,7 @@ instruction_mark_goes target read c ts =
     (λ e. at (instruction_mark target read) c 63 ts (on (instruction_mark target (read ++ 63 ∷ []))) e (λ m rest. (another_mark, back_mark)))
     (λ e. chars_on (instruction_mark target read) (instruction target (read ++ 63 ∷ c ∷ [])) c ts (λ m rest k. marked_on x e k) (λ m rest p k. marked_back x e p k)))
 
--- white space behind a target
+-- white space after a target
 
 space_on : {c : ℕ} {target ts rest : List ℕ} {m : Made} → is_space c ≡ true → LexRest (target_space target) (c ∷ ts) m rest → LexRest (target_space target) ts m rest
 space_on s (rests.in_target_space lexemes.no_space e t) = no s e

@@ -19,7 +19,7 @@ use Rattle.doc_grammar.proofs.SoundTexts.{xml_push, xml_join, xml_none, stands_c
 use Rattle.doc_grammar.proofs.SoundNames.{AreBindings, qname_raw, attributes_raw, IsOpened, opened_sound}
 
 -- A node, not a text, inside of k open elements: with it in front, what is sound and low stays so; and it is smaller than what is taken
--- for it, of so many characters before it and so many behind.
+-- for it, of so many characters before it and so many after.
 pub record IsNode (k : ℕ) (n : Tree) (before behind : ℕ) : Type 0 where
   pub sound : (after : Bool) (f : Forest) → are_sound_behind false f ≡ true → are_sound_behind after (put n f) ≡ true
   pub low : (f : Forest) → k + forest_height f ≤ limit → k + forest_height (put n f) ≤ limit
@@ -85,7 +85,7 @@ text_alone k text behind h x = record {
   small = let low = text_size text in omega arith;
 }
 
--- a node behind a text
+-- a node after a text
 node_behind : (k : ℕ) (text : List ℕ) (n : Tree) (kids : List Tree) (before mid behind : ℕ) → is_xml_text text ≡ true → IsNode k n before mid → AreKids k kids mid behind → AreKids k (text_nodes text ++ n ∷ kids) (length text + before) behind
 unfolding is_empty_text
 node_behind k [] n kids before mid behind x node ks = record {

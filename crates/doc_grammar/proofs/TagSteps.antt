@@ -56,7 +56,7 @@ end_steps rules w t st c ts =
     (λ e. at rules w (Opening rules w t st) c 47 ts (Some (slashed t st)) e ((λ k. k), (λ k. k)))
     (λ y k. not_at_end (opening_at_end k) x y))
 
--- behind a name or an attribute
+-- after a name or an attribute
 
 tag_space : {rules : Rules} {w : Tree} {t : RawTag} {st : Stack} {c : ℕ} {ts : List ℕ} → is_space c ≡ true → InTag rules w t st (c ∷ ts) → InSpaced rules w t st ts
 tag_space {rules = rules} {w = w} {t = t} {st = st} {c = c} {ts = ts} s b = go b.attributes b.opening where
@@ -76,7 +76,7 @@ tagged_steps rules w t st c ts =
     (λ s. ((λ b. tag_space s b), (λ b. record { whole = b.whole; rest = b.rest; attributes = doc.space s b.attributes; opening = b.opening })))
     (λ s. through rules w _ (Opening rules w t st (c ∷ ts)) ts _ (λ b. tag_no_space s b) (λ k. record { whole = t; rest = c ∷ ts; attributes = doc.none (opening_at_end k); opening = k }) (end_steps rules w t st c ts))
 
--- behind the `/` of an empty-element tag
+-- after the `/` of an empty-element tag
 
 closing_one : {rules : Rules} {w : Tree} {t : RawTag} {st : Stack} {ts : List ℕ} {o : Opened} → rules (scope_of st) t ≡ Some o → Opening rules w t st (47 ∷ 62 ∷ ts) → Between rules w (with_child (element_of o []) st) ts
 closing_one {rules = rules} {w = w} {t = t} {st = st} {ts = ts} {o = o} e (rests.closes {o = o'} d u) =

@@ -28,7 +28,7 @@ use Rattle.doc_grammar.proofs.Goes.{Goes, choose, through, at, head_same, tail_s
 use Rattle.doc_grammar.proofs.NameSteps.{goes_on_named, ends_named, qname_begins}
 use Rattle.doc_grammar.proofs.ContentSteps.{form_steps}
 
--- behind `<?`
+-- after `<?`
 
 pub xml_space : {c : ℕ} {ts rest : List ℕ} → Spelled xml_declaration (c ∷ ts) rest → is_space c ≡ true
 unfolding xml_declaration
@@ -81,7 +81,7 @@ target_back p (instruction (bare d i) k) = instruction (bare (lexemes.more p d) 
 target_back p (instruction (with_data d i s q e u) k) = instruction (with_data (lexemes.more p d) i s q e u) k
 target_back p (declaration d f k) = declaration (lexemes.more p d) f k
 
--- behind the target
+-- after the target
 
 -- an instruction's rest, and what follows it
 record InInstruction (rules : Rules) (w : Tree) (read text : List ℕ) (st : Stack) (ts : List ℕ) : Type 0 where

@@ -39,7 +39,7 @@ on_one {d = d} {c = c} {ds = ds} {ts = ts} e k = goes_on (not_first d c ds ts e)
 pub back_one : {d c : ℕ} {ds read ts text rest : List ℕ} → (c == d) ≡ false → is_char c ≡ true → UpTo (d ∷ ds) (read ++ c ∷ []) ts text rest → UpTo (d ∷ ds) read (c ∷ ts) text rest
 back_one {d = d} {c = c} {ds = ds} {ts = ts} e p k = lexemes.more p (not_first d c ds ts e) k
 
--- behind the first character of the close
+-- after the first character of the close
 pub on_two : {d e c : ℕ} {ds read ts text rest : List ℕ} → (c == d) ≡ false → (c == e) ≡ false → UpTo (d ∷ e ∷ ds) read (d ∷ c ∷ ts) text rest → (is_char c ≡ true) × UpTo (d ∷ e ∷ ds) (read ++ d ∷ c ∷ []) ts text rest
 on_two {d = d} {e = e} {c = c} {ds = ds} {read = read} {ts = ts} {text = text} {rest = rest} x y k =
     let l = on_one x (goes_on (not_second d e c ds ts y) k).1 in
@@ -50,7 +50,7 @@ back_two {d = d} {e = e} {c = c} {ds = ds} {read = read} {ts = ts} {text = text}
     let P : List ℕ → Type 0 = λ r. UpTo (d ∷ e ∷ ds) r ts text rest in
     lexemes.more q (not_second d e c ds ts y) (back_one x p (subst P (sym (two_more read d c)) k))
 
--- behind the first two
+-- after the first two
 pub on_three : {d f c : ℕ} {ds read ts text rest : List ℕ} → (c == d) ≡ false → (c == f) ≡ false → UpTo (d ∷ d ∷ f ∷ ds) read (d ∷ d ∷ c ∷ ts) text rest → (is_char c ≡ true) × UpTo (d ∷ d ∷ f ∷ ds) (read ++ d ∷ d ∷ c ∷ []) ts text rest
 on_three {d = d} {f = f} {c = c} {ds = ds} {read = read} {ts = ts} {text = text} {rest = rest} x y k =
     let l = on_two x x (goes_on (not_third d d f c ds ts y) k).1 in

@@ -43,12 +43,12 @@ pub data AtEnd : List ℕ → Type 0 where
   slash : {ts : List ℕ} → AtEnd (47 ∷ ts)
 
 mutual
-  -- (S Attribute)* S?, behind the name and the attributes so far
+  -- (S Attribute)* S?, after the name and the attributes so far
   pub data Attributes : RawTag → List ℕ → RawTag → List ℕ → Type 0 where
     none : {t : RawTag} {rest : List ℕ} → AtEnd rest → Attributes t rest t rest
     space : {c : ℕ} {t whole : RawTag} {ts rest : List ℕ} → is_space c ≡ true → Spaced t ts whole rest → Attributes t (c ∷ ts) whole rest
 
-  -- the same behind white space; Attribute ::= Name Eq AttValue
+  -- the same after white space; Attribute ::= Name Eq AttValue
   pub data Spaced : RawTag → List ℕ → RawTag → List ℕ → Type 0 where
     no_more : {t : RawTag} {rest : List ℕ} → AtEnd rest → Spaced t rest t rest
     again : {c : ℕ} {t whole : RawTag} {ts rest : List ℕ} → is_space c ≡ true → Spaced t ts whole rest → Spaced t (c ∷ ts) whole rest
@@ -74,7 +74,7 @@ mutual
     empty : {k : ℕ} {scope : List Binding} {name : RawName} {t : RawTag} {o : Opened} {ts mid rest : List ℕ} → k < limit → QName ts name mid → Attributes (tag_named name) mid t (47 ∷ 62 ∷ rest) → rules scope t ≡ Some o → Element rules k scope (60 ∷ ts) (element_of o []) rest
     full : {k : ℕ} {scope : List Binding} {name : RawName} {t : RawTag} {o : Opened} {ts mid inner end rest : List ℕ} {kids : List Tree} → k < limit → QName ts name mid → Attributes (tag_named name) mid t (62 ∷ inner) → rules scope t ≡ Some o → Content rules (suc k) o.scope 0 [] inner kids (60 ∷ 47 ∷ end) → EndTag (written_name t.name) end rest → Element rules k scope (60 ∷ ts) (element_of o kids) rest
 
-  -- content ::= CharData? ((element | Reference | CDSect | PI | Comment) CharData?)*, behind the text so far and so many `]`, up to an end tag
+  -- content ::= CharData? ((element | Reference | CDSect | PI | Comment) CharData?)*, after the text so far and so many `]`, up to an end tag
   pub data Content (rules : Rules) : ℕ → List Binding → ℕ → List ℕ → List ℕ → List Tree → List ℕ → Type 0 where
     at_end_tag : {k n : ℕ} {scope : List Binding} {text ts : List ℕ} → Content rules k scope n text (60 ∷ 47 ∷ ts) (text_nodes text) (60 ∷ 47 ∷ ts)
     says : {k n c : ℕ} {scope : List Binding} {text ts rest : List ℕ} {kids : List Tree} → may_stand n c ≡ true → Content rules k scope (brackets_behind n c) (text ++ c ∷ []) ts kids rest → Content rules k scope n text (c ∷ ts) kids rest
@@ -111,7 +111,7 @@ may_root fresh = true
 may_root typed = true
 may_root rooted = false
 
--- document ::= XMLDecl? Misc* (doctypedecl Misc*)? element Misc*, behind the children so far; `Misc` here has no white space
+-- document ::= XMLDecl? Misc* (doctypedecl Misc*)? element Misc*, after the children so far; `Misc` here has no white space
 pub data Top (rules : Rules) : Level → List Tree → List ℕ → Tree → Type 0 where
   declares : {kids : List Tree} {ts mid : List ℕ} {w : Tree} → Spelled xml_declaration ts mid → Top rules fresh kids mid w → Top rules blank kids (60 ∷ 63 ∷ 120 ∷ 109 ∷ 108 ∷ ts) w
   space : {l : Level} {c : ℕ} {kids : List Tree} {ts : List ℕ} {w : Tree} → is_space c ≡ true → Top rules (begun l) kids ts w → Top rules l kids (c ∷ ts) w

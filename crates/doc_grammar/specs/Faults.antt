@@ -8,7 +8,7 @@ use Rattle.doc_grammar.specs.Machine.{Stop, names, deep, entity, subset, encodin
 use Rattle.doc_grammar.specs.declared.spots.Spot.{Spot}
 use Rattle.doc_grammar.specs.declared.spots.Spot.TheVariants.{At, Subset, Encoding, Entity, Deep}
 
--- a tag that breaks a rule on names is refused behind its `>`
+-- a tag that breaks a rule on names is refused after its `>`
 abbrev pub spot_at : Stop → ℕ → Spot
 spot_at names at = At (suc at)
 spot_at deep at = Deep

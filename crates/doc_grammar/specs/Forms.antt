@@ -5,7 +5,7 @@ use Rattle.std.specs.Prelude.{◌≡◌, ℕ, List, [], ◌∷◌, Bool, true, f
 pub data Part : Type 0 where
   -- in the value of the encoding, or its closing quote
   encoding : Part
-  -- at the end of a DOCTYPE, behind its name or identifier
+  -- at the end of a DOCTYPE, after its name or identifier
   doctype_end : Part
   elsewhere : Part
 

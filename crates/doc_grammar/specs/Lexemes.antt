@@ -28,7 +28,7 @@ pub data Digits : Base → ℕ → List ℕ → ℕ → List ℕ → Type 0 wher
   more : {b : Base} {c d n m : ℕ} {ts rest : List ℕ} → digit b c ≡ Some d → Digits b (n * base_of b + d) ts m rest → Digits b n (c ∷ ts) m rest
   whole : {b : Base} {n : ℕ} {rest : List ℕ} → Digits b n (59 ∷ rest) n rest
 
--- Reference ::= EntityRef | CharRef, behind `&`: the character that it stands for
+-- Reference ::= EntityRef | CharRef, after `&`: the character that it stands for
 pub data Reference : List ℕ → ℕ → List ℕ → Type 0 where
   amp : {rest : List ℕ} → Reference (97 ∷ 109 ∷ 112 ∷ 59 ∷ rest) 38 rest
   lt : {rest : List ℕ} → Reference (108 ∷ 116 ∷ 59 ∷ rest) 60 rest
@@ -44,7 +44,7 @@ begins_with [] ts = true
 begins_with (d ∷ ds) [] = false
 begins_with (d ∷ ds) (c ∷ ts) = c == d && begins_with ds ts
 
--- Char* - (Char* close Char*), and what closes it, behind the characters so far: up to the first place where that stands
+-- Char* - (Char* close Char*), and what closes it, after the characters so far: up to the first place where that stands
 pub data UpTo (close : List ℕ) : List ℕ → List ℕ → List ℕ → List ℕ → Type 0 where
   more : {c : ℕ} {read ts text rest : List ℕ} → is_char c ≡ true → begins_with close (c ∷ ts) ≡ false → UpTo close (read ++ c ∷ []) ts text rest → UpTo close read (c ∷ ts) text rest
   whole : {text ts rest : List ℕ} → ts ≡ close ++ rest → UpTo close text ts text rest
@@ -56,7 +56,7 @@ section_close = 93 ∷ 93 ∷ 62 ∷ []
 abbrev pub instruction_close : List ℕ
 instruction_close = 63 ∷ 62 ∷ []
 
--- ((Char - '-') | ('-' (Char - '-')))* '-->', behind the characters so far
+-- ((Char - '-') | ('-' (Char - '-')))* '-->', after the characters so far
 pub data CommentText : List ℕ → List ℕ → List ℕ → List ℕ → Type 0 where
   more : {c : ℕ} {read ts text rest : List ℕ} → is_char c ≡ true → (c == 45) ≡ false → CommentText (read ++ c ∷ []) ts text rest → CommentText read (c ∷ ts) text rest
   dash : {c : ℕ} {read ts text rest : List ℕ} → is_char c ≡ true → (c == 45) ≡ false → CommentText (read ++ 45 ∷ c ∷ []) ts text rest → CommentText read (45 ∷ c ∷ ts) text rest

@@ -6,17 +6,17 @@ use Rattle.doc_grammar.specs.Characters.{is_space, is_char, Base, decimal, hexad
 
 -- where the reader stands in a reference
 pub data Ref : Type 0 where
-  -- behind `&`
+  -- after `&`
   ampersand : Ref
-  -- behind `&a`
+  -- after `&a`
   letter_a : Ref
   -- before the rest of a name, which stands for this character
   spelling : List ℕ → ℕ → Ref
-  -- behind `&#`
+  -- after `&#`
   hash : Ref
-  -- behind `&#x`
+  -- after `&#x`
   hash_x : Ref
-  -- behind digits, which make this number so far
+  -- after digits, which make this number so far
   number : Base → ℕ → Ref
 
 -- what a character does in a reference: it goes on, it ends it, or it may not stand here
@@ -54,24 +54,24 @@ ref_step hash c = if c == 120 then on hash_x else first_digit decimal (digit dec
 ref_step hash_x c = first_digit hexadecimal (digit hexadecimal c)
 ref_step (number b n) c = if c == 59 then (if is_char n then stands_for n else fails) else with_digit b n (digit b c)
 
--- where the reader stands in a comment, an instruction behind its target, or a section
+-- where the reader stands in a comment, an instruction after its target, or a section
 pub data Lex : Type 0 where
-  -- behind `<!-`
+  -- after `<!-`
   dash : Lex
-  -- in a comment, behind this text, and then a dash or two
+  -- in a comment, after this text, and then a dash or two
   comment : List ℕ → Lex
   comment_dash : List ℕ → Lex
   comment_dashes : List ℕ → Lex
   -- before the rest of `CDATA[`
   section_open : List ℕ → Lex
-  -- in a section, behind this text, and then a bracket or two
+  -- in a section, after this text, and then a bracket or two
   section : List ℕ → Lex
   section_bracket : List ℕ → Lex
   section_brackets : List ℕ → Lex
-  -- behind a target and a question mark, or white space
+  -- after a target and a question mark, or white space
   target_mark : List ℕ → Lex
   target_space : List ℕ → Lex
-  -- in an instruction's text, and then behind a question mark
+  -- in an instruction's text, and then after a question mark
   instruction : List ℕ → List ℕ → Lex
   instruction_mark : List ℕ → List ℕ → Lex
 

@@ -2,7 +2,7 @@
 use Rattle.std.specs.Prelude.{ℕ, zero, suc, ◌+◌, ◌-◌, List, [], ◌∷◌, length, Bool, true, false, ◌&&◌, ◌==◌, if◌then◌else◌}
 use Rattle.std.specs.Char.{encode_utf8}
 
--- behind a carriage return or not: a line feed directly behind one belongs to it, and one alone is a line feed
+-- after a carriage return or not: a line feed directly after one belongs to it, and one alone is a line feed
 abbrev pub lines_behind : Bool → List ℕ → List ℕ
 lines_behind cr [] = []
 lines_behind cr (c ∷ cs) =

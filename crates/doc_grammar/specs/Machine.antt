@@ -22,12 +22,12 @@ pub data Stack : Type 0 where
   ground : Level → List Tree → List (List Binding) → Stack
   element : RawName → Opened → List Tree → Stack → Stack
 
--- where the reader stands in a name: behind these characters of its last part, or behind its colon
+-- where the reader stands in a name: after these characters of its last part, or after its colon
 pub data NameState : Type 0 where
   reading : Option (List ℕ) → List ℕ → NameState
   coloned : List ℕ → NameState
 
--- what a character does in a name: it goes on, it stands behind the whole name, or it may not stand here
+-- what a character does in a name: it goes on, it stands after the whole name, or it may not stand here
 pub data NameStep : Type 0 where
   on : NameState → NameStep
   behind_name : RawName → NameStep
@@ -43,42 +43,42 @@ name_step (coloned prefix) c = if starts_name c then on (reading (Some prefix) (
 
 -- where the reader stands
 pub data State : Type 0 where
-  -- between the parts of the content, behind so many `]` and a text; or among the children of the document
+  -- between the parts of the content, after so many `]` and a text; or among the children of the document
   content : ℕ → List ℕ → Stack → State
-  -- in a reference, behind a text
+  -- in a reference, after a text
   refers : List ℕ → Ref → Stack → State
-  -- behind `<`, and before that a text
+  -- after `<`, and before that a text
   tag : List ℕ → Stack → State
-  -- behind `<!`
+  -- after `<!`
   bang : List ℕ → Stack → State
-  -- behind `<?`, and in a target
+  -- after `<?`, and in a target
   question : List ℕ → Stack → State
   targeting : List ℕ → List ℕ → Stack → State
   -- in a comment, an instruction or a section
   marked : Lex → List ℕ → Stack → State
-  -- in the XML declaration or a DOCTYPE, behind which this is open
+  -- in the XML declaration or a DOCTYPE, after which this is open
   forming : Form → Stack → State
   -- in the name of a start tag
   naming : NameState → Stack → State
-  -- in a start tag, behind its name or an attribute
+  -- in a start tag, after its name or an attribute
   tagged : RawTag → Stack → State
-  -- in a start tag, behind white space
+  -- in a start tag, after white space
   spaced : RawTag → Stack → State
   -- in the name of an attribute
   attribute : RawTag → NameState → Stack → State
-  -- behind the name of an attribute
+  -- after the name of an attribute
   equals : RawTag → RawName → Stack → State
-  -- behind the `=` of an attribute
+  -- after the `=` of an attribute
   assigned : RawTag → RawName → Stack → State
   -- in the value of an attribute, which began with this quote
   valued : RawTag → RawName → ℕ → List ℕ → Stack → State
   -- in a reference there
   value_refers : RawTag → RawName → ℕ → List ℕ → Ref → Stack → State
-  -- behind the `/` of an empty-element tag
+  -- after the `/` of an empty-element tag
   slashed : RawTag → Stack → State
   -- in the name of an end tag, of which these characters are left
   ending : List ℕ → Stack → State
-  -- in an end tag, behind its name
+  -- in an end tag, after its name
   ended : Stack → State
 
 -- how many elements are open
@@ -116,7 +116,7 @@ abbrev pub with_text : List ℕ → Stack → Stack
 with_text text (ground l kids ds) = ground l kids ds
 with_text text (element name o kids st) = element name o (kids ++ text_nodes text) st
 
--- behind an element
+-- after an element
 abbrev pub behind : Tree → Stack → State
 behind n st = content 0 [] (with_child n st)
 
@@ -152,7 +152,7 @@ in_forming st (form.goes f) = Some (forming f st)
 in_forming st form.done = Some (content 0 [] st)
 in_forming st form.fails = None
 
--- behind `<!`, where no comment begins
+-- after `<!`, where no comment begins
 abbrev pub in_bang : List ℕ → Stack → ℕ → Option State
 in_bang text (ground l kids ds) c = if may_type l then in_forming (ground typed kids ds) (form_step doctype_declaration c) else None
 in_bang text (element name o kids st) c = if c == 91 then Some (marked (section_open (codes "CDATA[")) text (element name o kids st)) else None
@@ -278,7 +278,7 @@ abbrev pub stop_before_name : Stack → Stop
 stop_before_name (ground l kids ds) = other
 stop_before_name (element name o kids st) = deep
 
--- a reference by name: a name begins right behind `&`, or it goes on or ends elsewhere
+-- a reference by name: a name begins right after `&`, or it goes on or ends elsewhere
 abbrev pub stop_in_entity : ℕ → Stop
 stop_in_entity c = if is_name_char c || c == 59 then entity else other
 

@@ -26,7 +26,7 @@ quoted inner = choice (is_one 34) (one elsewhere (is_one 34) 34 (inner 34)) (one
 abbrev pub declaration_end : Form
 declaration_end = many is_space (one elsewhere (is_one 63) 63 (last elsewhere (is_one 62) 62))
 
--- SDDecl ::= S 'standalone' Eq (("'" ('yes' | 'no') "'") | ('"' ('yes' | 'no') '"')), behind its white space
+-- SDDecl ::= S 'standalone' Eq (("'" ('yes' | 'no') "'") | ('"' ('yes' | 'no') '"')), after its white space
 abbrev pub standalone : Form
 standalone =
     literal (codes "standalone") (equals (quoted (λ q. choice (is_one 121) (literal (codes "yes") (one elsewhere (is_one q) q declaration_end)) (literal (codes "no") (one elsewhere (is_one q) q declaration_end)))))
@@ -35,7 +35,7 @@ standalone =
 abbrev pub or_end : ℕ → Form → Form → Form
 or_end c f otherwise = choice is_space (space (choice (is_one c) f otherwise)) declaration_end
 
--- EncodingDecl ::= S 'encoding' Eq ('"' EncName '"' | "'" EncName "'"), behind its white space; the name is UTF-8 in any case
+-- EncodingDecl ::= S 'encoding' Eq ('"' EncName '"' | "'" EncName "'"), after its white space; the name is UTF-8 in any case
 abbrev pub encoding_name : ℕ → Form
 encoding_name q =
     one encoding (is_letter 117) 117 (one encoding (is_letter 116) 116 (one encoding (is_letter 102) 102 (one encoding (is_one 45) 45 (one encoding (is_one 56) 56
@@ -50,7 +50,7 @@ version_number q =
     literal (codes "1.") (some_of (is_between 48 57) 48 (one elsewhere (is_one q) q
     (or_end 101 encoding_declaration (choice (is_one 115) standalone declaration_end))))
 
--- XMLDecl ::= '<?xml' VersionInfo EncodingDecl? SDDecl? S? '?>', behind `<?xml`; VersionInfo ::= S 'version' Eq quoted VersionNum
+-- XMLDecl ::= '<?xml' VersionInfo EncodingDecl? SDDecl? S? '?>', after `<?xml`; VersionInfo ::= S 'version' Eq quoted VersionNum
 unfoldable pub xml_declaration : Form
 xml_declaration = space (literal (codes "version") (equals (quoted version_number)))
 
@@ -90,7 +90,7 @@ system_id = literal (codes "SYSTEM") (space system_literal)
 abbrev pub public_id : Form
 public_id = literal (codes "PUBLIC") (space (quoted (λ q. many (is_in_public q) (one elsewhere (is_one q) q (space system_literal)))))
 
--- doctypedecl ::= '<!DOCTYPE' S Name (S ExternalID)? S? '>', behind `<!`; an internal subset is no part of it
+-- doctypedecl ::= '<!DOCTYPE' S Name (S ExternalID)? S? '>', after `<!`; an internal subset is no part of it
 unfoldable pub doctype_declaration : Form
 doctype_declaration =
     literal (codes "DOCTYPE") (space (one elsewhere starts_colon_name 97 (many is_colon_name_char

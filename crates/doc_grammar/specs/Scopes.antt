@@ -84,7 +84,7 @@ unless_declared (Some prefix) named = Some []
 abbrev pub one_named : List Binding → RawAttribute → Option (List Attribute)
 one_named scope a = unless_declared (declared_by a.name) (with_value a.value (attribute_name scope a.name))
 
--- attributes that are named, and those behind them
+-- attributes that are named, and those after them
 abbrev pub behind_named : List Attribute → Option (List Attribute) → Option (List Attribute)
 behind_named front None = None
 behind_named front (Some rest) = Some (front ++ rest)

@@ -34,7 +34,7 @@ anyhow scope t = Some (or_unbound scope t (opened scope t))
 abbrev pub Begins : List ℕ → Type 0
 Begins front = (rest : List ℕ) × (tree : Tree) × IsText anyhow (front ++ rest) tree
 
--- where the reader stands behind these characters
+-- where the reader stands after these characters
 abbrev pub after : Rules → List ℕ → State → Option State
 after rules [] s = Some s
 after rules (c ∷ cs) s = option_and_then (after rules cs) (step rules s c)

@@ -34,7 +34,7 @@ pub record Allows (k : ℕ) (ds : List Binding) (f : Forest) : Type 0 where
   pub small : length (writing ds) + forest_size f < 2 ^ 64
   pub uris : keep_uris f ≡ true
 
--- the parts of what is known of an element and those behind it
+-- the parts of what is known of an element and those after it
 pub record IsElement (name : Name) (attributes : List Attribute) (kids rest : Forest) : Type 0 where
   pub name_sound : is_sound_name name ≡ true
   pub attributes_sound : are_sound_attributes attributes ≡ true
@@ -87,7 +87,7 @@ module _ (k : ℕ) (ds : List Binding) (name : Name) (attributes : List Attribut
   pub not_deep : k < limit
   not_deep = let deep = all.deep in grind arith
 
--- behind a text or not
+-- after a text or not
 abbrev IsClear : Bool → List ℕ → Type 0
 IsClear true read = Unit {0}
 IsClear false read = read ≡ []

@@ -51,7 +51,7 @@ lone_dash : ends_with 45 (45 ∷ []) ≡ true
 unfolding ends_with
 lone_dash = refl
 
--- behind a text, and behind a text and a dash
+-- after a text, and after a text and a dash
 record ReadsComment (t rest : List ℕ) : Type 0 where
   plain : (read : List ℕ) → IsComment t → CommentText read (t ++ closing rest) (read ++ t) rest
   dashed : (read : List ℕ) → IsComment (45 ∷ t) → CommentText read (45 ∷ (t ++ closing rest)) (read ++ 45 ∷ t) rest

@@ -69,7 +69,7 @@ as_itself c h =
 -- texts
 
 module _ (rules : Rules) (k : ℕ) (scope : List Binding) (ts rest : List ℕ) (kids : List Tree) where
-  -- behind this text
+  -- after this text
   abbrev Behind : ℕ → List ℕ → List ℕ → Type 0
   Behind n text left = Content rules k scope n text left kids rest
 

@@ -21,7 +21,7 @@ use Rattle.doc_laws.proofs.Markup.{comment_back, pi_back}
 use Rattle.doc_laws.proofs.Elements.{opens, KidsBack, element_back}
 use Rattle.doc_laws.proofs.Contents.{Allows, element_parts, element_ready, kids_allowed, not_deep, less, content_back}
 
--- the rest of a document, behind these children
+-- the rest of a document, after these children
 abbrev TopBack : Level → List Tree → Forest → Type 0
 TopBack l front f = Top opened l front (written_forest first_scope f) (Doc (forest_of (front ++ trees (as_written_forest first_scope f))))
 

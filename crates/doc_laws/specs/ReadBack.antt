@@ -7,7 +7,7 @@ use Rattle.doc_grammar.specs.Document.{Rules, Content, IsDocument}
 use Rattle.doc_writer.specs.Escapes.{escaped_text}
 use Rattle.doc_writer.specs.Readable.{is_readable, as_written}
 
--- behind the characters `front` of a text, what is written for a text says that text: whatever number of `]` it ends with,
+-- after the characters `front` of a text, what is written for a text says that text: whatever number of `]` it ends with,
 -- what follows has the whole before it
 abbrev pub TextsReadBack : Type 0
 TextsReadBack =

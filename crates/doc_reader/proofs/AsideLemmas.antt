@@ -153,7 +153,7 @@ mark_then target read o = rw o refl
 pub instruction_closes : {old new : List ℕ} (target read : List ℕ) → old ≡ 62 ∷ new → lex_reads old (instruction_mark target read) ≡ made (Pi target read) new
 instruction_closes target read o = rw o refl
 
--- a mark that `>` is not behind is text
+-- a mark that `>` is not after is text
 pub mark_is_text : (target read ts : List ℕ) {new read' : List ℕ} → (new ≡ ts) × NotNext 62 ts → read' ≡ read ++ 63 ∷ [] → lex_reads ts (instruction_mark target read) ≡ lex_reads new (instruction target read')
 mark_is_text target read ts n r = rw (n.0, r) (go ts n.1) where
   go : (ts : List ℕ) → NotNext 62 ts → lex_reads ts (instruction_mark target read) ≡ lex_reads ts (instruction target (read ++ 63 ∷ []))

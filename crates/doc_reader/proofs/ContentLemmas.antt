@@ -14,7 +14,7 @@ use Rattle.doc_grammar.specs.Machine.{Stack, ground, element, content, with_text
 use Rattle.doc_reader.specs.Frames.{with_frame, outside, stack_in, stack_of}
 use Rattle.doc_reader.specs.declared.readers.Frame as code
 
--- a text behind what is open
+-- a text after what is open
 
 pub empty_text : (text : List ℕ) → is_empty_text text ≡ true → text ≡ []
 unfolding is_empty_text
@@ -42,7 +42,7 @@ pub text_pushed : (old new front : List code.Frame) (f : code.Frame) (scope : Li
 text_pushed old new front f scope base kids text t o n k same e =
     rw (o, n, k, same, stack_of-push front f scope base, stack_of-push front (record { name = f.name; element = f.element; attributes = f.attributes; declared = f.declared; kids = f.kids ++ Text text ∷ [] }) scope base, some_text text e) refl
 
--- a comment or an instruction behind what is open
+-- a comment or an instruction after what is open
 
 pub aside_around : (frames frames' : List code.Frame) (scope scope' : List Binding) (l l' : Level) (kids kids' : List Tree) (ds : List (List Binding)) (target : Stack) (tree : Tree) (text : List ℕ)
     → frames ≡ [] → stack_of frames scope (ground l kids ds) ≡ target → frames' ≡ frames → l' ≡ begun l → kids' ≡ kids ++ tree ∷ [] → text ≡ []

@@ -82,13 +82,13 @@ pub end_differs : (w old new : List ℕ) (st : Stack) → DiffersAt w old new �
 end_differs w old new st d =
     ap (λ (x : List ℕ). reads x (ending w st)) d.is_old ∙ ap (λ (x : List ℕ). reads (d.read ++ new) (ending x st)) d.is_whole ∙ name_differs d.read d.next d.more new st d.not_next
 
--- the name of an end tag, the white space behind it, and its `>` or not
+-- the name of an end tag, the white space after it, and its `>` or not
 pub end_of_tag : (w old mid after new : List ℕ) (b r : Bool) (st : Stack) → old ≡ w ++ mid → TakesSpaces b mid after → Ends is_space after → MatchBool r (after ≡ 62 ∷ new) ((new ≡ after) × NotNext 62 after)
     → MatchBool r (reads old (ending w st) ≡ reads (62 ∷ new) (ended st)) (Fails (reads old (ending w st)) new)
 end_of_tag w old mid after new b true st e t s n = to_ended w old mid after b st e t ∙ ap (λ (x : List ℕ). reads x (ended st)) n
 end_of_tag w old mid after new b false st e t s n = to_ended w old mid after b st e t ∙ no_close after st n.1 s ∙ ap (λ (x : List ℕ). stops other x) (sym n.0)
 
--- behind `</` the innermost element is to end
+-- after `</` the innermost element is to end
 abbrev end_state : Stack → Option State
 end_state (ground l kids ds) = None
 end_state (element name o kids st) = Some (ending (written_name name) (element name o kids st))
@@ -259,7 +259,7 @@ coloned_step : (prefix : List ℕ) (st : Stack) (c : ℕ) → starts_name c ≡ 
 unfolding step
 coloned_step prefix st c p = rw p refl
 
--- behind a whole name the reader stands behind the tag of that name
+-- after a whole name the reader stands after the tag of that name
 plain_same : (name : List ℕ) (st : Stack) (c : ℕ) (cs : List ℕ) → is_name_char c ≡ false → (c == 58) ≡ false → reads (c ∷ cs) (naming (reading None name) st) ≡ reads (c ∷ cs) (tagged (tag_named (plain_name name)) st)
 unfolding step
 plain_same name st c cs p q = rw (p, q) refl
@@ -280,7 +280,7 @@ tag_step : (text : List ℕ) (st : Stack) (c : ℕ) → starts_name c ≡ true �
 unfolding step
 tag_step text st c s h = rw (is_other starts_name c 47 s slash_starts, is_other starts_name c 33 s bang_starts, is_other starts_name c 63 s mark_starts, s, h) refl
 
--- text, and behind it a `<` and the name of a start tag
+-- text, and after it a `<` and the name of a start tag
 run_name : {ts rest : List ℕ} {name : RawName} (text : List ℕ) (st : Stack) → may_open st ≡ true → QName ts name rest → reads ts (tag text st) ≡ reads rest (tagged (tag_named name) (with_text text st))
 run_name {rest = rest} text st h (doc.plain (lexemes.ncname {c = c} {ts = ts} s d) e) =
     goes _ _ c ts (tag_step text st c s h) ∙ run_naming None (with_text text st) d ∙ plain_end _ (with_text text st) rest (named_ends d) e
@@ -342,7 +342,7 @@ cannot_open (c ∷ cs) new text st flushed why e n h slash bang question w =
     (stuck (tag text st) c cs (cannot_open_step text st c (λ same. slash (sym same)) (λ same. bang (sym same)) (λ same. question (sym same)) closed)
     ∙ ap (λ x. stops (cond (starts_name c) x other) (c ∷ cs)) stop)
 
--- a start tag behind its name
+-- a start tag after its name
 
 pub named_on : (source mid : List ℕ) (name : RawName) (attributes : List RawAttribute) (t : RawTag) (st : Stack) → attributes ≡ [] → reads source (tagged (record { name = name; attributes = attributes }) st) ≡ reads mid (tagged t st)
     → reads source (tagged (tag_named name) st) ≡ reads mid (tagged t st)

@@ -44,7 +44,7 @@ feed_counts : (cs : List ℕ) (n : ℕ) → bytes_before true (10 ∷ cs) n ≡ 
 feed_counts cs zero = rw nothing_before refl
 feed_counts cs (suc n) = refl
 
--- a line feed behind a carriage return
+-- a line feed after a carriage return
 pub feed_place : (bytes n all c : ℕ) (cr : Bool) (old cs : List ℕ) → old ≡ c ∷ cs → cr ≡ true → c ≡ 10 → bytes + bytes_before cr old n ≡ all → bytes + 1 + bytes_before false cs n ≡ all
 feed_place bytes n all c cr old cs o b e h =
     let k : bytes + bytes_before true (10 ∷ cs) n ≡ all = rw (o, b, e) at h in

@@ -1,4 +1,4 @@
--- What stands behind `<`, and what it does to a reading.
+-- What stands after `<`, and what it does to a reading.
 use Rattle.std.proofs.Common.{◌≡◌, ℕ, List, [], ◌∷◌, ◌++◌, Bool, true, false, cond, Some, None, ◌==◌, refl, sym, ap, ◌∙◌, codes}
 use Rattle.std.proofs.lemmas.Bool.{ne_eqb}
 use Rattle.xt_names.specs.declared.names.Binding.{Binding}
@@ -239,13 +239,13 @@ section_said old mid new more text text' st i o e t =
 pub section_stops : (old mid new text : List ℕ) (st : Stack) → IsElement st → old ≡ 91 ∷ mid → lex_reads mid (section_open (codes "CDATA[")) ≡ stopped new → Fails (reads old (bang text st)) new
 section_stops old mid new text st i o e = to_section old mid text st i o ∙ stopped_in mid new (section_open (codes "CDATA[")) text st e
 
--- a comment that is put behind what is open
+-- a comment that is put after what is open
 pub comment_made : (old mid new said_text made_text text : List ℕ) (st : Stack) (s : State) → lex_reads old dash ≡ made (Comment said_text) mid → made_text ≡ said_text → s ≡ content 0 [] (with_aside (Comment made_text) (with_text text st)) → new ≡ mid
     → reads old (marked dash text st) ≡ reads new s
 comment_made old mid new said_text made_text text st s e m h n =
     made_in old mid dash (Comment said_text) text st e ∙ ap (λ (x : List ℕ). reads mid (content 0 [] (with_aside (Comment x) (with_text text st)))) (sym m) ∙ ap (reads mid) (sym h) ∙ ap (λ (x : List ℕ). reads x s) (sym n)
 
--- an instruction that is put behind what is open
+-- an instruction that is put after what is open
 pub instruction_put : (old mid new target said_text made_target made_text text : List ℕ) (st : Stack) (s : State) → Ends is_name_char old → declares st target ≡ false → is_target target ≡ true → target_reads old target ≡ made (Pi target said_text) mid
     → made_target ≡ target → made_text ≡ said_text → s ≡ content 0 [] (with_aside (Pi made_target made_text) (with_text text st)) → new ≡ mid → reads old (targeting target text st) ≡ reads new s
 instruction_put old mid new target said_text made_target made_text text st s e d t r a b h n =

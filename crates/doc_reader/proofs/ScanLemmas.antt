@@ -7,7 +7,7 @@ use Rattle.doc_grammar.specs.Lexemes.{Ends, Spaces, Named, NCName}
 use Rattle.doc_grammar.specs.Lexemes as doc
 use Rattle.doc_grammar.proofs.CharacterFacts.{no}
 
--- a run that its first character is of the class of, and what is behind that
+-- a run that its first character is of the class of, and what is after that
 pub record Begun (p : ℕ → Bool) (c : ℕ) (old run new : List ℕ) : Type 0 where
   pub more : List ℕ
   pub is_run : run ≡ c ∷ more

@@ -145,7 +145,7 @@ next_then c f g (d ∷ ds) n k = choice_some (is_one c) f g d ds (rw n (same_one
 pub other_then : (c : ℕ) (f g : Form) (old : List ℕ) {end : FormEnd} → NotNext c old → spells old g ≡ end → spells old (choice (is_one c) f g) ≡ end
 other_then c f g old n k = right_then (is_one c) f g old (other_one c old n) k
 
--- behind white space, or where there is none
+-- after white space, or where there is none
 pub spaced_then : (f g : Form) {old mid : List ℕ} {end : FormEnd} → Spaced old mid → Ends is_space mid → spells mid f ≡ end → spells old (choice is_space (space f) g) ≡ end
 spaced_then f g s n k = left_then is_space (space f) g s.2 s.3 (space_then f s n k)
 
@@ -248,7 +248,7 @@ pub encoding_over : (ts : List ℕ) → None ≡ slice_get ts 0 → stops_in enc
 encoding_over [] s = refl
 encoding_over (d ∷ ds) s = cc
 
--- a quote behind `=`
+-- a quote after `=`
 pub quote_behind : (r : Option ℕ) (old mid new : List ℕ) → ((inner : ℕ → Form) → spells old (equals (quoted inner)) ≡ spells mid (quoted inner))
     → MatchOption r ((new ≡ mid) × NotNext 34 mid × NotNext 39 mid) (λ q. (mid ≡ q ∷ new) × (is_quote q ≡ true))
     → MatchOption r ((inner : ℕ → Form) → spells old (equals (quoted inner)) ≡ stops other new) (λ q. (inner : ℕ → Form) → spells old (equals (quoted inner)) ≡ spells new (inner q))

@@ -40,12 +40,12 @@ tagged_step : (t : RawTag) (st : Stack) (c : ℕ) → is_space c ≡ true → st
 unfolding step
 tagged_step t st c s = rw s refl
 
--- behind white space in a tag
+-- after white space in a tag
 tagged_goes : (old new : List ℕ) (t : RawTag) (st : Stack) → TakesSpaces true old new → reads old (tagged t st) ≡ reads new (spaced t st)
 tagged_goes old new t st s =
     ap (λ (x : List ℕ). reads x (tagged t st)) s.2 ∙ goes _ _ s.0 s.1 (tagged_step t st s.0 s.3) ∙ spaces_in (spaced t st) (spaced_step t st) s.4
 
--- the end of a start tag is the same behind white space
+-- the end of a start tag is the same after white space
 same_end : (t : RawTag) (st : Stack) (c : ℕ) → is_space c ≡ false → starts_name c ≡ false → step opened (spaced t st) c ≡ step opened (tagged t st) c
 unfolding step
 same_end t st c s n = rw (s, n) refl
@@ -84,7 +84,7 @@ no_more old (c ∷ cs) e s n t st =
     let close = λ (same : c ≡ 62). n.0 (sym same) in
     ap (λ (x : List ℕ). reads x (tagged t st)) (sym e) ∙ stuck (tagged t st) c cs (no_tagged_step t st c s close (λ same. n.1 (sym same))) ∙ ap (λ w. stops w (c ∷ cs)) (tagged_why t st c close)
 
--- an attribute behind white space
+-- an attribute after white space
 pub one_more : (e : End) (old mid new : List ℕ) (t : RawTag) (st : Stack) (s : State) (r : Step) → e ≡ reads old (tagged t st) → TakesSpaces true old mid → Ran (reads mid (spaced t st)) new s r → Ran e new s r
 one_more e old mid new t st s On same k r = same ∙ tagged_goes old mid t st k ∙ r
 one_more e old mid new t st s (Stopped why) same k r = same ∙ tagged_goes old mid t st k ∙ r
@@ -134,7 +134,7 @@ qname_ends : {ts rest : List ℕ} {name : RawName} → QName ts name rest → En
 qname_ends (doc.plain (lexemes.ncname s d) e) = (named_ends d, λ x. e)
 qname_ends (doc.prefixed n (lexemes.ncname s d)) = (named_ends d, λ x. absurd (cc))
 
--- behind a whole name
+-- after a whole name
 behind_step : (t : RawTag) (prefix : Option (List ℕ)) (local : List ℕ) (st : Stack) (c : ℕ) → is_name_char c ≡ false → (prefix ≡ None → (c == 58) ≡ false) → step opened (attribute t (reading prefix local) st) c ≡ step opened (equals t (record { prefix = prefix; local = local }) st) c
 unfolding step
 behind_step t None local st c p q = rw (p, q refl) refl

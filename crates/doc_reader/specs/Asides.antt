@@ -1,10 +1,10 @@
--- A reading of a comment, an instruction behind its target, or a section alone.
+-- A reading of a comment, an instruction after its target, or a section alone.
 use Rattle.std.specs.Prelude.{ℕ, List, [], ◌∷◌, ◌==◌, if◌then◌else◌}
 use Rattle.xt_tree.specs.declared.trees.Tree.{Tree}
 use Rattle.doc_grammar.specs.Lexing.{Lex, LexStep, on, makes, says, fails, target_mark, target_space, lex_step}
 use Rattle.doc_grammar.specs.Characters.{is_space}
 
--- it makes a node, or says a text, and this is behind it; or it stops before the rest
+-- it makes a node, or says a text, and this is after it; or it stops before the rest
 pub data LexEnd : Type 0 where
   made : Tree → List ℕ → LexEnd
   said : List ℕ → List ℕ → LexEnd
@@ -20,7 +20,7 @@ abbrev pub lex_reads : List ℕ → Lex → LexEnd
 lex_reads [] l = stopped []
 lex_reads (c ∷ cs) l = lex_goes (lex_reads cs) cs (stopped (c ∷ cs)) (lex_step l c)
 
--- behind the target of an instruction
+-- after the target of an instruction
 abbrev pub target_reads : List ℕ → List ℕ → LexEnd
 target_reads [] target = stopped []
 target_reads (c ∷ cs) target =

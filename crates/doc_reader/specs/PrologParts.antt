@@ -7,7 +7,7 @@ use Rattle.doc_grammar.specs.Prolog.{is_one, is_letter, quoted, starts_colon_nam
 abbrev pub letter : ℕ → Form → Form
 letter small f = one encoding (is_letter small) small f
 
--- the name of UTF-8 and the quote behind it
+-- the name of UTF-8 and the quote after it
 abbrev pub utf8_name : ℕ → Form → Form
 utf8_name q f = letter 117 (letter 116 (letter 102 (one encoding (is_one 45) 45 (one encoding (is_one 56) 56 (one encoding (is_one q) q f)))))
 

@@ -7,7 +7,7 @@ use Rattle.doc_reader.specs.Sources.{NotNext}
 use Rattle.doc_reader.specs.declared.references.Base as code
 use Rattle.doc_reader.specs.declared.references.Base.TheVariants.{Decimal, Hexadecimal}
 
--- it stands for a character, and this is behind it; or it stops before the rest
+-- it stands for a character, and this is after it; or it stops before the rest
 pub data RefEnd : Type 0 where
   finds : ℕ → List ℕ → RefEnd
   stops : Stop → List ℕ → RefEnd
@@ -44,7 +44,7 @@ abbrev pub next_digit : Base → List ℕ → Option ℕ
 next_digit b [] = None
 next_digit b (c ∷ cs) = digit b c
 
--- digits of the base begin here: behind `&#` an `x` would make them hexadecimal
+-- digits of the base begin here: after `&#` an `x` would make them hexadecimal
 abbrev pub BeginsDigits : Base → List ℕ → Type 0
 BeginsDigits decimal ts = NotNext 120 ts
 BeginsDigits hexadecimal ts = ⊤

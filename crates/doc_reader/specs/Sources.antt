@@ -22,7 +22,7 @@ pub record DiffersAt (whole old new : List ℕ) : Type 0 where
   pub is_old : old ≡ read ++ new
   pub not_next : NotNext next new
 
--- no qualified name is read: none begins, or nothing that goes on behind the colon
+-- no qualified name is read: none begins, or nothing that goes on after the colon
 abbrev pub NoName : List ℕ → List ℕ → Type 0
 NoName old new =
     ((new ≡ old) × Ends starts_name old) ⊎ ((prefix : List ℕ) × NCName old prefix (58 ∷ new) × Ends starts_name new)

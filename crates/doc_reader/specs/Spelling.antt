@@ -6,7 +6,7 @@ use Rattle.doc_reader.specs.Reading.{stop_of}
 use Rattle.doc_reader.specs.declared.steps.Step.{Step}
 use Rattle.doc_reader.specs.declared.steps.Step.TheVariants.{On, Stopped}
 
--- it stands there, and this is behind it; or it stops before the rest
+-- it stands there, and this is after it; or it stops before the rest
 pub data FormEnd : Type 0 where
   stands : List ℕ → FormEnd
   stops : Stop → List ℕ → FormEnd

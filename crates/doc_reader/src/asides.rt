@@ -10,7 +10,7 @@ use crate::sources::Source;
 use std::alloc::AllocError;
 
 impl<'a> Source<'a> {
-    /// Takes a comment behind its `<!-`.
+    /// Takes a comment after its `<!-`.
     pub(crate) fn comment(&mut self, text: &mut Buffer) -> Result<bool, AllocError>
         requires { text.old ≡ [] }
         ensures reads { IfOk result (λ b. MatchBool b (lex_reads self.old dash ≡ made (Comment text.new) self.new) (lex_reads self.old dash ≡ stopped self.new)) }
@@ -32,7 +32,7 @@ impl<'a> Source<'a> {
         }
     }
 
-    /// Takes a section behind its `<![`.
+    /// Takes a section after its `<![`.
     pub(crate) fn section(&mut self, text: &mut Buffer) -> Result<bool, AllocError>
         ensures reads { IfOk result (λ b. MatchBool b
             ((more : List ℕ) × (lex_reads self.old (section_open (codes "CDATA[")) ≡ said more self.new) × (text.new ≡ text.old ++ more))
@@ -54,7 +54,7 @@ impl<'a> Source<'a> {
         }
     }
 
-    /// Takes more brackets behind one, and says whether they close a section.
+    /// Takes more brackets after one, and says whether they close a section.
     fn brackets(&mut self, text: &mut Buffer) -> Result<bool, AllocError>
         ensures reads { IfOk result (λ b. (more : List ℕ) × (text.new ≡ text.old ++ more) × MatchBool b
             ((read : List ℕ) → lex_reads self.old (section_bracket read) ≡ said (read ++ more) self.new)
@@ -77,7 +77,7 @@ impl<'a> Source<'a> {
         }
     }
 
-    /// Takes the rest of an instruction behind its target.
+    /// Takes the rest of an instruction after its target.
     pub(crate) fn instruction(&mut self, text: &mut Buffer) -> Result<bool, AllocError>
         requires { text.old ≡ [] }
         ensures reads { IfOk result (λ b. (target : List ℕ) → MatchBool b (target_reads self.old target ≡ made (Pi target text.new) self.new) (target_reads self.old target ≡ stopped self.new)) }
@@ -92,7 +92,7 @@ impl<'a> Source<'a> {
         self.instruction_text(text)
     }
 
-    /// Takes the text of an instruction behind white space.
+    /// Takes the text of an instruction after white space.
     fn instruction_text(&mut self, text: &mut Buffer) -> Result<bool, AllocError>
         ensures reads { IfOk result (λ b. (target : List ℕ) → MatchBool b
             (lex_reads self.old (instruction target text.old) ≡ made (Pi target text.new) self.new)

@@ -38,10 +38,10 @@ pub(crate) struct NotBracket;
 /// What may stand in an instruction, but for the question mark.
 pub(crate) struct NotQuestion;
 
-/// What may stand behind the first character of a name without a colon.
+/// What may stand after the first character of a name without a colon.
 pub(crate) struct NameChar;
 
-/// What may stand behind the first character of a name that may have colons.
+/// What may stand after the first character of a name that may have colons.
 pub(crate) struct ColonNameChar;
 
 /// A decimal digit.

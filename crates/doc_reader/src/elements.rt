@@ -22,7 +22,7 @@ use xt_names::{List, Text};
 use xt_tree::Tree;
 
 impl<'a> Reader<'a> {
-    /// Reads a start tag behind its `<`.
+    /// Reads a start tag after its `<`.
     pub(crate) fn start_tag(&mut self, alloc: Global) -> Result<Step, AllocError>
         requires no_slash { NotNext sign.slash self.old.source }
         requires no_bang { NotNext sign.exclamation self.old.source }
@@ -61,7 +61,7 @@ impl<'a> Reader<'a> {
         }
     }
 
-    /// Reads a start tag behind its name.
+    /// Reads a start tag after its name.
     fn named(&mut self, alloc: Global, name: RawName<'a>) -> Result<Step, AllocError>
         requires text { self.old.text ≡ [] }
         ensures ran { IfOk result (λ s. Ran (reads self.old.source (tagged (tag_named (name_of name.entry)) (open_in self.old))) self.new.source (here self.new) s) }
@@ -187,7 +187,7 @@ impl<'a> Reader<'a> {
         }
     }
 
-    /// Makes the element of a frame that is no longer open, and puts it behind what is open.
+    /// Makes the element of a frame that is no longer open, and puts it after what is open.
     fn close(&mut self, alloc: Global, frame: Frame<'a>) -> Result<(), AllocError>
         ensures opened { OnOk result (open_in self.new ≡ with_child (element_of (record { name = frame.entry.element; attributes = frame.entry.attributes; scope = self.old.scope }) frame.entry.kids)
             (stack_of self.old.frames.items (outside frame.entry self.old.scope) (base_of self.old))) }
@@ -207,7 +207,7 @@ impl<'a> Reader<'a> {
         self.add(Tree::Elem(element, attributes, kids))
     }
 
-    /// Puts an element behind what is open.
+    /// Puts an element after what is open.
     fn add(&mut self, tree: Tree) -> Result<(), AllocError>
         ensures opened { OnOk result (open_in self.new ≡ with_child tree (open_in self.old)) }
         ensures source { self.new.source ≡ self.old.source }
@@ -228,7 +228,7 @@ impl<'a> Reader<'a> {
 }
 
 impl<'a> Source<'a> {
-    /// Takes an end tag of the name, behind its `/`.
+    /// Takes an end tag of the name, after its `/`.
     fn end_tag(&mut self, name: RawName<'_>) -> bool
         ensures ends { (st : Stack) → MatchBool result (reads self.old (ending (written_name (name_of name.entry)) st) ≡ reads (62 ∷ self.new) (ended st)) (Fails (reads self.old (ending (written_name (name_of name.entry)) st)) self.new) }
         ensures shorter { length self.new ≤ length self.old }

@@ -142,7 +142,7 @@ fn read_lines(
     }
 }
 
-/// The text behind its byte order mark, if it has one.
+/// The text after its byte order mark, if it has one.
 fn unmarked(text: &str) -> &str
     ensures text { chars result.now ≡ without_mark (chars text.now) }
     ensures size { length text.now ≡ mark_bytes (chars text.now) + length result.now }

@@ -17,7 +17,7 @@ use crate::steps::{Step, Stop};
 const OTHER: Step = Step::Stopped(Stop::Other);
 
 impl<'a> Source<'a> {
-    /// Takes an XML declaration behind its `<?xml`.
+    /// Takes an XML declaration after its `<?xml`.
     #[tactic(auto, unfolding(doc_grammar::specs::Prolog::xml_declaration))]
     pub(crate) fn xml_declaration(&mut self) -> Step
         ensures reads { Spells self.old (prolog.xml_declaration) result self.new }
@@ -35,7 +35,7 @@ impl<'a> Source<'a> {
         }
     }
 
-    /// Takes a version number behind its quote, and what follows it.
+    /// Takes a version number after its quote, and what follows it.
     fn version_number(&mut self, quote: char) -> Step
         ensures reads { Spells self.old (prolog.version_number quote) result self.new }
         ensures shorter { length self.new ≤ length self.old }
@@ -74,7 +74,7 @@ impl<'a> Source<'a> {
         }
     }
 
-    /// Takes the name of the encoding behind its quote, and what follows it.
+    /// Takes the name of the encoding after its quote, and what follows it.
     fn encoding_name(&mut self, quote: char) -> Step
         ensures reads { Spells self.old (prolog.encoding_name quote) result self.new }
         ensures shorter { length self.new ≤ length self.old }
@@ -101,7 +101,7 @@ impl<'a> Source<'a> {
         }
     }
 
-    /// Takes the name of UTF-8 and the quote behind it.
+    /// Takes the name of UTF-8 and the quote after it.
     fn is_utf8_named(&mut self, quote: char) -> bool
         ensures reads { Takes self.old (parts.utf8_name quote) encoding result self.new }
         ensures shorter { length self.new ≤ length self.old }
@@ -176,7 +176,7 @@ impl<'a> Source<'a> {
         Step::On
     }
 
-    /// Takes a document type declaration behind its `<!`.
+    /// Takes a document type declaration after its `<!`.
     #[tactic(auto, unfolding(doc_grammar::specs::Prolog::doctype_declaration))]
     pub(crate) fn doctype(&mut self) -> Step
         ensures reads { Spells self.old (prolog.doctype_declaration) result self.new }

@@ -178,7 +178,7 @@ impl<'a> Reader<'a> {
         Ok(Step::On)
     }
 
-    /// Reads closing brackets, and stops before a `>` behind two of them.
+    /// Reads closing brackets, and stops before a `>` after two of them.
     fn brackets(&mut self) -> Result<Step, AllocError>
         requires bracket { NextIs 93 self.old.source }
         requires element { 0 < length self.old.frames.items }
@@ -199,7 +199,7 @@ impl<'a> Reader<'a> {
         Ok(Step::On)
     }
 
-    /// Reads what stands behind `<`.
+    /// Reads what stands after `<`.
     fn markup(&mut self, alloc: Global) -> Result<Step, AllocError>
         ensures ran { IfOk result (λ s. Ran (reads self.old.source (tag self.old.text (open_in self.old))) self.new.source (here self.new) s) }
         ensures shorter { length self.new.source ≤ length self.old.source }
@@ -319,7 +319,7 @@ impl<'a> Reader<'a> {
         matches!(self.level, Level::Blank)
     }
 
-    /// Reads an instruction behind its target.
+    /// Reads an instruction after its target.
     fn instruction(&mut self, alloc: Global, target: &str) -> Result<Step, AllocError>
         requires ends { Ends is_name_char self.old.source }
         requires no_declaration { declares (open_in self.old) (chars target.now) ≡ false }
@@ -337,7 +337,7 @@ impl<'a> Reader<'a> {
         Ok(Step::On)
     }
 
-    /// Puts a comment or an instruction behind what is open.
+    /// Puts a comment or an instruction after what is open.
     fn aside(&mut self, alloc: Global, tree: Tree) -> Result<(), AllocError>
         ensures here { OnOk result (here self.new ≡ content 0 [] (with_aside tree (with_text self.old.text (open_in self.old)))) }
         ensures source { self.new.source ≡ self.old.source }

@@ -52,7 +52,7 @@ fn with_digit(base: Base, n: u32, d: u32) -> Option<u32>
 }
 
 impl<'a> Source<'a> {
-    /// Takes a reference behind its `&`: the character that it stands for.
+    /// Takes a reference after its `&`: the character that it stands for.
     pub(crate) fn reference(&mut self) -> Result<char, Stop>
         ensures reads { MatchResult result (λ c. ref_reads self.old ampersand ≡ finds c self.new) (λ why. ref_reads self.old ampersand ≡ stops (stop_of why) self.new) }
         ensures shorter { length self.new ≤ length self.old }
@@ -63,7 +63,7 @@ impl<'a> Source<'a> {
         self.entity()
     }
 
-    /// Takes the name of a predefined entity, and the `;` behind it.
+    /// Takes the name of a predefined entity, and the `;` after it.
     fn entity(&mut self) -> Result<char, Stop>
         requires { NotNext sign.number_sign self.old }
         ensures reads { MatchResult result (λ c. ref_reads self.old ampersand ≡ finds c self.new) (λ why. ref_reads self.old ampersand ≡ stops (stop_of why) self.new) }
@@ -84,7 +84,7 @@ impl<'a> Source<'a> {
         Err(self.stop_at_name())
     }
 
-    /// Takes the rest of a name behind its `a`.
+    /// Takes the rest of a name after its `a`.
     fn entity_of_a(&mut self) -> Result<char, Stop>
         ensures reads { MatchResult result (λ c. ref_reads self.old letter_a ≡ finds c self.new) (λ why. ref_reads self.old letter_a ≡ stops (stop_of why) self.new) }
         ensures shorter { length self.new ≤ length self.old }
@@ -132,7 +132,7 @@ impl<'a> Source<'a> {
         }
     }
 
-    /// Takes a number behind its `&#`.
+    /// Takes a number after its `&#`.
     fn by_number(&mut self) -> Result<char, Stop>
         ensures reads { MatchResult result (λ c. ref_reads self.old hash ≡ finds c self.new) (λ why. ref_reads self.old hash ≡ stops (stop_of why) self.new) }
         ensures shorter { length self.new ≤ length self.old }
@@ -143,7 +143,7 @@ impl<'a> Source<'a> {
         self.digits(Base::Decimal)
     }
 
-    /// Takes digits, of which there is one at least, and the `;` behind them.
+    /// Takes digits, of which there is one at least, and the `;` after them.
     fn digits(&mut self, base: Base) -> Result<char, Stop>
         requires { BeginsDigits (base_view base) self.old }
         ensures reads { MatchResult result (λ c. ref_reads self.old (before_digits (base_view base)) ≡ finds c self.new) (λ why. ref_reads self.old (before_digits (base_view base)) ≡ stops (stop_of why) self.new) }
@@ -155,7 +155,7 @@ impl<'a> Source<'a> {
         }
     }
 
-    /// Takes more digits behind this number, and the `;` behind them.
+    /// Takes more digits after this number, and the `;` after them.
     fn more_digits(&mut self, base: Base, mut n: u32) -> Result<char, Stop>
         requires { n ≤ 0x10_FFFF }
         ensures reads { MatchResult result (λ c. ref_reads self.old (number (base_view base) n) ≡ finds c self.new) (λ why. ref_reads self.old (number (base_view base) n) ≡ stops (stop_of why) self.new) }
@@ -199,7 +199,7 @@ impl<'a> Source<'a> {
         }
     }
 
-    /// Takes a digit more behind this number, if it makes none past the last character.
+    /// Takes a digit more after this number, if it makes none past the last character.
     fn next_digit(&mut self, base: Base, n: u32) -> Option<u32>
         requires number { n ≤ 0x10_FFFF }
         requires no_end { NotNext sign.semicolon self.old }
@@ -233,7 +233,7 @@ impl<'a> Source<'a> {
         }
     }
 
-    /// Takes the `;` behind a number, if it is that of a character.
+    /// Takes the `;` after a number, if it is that of a character.
     fn numbered(&mut self, base: Base, n: u32) -> Result<char, Stop>
         requires { NextIs 59 self.old }
         ensures reads { MatchResult result (λ c. ref_reads self.old (number (base_view base) n) ≡ finds c self.new) (λ why. ref_reads self.old (number (base_view base) n) ≡ stops (stop_of why) self.new) }

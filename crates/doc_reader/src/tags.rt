@@ -69,7 +69,7 @@ impl<'a> Source<'a> {
         }
     }
 
-    /// Takes an attribute, behind white space.
+    /// Takes an attribute, after white space.
     fn attribute(
         &mut self,
         alloc: Global,
@@ -101,7 +101,7 @@ impl<'a> Source<'a> {
         }
     }
 
-    /// Takes `=` with the white space around it, and the quote behind it.
+    /// Takes `=` with the white space around it, and the quote after it.
     pub(crate) fn equals(&mut self) -> Option<char>
         ensures assigns { (t : Tag) (name : Name) (st : Stack) → MatchOption result (Fails (reads self.old (equals t name st)) self.new)
             (λ q. (is_quote q ≡ true) × (reads self.old (equals t name st) ≡ reads self.new (valued t name q [] st))) }

@@ -17,7 +17,7 @@ use crate::steps::{Step, Stop};
 use std::alloc::AllocError;
 
 impl<'a> Source<'a> {
-    /// Takes the value of an attribute behind its quote, and the quote behind it.
+    /// Takes the value of an attribute after its quote, and the quote after it.
     pub(crate) fn value(&mut self, quote: char, value: &mut Buffer) -> Result<Step, AllocError>
         requires { is_quote quote ≡ true }
         ensures ran { IfOk result (λ s. (t : RawTag) (name : RawName) (st : Stack) → Ran (reads self.old (valued t name quote value.old st)) self.new (tagged (with_attribute t name value.new) st) s) }

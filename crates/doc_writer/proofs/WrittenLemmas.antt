@@ -1,4 +1,4 @@
--- The text of one tree and of those behind it.
+-- The text of one tree and of those after it.
 use Rattle.std.proofs.Common.{◌≡◌, ℕ, List, [], ◌∷◌, ◌++◌, suc, refl, false, length, nat_eq, arith, ◌∙◌}
 use Rattle.std.proofs.lemmas.Bool.Decides.{nat_tests}
 use Rattle.xt_names.specs.declared.names.Binding.{Binding}

@@ -10,7 +10,7 @@ is_plain_in_text c = not (c == 38 || c == 60 || c == 62 || c == 0xD || is_contro
 unfoldable pub is_plain_in_value : ℕ → Bool
 is_plain_in_value c = not (c == 38 || c == 60 || c == 34 || c == 0x9 || c == 0xA || c == 0xD || is_control c)
 
--- a text and what is behind its first characters, which are written as they are
+-- a text and what is after its first characters, which are written as they are
 pub record BeginsPlain (written : ℕ → List ℕ) (whole rest : List ℕ) : Type 0 where
   -- the bytes of those characters
   pub front : List ℕ

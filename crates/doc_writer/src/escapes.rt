@@ -131,7 +131,7 @@ fn push_escaped<E: Escape>(out: &mut TextBuilder, s: &str) -> Result<(), AllocEr
     Ok(())
 }
 
-/// Writes the characters at the front that are plain, in one piece, and the one behind them. Gives what is left.
+/// Writes the characters at the front that are plain, in one piece, and the one after them. Gives what is left.
 fn push_piece<'a, E: Escape>(out: &mut TextBuilder, s: &'a str) -> Result<&'a str, AllocError>
     ensures written { IfOk result (λ left. out.new ++ flat_map E.written (chars left.now) ≡ out.old ++ flat_map E.written (chars s.now)) }
     ensures shorter { IfOk result (λ left. length left.now ≤ length s.now - 1) }
@@ -156,7 +156,7 @@ fn push_first<'a, E: Escape>(out: &mut TextBuilder, s: &'a str) -> Result<&'a st
     Ok(chars.as_str())
 }
 
-/// What is behind the characters at the front that are plain.
+/// What is after the characters at the front that are plain.
 fn behind_plain<'a, E: Escape>(s: &'a str) -> &'a str
     ensures { BeginsPlain E.written s.now result.now }
 {

@@ -1,7 +1,7 @@
 //! The bytes of a tree: XML in UTF-8 (XSLT 2.0 and XQuery 1.0 Serialization, 5).
 //!
 //! `write_tree` takes any tree but a lone attribute, which has no text and is refused with SENR0001. The text begins with the
-//! XML declaration; nothing is indented and nothing is added behind the tree. Declarations of namespaces are made where they
+//! XML declaration; nothing is indented and nothing is added after the tree. Declarations of namespaces are made where they
 //! are needed, and names keep their prefixes where that is possible.
 //!
 //! `write_items` first joins items as the content of a document, and refuses them where there is an attribute. Both have a

@@ -105,7 +105,7 @@ climb_end t base old now c l m g a =
     let e : take base old ≡ now = sym c.within ∙ take_all now base l in
     ap (λ z. is_before_all (stands z m)) e ∙ sym (c.behind m g) ∙ a
 
--- down, or behind a node without children
+-- down, or after a node without children
 pub on_down : (t : Tree) (base : ℕ) (old new : List ℕ) → base ≤ length old → Down t old new → Skips is_earlier t base old new
 on_down t base old new l d =
     let k : length new ≡ length old + 1 = ap length d.to ∙ length-append old (0 ∷ []) in record {

@@ -134,7 +134,7 @@ unfolding is_descendant is_attribute
 no_attribute_up (p, None) m a h = no_one a
 no_attribute_up (p, Some l) m a h = no_one h
 
--- on this axis an attribute is the node itself, and has nothing behind it
+-- on this axis an attribute is the node itself, and has nothing after it
 pub with_attribute_end : (t : Tree) (n : Spot) (q : List ℕ) (k : ℕ) → on_axis DescendantOrSelf n (q, Some k) ≡ true → Ends DescendantOrSelf t n (is_further DescendantOrSelf (q, Some k))
 unfolding on_axis is_further is_reverse is_attribute
 with_attribute_end t n q k o m h o' =
@@ -261,7 +261,7 @@ over_or_same p q u after e h o b = no_one h
 pub both_over : (p q u : List ℕ) → is_over (stands u p) ≡ true → is_over (stands q p) ≡ true → is_earlier (stands u q) ≡ true → stands u q ≡ above
 both_over p q u o o' h = earlier_cases (stands u q) h (λ b. over_or_same p q u (stands q p) refl o' o b)
 
--- nothing that is above a node is behind its parent
+-- nothing that is above a node is after its parent
 no_longer : (u new q : List ℕ) (i : ℕ) → q ≡ new ++ i ∷ [] → stands u q ≡ above → stands new u ≡ above → ⊥
 no_longer u new q i e a b =
     let x = above_is u q a in

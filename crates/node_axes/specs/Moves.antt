@@ -52,7 +52,7 @@ pub record Skips (later : Stands → Bool) (t : Tree) (base : ℕ) (old new : Li
   pub passes : later (stands old new) ≡ true
   pub first : (m : List ℕ) → has_path t m ≡ true → later (stands old m) ≡ true → is_earlier (stands m new) ≡ false
 
--- all later nodes are behind the node that the first steps lead to
+-- all later nodes are after the node that the first steps lead to
 abbrev pub AllBehind : (Stands → Bool) → Tree → ℕ → List ℕ → Type 0
 AllBehind later t base old = (m : List ℕ) → has_path t m ≡ true → later (stands old m) ≡ true → is_before_all (stands (take base old) m) ≡ true
 

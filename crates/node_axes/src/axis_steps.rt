@@ -110,7 +110,7 @@ fn attribute_at(tree: &Tree, path: &[usize], place: usize) -> Option<usize>
     }
 }
 
-/// The attribute behind the place; None where the node at the path has none there.
+/// The attribute after the place; None where the node at the path has none there.
 fn attribute_behind(tree: &Tree, path: &[usize], place: usize) -> Option<usize>
     ensures { SomeIff result (place + 1 < attribute_count_at tree.now path.now) (place + 1) }
 {

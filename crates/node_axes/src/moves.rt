@@ -28,7 +28,7 @@ pub(crate) fn attribute_count(tree: &Tree, path: &[usize]) -> usize
     }
 }
 
-/// The place of the child behind the place; None where there is none.
+/// The place of the child after the place; None where there is none.
 fn next_place(tree: &Tree, path: &[usize], place: usize) -> Option<usize>
     ensures { SomeIff result (place + 1 < count_at tree.now path.now) (place + 1) }
 {
@@ -121,7 +121,7 @@ pub(crate) fn go_up(tree: &Tree, path: &mut Vec<usize>) -> bool
     }
 }
 
-/// To the first node behind all that is below the node, whose way has more steps than so many; false where there is none.
+/// To the first node after all that is below the node, whose way has more steps than so many; false where there is none.
 pub(crate) fn skip(tree: &Tree, path: &mut Vec<usize>, base: usize) -> bool
     requires exists { has_path tree.now path.old.items ≡ true }
     requires room { tree_depth tree.now ≤ vec_capacity path.old }

@@ -19,7 +19,7 @@ unfolding is_empty_text
 flushed_some [] e = absurd (e refl)
 flushed_some (c ∷ cs) e = refl
 
--- a text before content, which goes where it is empty, and is one with a text behind it
+-- a text before content, which goes where it is empty, and is one with a text after it
 unfoldable pub put_text : List ℕ → List Tree → List Tree
 put_text [] xs = xs
 put_text (c ∷ cs) xs = merge_text (c ∷ cs) xs
@@ -135,7 +135,7 @@ nodes-below : (o : Option Tree) (pieces : List Piece) → nodes (put_node o piec
 nodes-below None pieces = refl
 nodes-below (Some x) pieces = nodes-whole x pieces
 
--- what comes behind an atom: a space, if that begins with words
+-- what comes after an atom: a space, if that begins with words
 pub spaced : List Piece → List Tree
 spaced [] = []
 spaced (words u ∷ pieces) = put_text (32 ∷ []) (nodes (words u ∷ pieces))
@@ -155,7 +155,7 @@ spaced-atom t [] = refl
 spaced-atom t (words u ∷ pieces) = refl
 spaced-atom t (whole x ∷ pieces) = refl
 
--- the nodes of the pieces behind an atom, or behind something else
+-- the nodes of the pieces after an atom, or after something else
 abbrev pub nodes_behind : Bool → List Piece → List Tree
 nodes_behind false pieces = nodes pieces
 nodes_behind true pieces = spaced pieces

@@ -17,7 +17,7 @@ tidy parts = merged_runs (without_empty_runs parts)
 abbrev behind : List ℕ → List Part → List ℕ
 behind separator parts = joined_behind separator (map part_text parts)
 
--- what parts give behind such an end
+-- what parts give after such an end
 abbrev rest : List ℕ → End → List Part → List ℕ
 rest separator ending [] = []
 rest separator ending (run u ∷ parts) = run_gap separator ending ++ (u ++ behind separator parts)

@@ -133,7 +133,7 @@ any_behind (Comment t ∷ done) p name u xs = any_behind done p name u xs
 any_behind (Pi target t ∷ done) p name u xs = any_behind done p name u xs
 any_behind (Attr n t ∷ done) p name u xs = refl
 
--- behind a child an attribute is not at the front
+-- after a child an attribute is not at the front
 not_at_front : (d : Tree) (ds ys : List Tree) → list_any is_attribute (d ∷ ds) ≡ false → behind Element (d ∷ ys) ≡ d ∷ ys
 not_at_front (Doc kids) ds ys e = refl
 not_at_front (Elem name attributes kids) ds ys e = refl
@@ -243,7 +243,7 @@ right_tree side holder after b c (Comment t) r e = given after _ c (right_kid af
 right_tree side holder after b c (Pi target t) r e = given after _ c (right_kid after b (Pi target t) refl r) e
 right_tree side holder after b c (Attr name t) r e = right_attribute side holder after b c name t r e
 
--- the value behind two steps
+-- the value after two steps
 split_then : {A B : Type 0} (o : Made A) (f : A → Made B) (y : B) → made_then o f ≡ Gives y → (x : A) × (o ≡ Gives x) × (f x ≡ Gives y)
 split_then (Gives x) f y e = (x, refl, e)
 split_then (Fails c) f y e = absurd cc

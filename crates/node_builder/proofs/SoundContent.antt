@@ -87,7 +87,7 @@ opened_fit (whole x ∷ pieces) h =
       opened_one (Pi target t) ys e f = both _ _ e f
       opened_one (Attr name t) ys e f = both _ _ e f
 
--- content, of which the first stands behind a text or not
+-- content, of which the first stands after a text or not
 abbrev fits_behind : Bool → List Tree → Bool
 fits_behind after [] = true
 fits_behind after (Doc kids ∷ xs) = false

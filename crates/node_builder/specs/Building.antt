@@ -20,7 +20,7 @@ use Rattle.node_builder.specs.declared.kinds.Duplicates.{Duplicates}
 use Rattle.node_builder.specs.declared.kinds.Holder.{Holder}
 use Rattle.node_builder.specs.declared.kinds.Holder.TheVariants.{Element, Document}
 
--- the attributes and the trees that are done, the text behind them to which more may come, whether there is any child, and
+-- the attributes and the trees that are done, the text after them to which more may come, whether there is any child, and
 -- whether an atom stands at the end
 pub record Built : Type 0 where
   pub attributes : List Attribute

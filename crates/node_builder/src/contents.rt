@@ -84,7 +84,7 @@ impl ContentBuilder {
         }
     }
 
-    /// Puts an atom at the end, and a space before it where it stands behind an atom.
+    /// Puts an atom at the end, and a space before it where it stands after an atom.
     fn push_atom(&mut self, alloc: Global, atom: &Atom) -> Result<(), AllocError>
         ensures { OnOk result (built self.new ≡ with_atom (built self.old) (text_of atom.now)) }
     {

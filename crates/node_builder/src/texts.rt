@@ -14,7 +14,7 @@ pub(crate) enum Pending {
     Joined(TextBuilder),
 }
 
-/// Puts a text behind the pending one.
+/// Puts a text after the pending one.
 pub(crate) fn join(alloc: Global, pending: Pending, text: &Text) -> Result<Pending, AllocError>
     ensures { IfOk result (λ joined. pending_text joined ≡ pending_text pending ++ text.now) }
 {
@@ -26,7 +26,7 @@ pub(crate) fn join(alloc: Global, pending: Pending, text: &Text) -> Result<Pendi
     Ok(Pending::Joined(builder))
 }
 
-/// Puts a space behind the pending text.
+/// Puts a space after the pending text.
 pub(crate) fn join_space(alloc: Global, pending: Pending) -> Result<Pending, AllocError>
     ensures { IfOk result (λ joined. pending_text joined ≡ pending_text pending ++ 32 ∷ []) }
 {

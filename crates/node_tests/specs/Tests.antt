@@ -21,61 +21,31 @@ passes_name (Exact wanted) name = bytes_eq wanted.uri name.uri && bytes_eq wante
 
 -- an element with such a name
 unfoldable pub passes_element : NameTest → Tree → Bool
-passes_element names (tree.Doc kids) = false
 passes_element names (tree.Elem name attrs kids) = passes_name names name
-passes_element names (tree.Text t) = false
-passes_element names (tree.Comment t) = false
-passes_element names (tree.Pi target t) = false
-passes_element names (tree.Attr name t) = false
+passes_element names t = false
 
 -- an attribute with such a name
 unfoldable pub passes_attribute : NameTest → Tree → Bool
-passes_attribute names (tree.Doc kids) = false
-passes_attribute names (tree.Elem name attrs kids) = false
-passes_attribute names (tree.Text t) = false
-passes_attribute names (tree.Comment t) = false
-passes_attribute names (tree.Pi target t) = false
 passes_attribute names (tree.Attr name t) = passes_name names name
+passes_attribute names t = false
 
 -- Each axis has a principal kind of node: attributes on the attribute axis, and elements on the others. A name test means
 -- a node of that kind with such a name.
 unfoldable pub passes_principal : Axis → NameTest → Tree → Bool
 passes_principal axis.Attribute names t = passes_attribute names t
-passes_principal axis.Child names t = passes_element names t
-passes_principal axis.Descendant names t = passes_element names t
-passes_principal axis.Itself names t = passes_element names t
-passes_principal axis.DescendantOrSelf names t = passes_element names t
-passes_principal axis.FollowingSibling names t = passes_element names t
-passes_principal axis.Following names t = passes_element names t
-passes_principal axis.Parent names t = passes_element names t
-passes_principal axis.Ancestor names t = passes_element names t
-passes_principal axis.PrecedingSibling names t = passes_element names t
-passes_principal axis.Preceding names t = passes_element names t
-passes_principal axis.AncestorOrSelf names t = passes_element names t
+passes_principal along names t = passes_element names t
 
 unfoldable pub is_text : Tree → Bool
-is_text (tree.Doc kids) = false
-is_text (tree.Elem name attrs kids) = false
 is_text (tree.Text t) = true
-is_text (tree.Comment t) = false
-is_text (tree.Pi target t) = false
-is_text (tree.Attr name t) = false
+is_text t = false
 
 unfoldable pub is_comment : Tree → Bool
-is_comment (tree.Doc kids) = false
-is_comment (tree.Elem name attrs kids) = false
-is_comment (tree.Text t) = false
 is_comment (tree.Comment t) = true
-is_comment (tree.Pi target t) = false
-is_comment (tree.Attr name t) = false
+is_comment t = false
 
 unfoldable pub is_document : Tree → Bool
 is_document (tree.Doc kids) = true
-is_document (tree.Elem name attrs kids) = false
-is_document (tree.Text t) = false
-is_document (tree.Comment t) = false
-is_document (tree.Pi target t) = false
-is_document (tree.Attr name t) = false
+is_document t = false
 
 unfoldable pub has_target : Option (List ℕ) → List ℕ → Bool
 has_target None target = true
@@ -83,12 +53,8 @@ has_target (Some wanted) target = bytes_eq wanted target
 
 -- a processing instruction, with this target where one is given
 unfoldable pub passes_pi : Option (List ℕ) → Tree → Bool
-passes_pi wanted (tree.Doc kids) = false
-passes_pi wanted (tree.Elem name attrs kids) = false
-passes_pi wanted (tree.Text t) = false
-passes_pi wanted (tree.Comment t) = false
 passes_pi wanted (tree.Pi target t) = has_target wanted target
-passes_pi wanted (tree.Attr name t) = false
+passes_pi wanted t = false
 
 -- whether a node on the axis passes the test, by the tree below it, which for an attribute is that attribute alone
 unfoldable pub passes_test : Axis → Test → Tree → Bool

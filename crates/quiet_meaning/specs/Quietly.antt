@@ -134,7 +134,7 @@ with_step next (step g) = path (slash_nodes g next)
 with_step next (path g) = path (slash_nodes g next)
 with_step next a = other
 
--- a path is read from the left, so behind its last `/` is one step
+-- a path is read from the left, so after its last `/` is one step
 unfoldable pub slashed : Quietly → Quietly → Quietly
 slashed a (attribute g) = with_step g a
 slashed a (step g) = with_step g a

@@ -16,7 +16,7 @@ pub record Nested : Type 0 where
 abbrev pub nests : Kinds
 nests = record { Instrs = Nested; Values = ℕ; Bounds = ℕ; Whens = ℕ }
 
--- a variable adds a level to each instruction behind it in its sequence
+-- a variable adds a level to each instruction after it in its sequence
 abbrev pub behind : Bool → ℕ → ℕ
 behind true before = 1 + before
 behind false before = before
@@ -95,7 +95,7 @@ abbrev pub nested_of : {E P : Type 0} → Instr E P → Nested
 nested_of = instr_gives nests nest_steps
 
 -- 1 where no instruction stands within it, and otherwise 1 and the most that one within it has; a variable adds 1 to
--- each instruction behind it in its sequence
+-- each instruction after it in its sequence
 abbrev pub instr_nest_of : {E P : Type 0} → Instr E P → ℕ
 instr_nest_of i = (nested_of i).levels
 

@@ -2,7 +2,7 @@
 //!
 //! Each function is exact: its contract names a definition in `specs/` that goes over the forms one by one.
 //!
-//! Example: `<xsl:variable name="x" select="1"/><a/>` nests 2 levels, since `a` stands behind a variable.
+//! Example: `<xsl:variable name="x" select="1"/><a/>` nests 2 levels, since `a` stands after a variable.
 #![tactic(auto)]
 
 mod nesting;

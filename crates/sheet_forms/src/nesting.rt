@@ -7,7 +7,7 @@ use xt_sheets::instrs::{Bound, Instr, Value, When};
 
 /// How many levels the instruction has, or the greatest number where it has more: 1 where no instruction stands within it,
 /// and otherwise 1 and the most that one within it has. In a sequence each `xsl:variable` adds 1 to each instruction
-/// behind it. An `xsl:when`, an `xsl:otherwise` and a parameter that is passed are no level of their own.
+/// after it. An `xsl:when`, an `xsl:otherwise` and a parameter that is passed are no level of their own.
 #[cycle(nest)]
 pub fn nest_instruction<E, P>(instr: &Instr<E, P>) -> u32
     ensures { result ≡ min (instr_nest_of instr.now) u32.MAX }

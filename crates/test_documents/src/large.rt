@@ -8,7 +8,7 @@ use xt_tree::Tree;
 
 const DECLARATION: &str = "<?xml version=\"1.0\" encoding=\"UTF-8\"?>";
 
-// Whether the tree is written as these characters behind the XML declaration.
+// Whether the tree is written as these characters after the XML declaration.
 fn is_written(rt: &(impl Abort + AllocGlobal), tree: &Tree, expected: &str) -> bool {
     let bytes = write_tree(rt.alloc(), tree).expect(rt, "a tree with a text");
     let bytes = bytes.as_slice();

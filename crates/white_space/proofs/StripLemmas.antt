@@ -22,7 +22,7 @@ put_left rules kept drops (Comment t) f = refl
 put_left rules kept drops (Pi target t) f = refl
 put_left rules kept drops (Attr name t) f = refl
 
--- what is left of the trees from a place on: of the tree there, and then of those behind it
+-- what is left of the trees from a place on: of the tree there, and then of those after it
 pub left_turn : (rules : List SpaceRule) (kept drops : Bool) (ts out : List Tree) (i : ℕ) (t : Tree) → i < length ts → t ≡ get_or ts i t
     → (out ++ left_of rules kept drops t) ++ trees (stripped_forest rules kept drops (forest_of (drop (i + 1) ts))) ≡ out ++ trees (stripped_forest rules kept drops (forest_of (drop i ts)))
 left_turn rules kept drops ts out i t lt is =
@@ -32,7 +32,7 @@ left_turn rules kept drops ts out i t lt is =
     let next : all (drop (i + 1) ts) ≡ all (drop (suc i) ts) = ap (λ n. all (drop n ts)) (add-one i) in
     append_assoc out (left_of rules kept drops t) (all (drop (i + 1) ts)) ∙ ap (λ ys. out ++ (left_of rules kept drops t ++ ys)) next ∙ ap (λ ys. out ++ ys) (sym turned)
 
--- a list of what is left, with nothing behind it
+-- a list of what is left, with nothing after it
 pub left_whole : (f : Forest) → forest_of (trees f) ≡ f
 left_whole end = refl
 left_whole (doc kids rest) = rw (left_whole rest) refl

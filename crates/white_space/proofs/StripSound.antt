@@ -13,7 +13,7 @@ use Rattle.xt_tree.specs.White.{is_white_text}
 use Rattle.xt_tree.specs.Sound.{is_sound_name, are_sound_attributes, is_sound_comment, is_sound_pi, are_sound_behind, is_sound_root, is_sound_tree}
 use Rattle.white_space.specs.Stripped.{preserves, drops_in, unless_dropped, stripped_forest, stripped}
 
--- where the first is behind a text, so is the second
+-- where the first is after a text, so is the second
 abbrev IsLess : Bool → Bool → Type 0
 IsLess less after = less ≡ true → after ≡ true
 

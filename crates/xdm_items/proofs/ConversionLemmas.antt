@@ -44,7 +44,7 @@ unfolding onto
 nothing_made (Ok items) = refl
 nothing_made (Err code) = refl
 
--- the items from a place on, behind those that are made, are all of them
+-- the items from a place on, after those that are made, are all of them
 pub begins : (to : AtomType) (items made : List Item) → made ≡ [] → onto made (converted_items to (map atomized_item items)) ≡ converted_items to (map atomized_item items)
 begins to items made e = ap (λ (l : List Item). onto l (converted_items to (map atomized_item items))) e ∙ nothing_made (converted_items to (map atomized_item items))
 
@@ -63,7 +63,6 @@ cons_converted to item rest = refl
 none_converted : (to : AtomType) → converted_items to [] ≡ Ok []
 unfolding converted_items
 none_converted to = refl
-
 
 -- what is left begins with the item at the place
 left_at : (to : AtomType) (items : List Item) (i : ℕ) (item : Item) → i < length items → item ≡ get_or items i item

@@ -22,7 +22,7 @@ pub with_items-append : (b : Built) (xs ys : List Tree) → with_items b (xs ++ 
 with_items-append b [] ys = refl
 with_items-append b (x ∷ xs) ys = with_items-append (with_item b x) xs ys
 
--- a text behind another is one with it
+-- a text after another is one with it
 pub put_text-append : (t u : List ℕ) (items : List Tree) → put_text (t ++ u) items ≡ put_text t (put_text u items)
 put_text-append [] u items = refl
 put_text-append (c ∷ cs) [] items = ap (λ v. put_text (c ∷ v) items) (append-nil cs)

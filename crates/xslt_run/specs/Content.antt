@@ -12,7 +12,7 @@ use Rattle.xslt_run.specs.declared.contents.Content.{Content}
 use Rattle.xslt_run.specs.declared.contents.Pending.{Pending}
 use Rattle.xslt_run.specs.declared.contents.Pending.TheVariants.{Nothing, Shared, Joined}
 
--- the trees that are done, and the text behind them to which more may come
+-- the trees that are done, and the text after them to which more may come
 pub record Built : Type 0 where
   pub done : List Tree
   pub pending : List ℕ

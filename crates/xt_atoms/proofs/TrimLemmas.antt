@@ -23,7 +23,7 @@ pub leading_more : (bs rest kept : List ℕ) (c : ℕ) → IsUtf8 bs → bs ≡ 
     → without_leading_white (chars bs) ≡ kept → without_leading_white (chars rest) ≡ kept
 leading_more bs rest kept c u e w k = sym (ap without_leading_white (chars_past_char bs rest c u e) ∙ white_goes c (chars rest) w) ∙ k
 
--- another character stays, with all behind it
+-- another character stays, with all after it
 pub leading_ends : (bs rest kept : List ℕ) (c : ℕ) → IsUtf8 bs → bs ≡ encode_utf8 c ++ rest → is_white c ≡ false
     → without_leading_white (chars bs) ≡ kept → chars bs ≡ kept
 leading_ends bs rest kept c u e w k =

@@ -30,7 +30,7 @@ abbrev pub is_in_range : ℤ → Bool
 is_in_range (pos n) = nat_lt n (2 ^ 63)
 is_in_range (negsuc n) = nat_lt n (2 ^ 63)
 
--- the digits behind an optional sign, and the integer in range
+-- the digits after an optional sign, and the integer in range
 unfoldable pub spells_integer : List ℕ → Bool
 spells_integer word = is_numeral (without_leading_sign word) && is_in_range (signed_digits_value 10 word)
 

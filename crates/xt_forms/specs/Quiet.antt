@@ -64,7 +64,7 @@ joined all = condition_if (list_all is_truth all)
 abbrev pub stepped : Bool → QuietForm
 stepped quiet = if quiet then form.Step else form.Other
 
--- a path is read from the left, so behind its last `/` is one step
+-- a path is read from the left, so after its last `/` is one step
 unfoldable pub slashed : QuietForm → QuietForm → QuietForm
 slashed a form.Step = if is_path a then form.Path else form.Other
 slashed a form.Integer = form.Other

@@ -144,7 +144,7 @@ pub(crate) fn condition_if(holds: bool) -> QuietForm
     }
 }
 
-/// What `a/b` is: a path is read from the left, so behind its last `/` is one step.
+/// What `a/b` is: a path is read from the left, so after its last `/` is one step.
 #[tactic(auto, unfolding(crate::specs::Quiet::slashed))]
 pub(crate) fn slashed(a: QuietForm, b: QuietForm) -> QuietForm
     ensures { result ≡ slashed a b }

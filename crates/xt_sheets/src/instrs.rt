@@ -40,7 +40,7 @@ pub enum Instr<E, P> {
     ForEachGroup(Shared<E>, Grouping<E, P>, Shared<List<Sort<E>>>, Shared<List<Instr<E, P>>>),
     /// `xsl:perform-sort` (13.2): `select`, the sort keys and the content.
     PerformSort(Option<Shared<E>>, Shared<List<Sort<E>>>, Shared<List<Instr<E, P>>>),
-    /// `xsl:variable` (9.1), which the instructions behind it see.
+    /// `xsl:variable` (9.1), which the instructions after it see.
     Variable(Bound<E, P>),
     /// `xsl:apply-templates` (6.3): `select`, the mode, the sort keys and the parameters.
     Apply(Option<Shared<E>>, ModeUse, Shared<List<Sort<E>>>, Shared<List<Bound<E, P>>>),
@@ -68,7 +68,7 @@ pub struct When<E, P> {
 pub struct Bound<E, P> {
     /// Its name.
     pub name: ExprName,
-    /// The type behind `as`.
+    /// The type after `as`.
     pub kind: Option<SeqType>,
     /// What it is bound to; of a parameter, where no value is passed.
     pub value: Value<E, P>,

@@ -49,9 +49,9 @@ pub struct Template {
     pub name: Option<ExprName>,
     /// Its parameters.
     pub params: List<Bound>,
-    /// The type behind `as`.
+    /// The type after `as`.
     pub kind: Option<SeqType>,
-    /// Its content behind the parameters.
+    /// Its content after the parameters.
     pub body: List<Instr>,
     /// Whether it has `match`.
     pub has_match: bool,
@@ -79,9 +79,9 @@ pub struct SheetFunction {
     pub name: ExprName,
     /// Its parameters.
     pub params: List<Bound>,
-    /// The type behind `as`.
+    /// The type after `as`.
     pub kind: Option<SeqType>,
-    /// Its content behind the parameters.
+    /// Its content after the parameters.
     pub body: List<Instr>,
 }
 

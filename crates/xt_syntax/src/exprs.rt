@@ -26,7 +26,7 @@ pub enum Expr {
     If(Shared<List<Arm>>, Shared<Expr>),
     /// `for`, `let`, `where`, `order by`, `return`.
     Flwor(Flwor),
-    /// `some`, or `every` where it is true; the bindings, and the test behind `satisfies`.
+    /// `some`, or `every` where it is true; the bindings, and the test after `satisfies`.
     Quant(bool, Shared<List<Bind>>, Shared<Expr>),
     /// `=` `!=` `<` `<=` `>` `>=`.
     General(CompareOp, Shared<Expr>, Shared<Expr>),
@@ -106,7 +106,7 @@ pub struct Bind {
 #[cycle(ast)]
 pub struct Flwor {
     pub clauses: Shared<List<Clause>>,
-    /// Behind `where`.
+    /// After `where`.
     pub test: Option<Shared<Expr>>,
     pub orders: Shared<List<Order>>,
     /// Whether it is `stable order by`.
@@ -118,13 +118,13 @@ pub struct Flwor {
 #[derive(Drop)]
 #[cycle(ast)]
 pub enum Clause {
-    /// `for`, with the variable behind `at`, if there is one.
+    /// `for`, with the variable after `at`, if there is one.
     For(Bind, Option<ExprName>),
     /// `let`.
     Let(Bind),
 }
 
-/// A key behind `order by` (XQuery 1.0, 3.8.3).
+/// A key after `order by` (XQuery 1.0, 3.8.3).
 #[derive(Drop)]
 #[cycle(ast)]
 pub struct Order {
