@@ -1,5 +1,6 @@
-//! Tests of sequences: each call once, since a call that always wants memory keeps its contract, and
-//! large inputs: what is walked on demand is not built, and no walk takes more than linear time.
+//! Tests of sequences: each call once, since a call that always wants memory keeps its contract,
+//! and large inputs: what is walked on demand is not built, and no walk takes more than linear
+//! time.
 //!
 //! They stand apart from the crate that they test, so that a change of a test need not prove it
 //! again.
