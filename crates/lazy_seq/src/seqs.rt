@@ -97,8 +97,9 @@ impl Seq {
     }
 
     /// The parts one after another, as the comma has them (XPath 2.0, 3.3.1). It takes no memory. A
-    /// walk takes linear time however deep concatenations nest; `copy`, `len`, `at` and a drop go down
-    /// by calls, so that many parts are better put into one concatenation than into each other.
+    /// walk takes linear time however deep concatenations nest; `copy`, `len`, `at` and a drop go
+    /// down by calls, so that many parts are better put into one concatenation than into each
+    /// other.
     pub fn concat(parts: List<Seq>) -> Seq
         ensures items { result.items ≡ flat_map (λ p. p.items) parts }
         ensures reach { result.reach ≡ reach_along parts }

@@ -48,6 +48,11 @@ pub(crate) fn child(rt: &(impl Abort + AllocGlobal), root: &Node, place: usize) 
     }
 }
 
+// Whether the node is the child of the root at the place.
+pub(crate) fn is_child(node: &Node, place: usize) -> bool {
+    matches!(node.path(), [only] if *only == place)
+}
+
 pub(crate) fn is_integer(item: Option<&Item>, wanted: i64) -> bool {
     matches!(item, Some(Item::Atom(Atom::Int(number))) if *number == wanted)
 }

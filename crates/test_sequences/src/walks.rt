@@ -1,7 +1,7 @@
 // Cursors, of which no more is walked than is asked for.
 ghost use Rattle.std.specs.Prelude.{◌≡◌, ◌<◌};
 
-use crate::made::{child, items_of, wide};
+use crate::made::{child, is_child, items_of, wide};
 use lazy_seq::Seq;
 use node_axes::{Cursor, Steps};
 use std::alloc::{AllocError, Global};
@@ -15,7 +15,7 @@ use xt_types::{Axis, NameTest, Test};
 const MANY: u32 = 300_000;
 
 // The elements `a` on the axis.
-fn walk(alloc: Global, node: &Node, axis: Axis) -> Result<Seq, AllocError> {
+pub(crate) fn walk(alloc: Global, node: &Node, axis: Axis) -> Result<Seq, AllocError> {
     let test = Test::Named(NameTest::Local(Text::make(alloc, "a")?));
     Ok(Seq::of_cursor(Cursor::new(alloc, node, axis, test)?))
 }
@@ -69,10 +69,6 @@ fn are_children(items: &[Item]) -> bool {
         }
     }
     items.len() == MANY as usize - 1
-}
-
-fn is_child(node: &Node, place: usize) -> bool {
-    matches!(node.path(), [only] if *only == place)
 }
 
 #[test]
