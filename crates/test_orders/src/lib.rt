@@ -7,6 +7,8 @@
 #[cfg(test)]
 mod groups;
 #[cfg(test)]
+mod indexes;
+#[cfg(test)]
 mod made;
 #[cfg(test)]
 mod sets;
