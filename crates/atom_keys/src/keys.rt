@@ -8,8 +8,9 @@ use std::alloc::AllocError;
 use xt_atoms::Atom;
 use xt_names::{Name, Text};
 
-/// What of an atom counts as a key (XSLT 2.0, 14.3 and 16.3): of a text its characters, untyped or not, and of other
-/// atoms kind and value. Two of them are equal exactly where `key_same` is true of the atoms.
+/// What of an atom counts as a key (XSLT 2.0, 14.3 and 16.3): of a text its characters, untyped or
+/// not, and of other atoms kind and value. Two of them are equal exactly where `key_same` is true
+/// of the atoms.
 #[derive(Drop, PartialEq, Eq, Hash)]
 pub enum AtomKey {
     Str(Text),
@@ -33,8 +34,10 @@ impl AtomKey {
     }
 }
 
-/// The keys of two atoms are equal exactly where the atoms are the same key, and to be the same key is an equivalence.
+/// The keys of two atoms are equal exactly where the atoms are the same key, and to be the same key
+/// is an equivalence.
 pub fn equal_keys_are_the_same_key()
-    ensures equal { (a b : AnAtom) → ⟦<AtomKey as PartialEq>⟧.eq (key_of a) (key_of b) ≡ key_same a b }
+    ensures equal { (a b : AnAtom) →
+        ⟦<AtomKey as PartialEq>⟧.eq (key_of a) (key_of b) ≡ key_same a b }
     ensures laws { IsEquivalence key_same }
 {}

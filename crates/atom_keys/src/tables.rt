@@ -17,7 +17,8 @@ pub struct KeyEntry {
     pub places: List<u64>,
 }
 
-/// Keys in the order in which they were first seen, each with its places; contracts see the list of the entries.
+/// Keys in the order in which they were first seen, each with its places; contracts see the list of
+/// the entries.
 #[derive(Drop)]
 pub struct KeyTable {
     keys: IndexSet<AtomKey>,
@@ -47,7 +48,8 @@ impl KeyTable {
         }
     }
 
-    /// Puts the place under the key, at its end, unless it stands there already. A new key stands last.
+    /// Puts the place under the key, at its end, unless it stands there already. A new key stands
+    /// last.
     pub fn add(&mut self, key: &Atom, place: u64) -> Result<(), AllocError>
         ensures { OnOk result (self.new ≡ with_place self.old key.now place) }
     {

@@ -30,15 +30,16 @@ impl From<AllocError> for FetchFault {
     }
 }
 
-/// The bytes of the files of these names, in turn. A refusal tells the first name whose file cannot be read, or is longer
-/// than 67,108,864 bytes; nothing is loaded after it.
+/// The bytes of the files of these names, in turn. A refusal tells the first name whose file cannot
+/// be read, or is longer than 67,108,864 bytes; nothing is loaded after it.
 pub fn fetch<F: Files>(
     alloc: Global,
     files: &mut F,
     names: &List<Text>,
 ) -> Result<List<List<u8>>, FetchFault>
     ensures held { IfOk result (AreHeld (F.state files.old).held names.now) }
-    ensures refused { IfErr result (HasFetchCause (F.state files.old) (F.state files.new) names.now) }
+    ensures refused { IfErr result
+        (HasFetchCause (F.state files.old) (F.state files.new) names.now) }
     ensures keeps { KeepsFiles (F.state files.old) (F.state files.new) }
 {
     let mut texts = List::new(alloc);

@@ -12,7 +12,8 @@ use std::marker::Model;
 use xt_names::Text;
 use xt_tree::{Node, Tree};
 
-/// Documents in order, each under a name of its own; contracts see the list of the names with their trees.
+/// Documents in order, each under a name of its own; contracts see the list of the names with their
+/// trees.
 #[derive(Drop)]
 pub struct DocSet {
     documents: IndexMap<Text, Tree>,
@@ -48,8 +49,8 @@ impl DocSet {
         self.documents.len() as u64
     }
 
-    /// Puts a document at the end, and answers its number, from 1; None exactly where the name is there, and the set
-    /// stays as it was then.
+    /// Puts a document at the end, and answers its number, from 1; None exactly where the name is
+    /// there, and the set stays as it was then.
     pub fn add(&mut self, name: &str, tree: Tree) -> Result<Option<u64>, AllocError>
         ensures number { IfOk result (λ number. number ≡ next_number (chars name.now) self.old) }
         ensures added { OnOk result (self.new ≡ with_document (chars name.now) tree self.old) }
@@ -64,7 +65,8 @@ impl DocSet {
         Ok(Some(number))
     }
 
-    /// The root of the document of that name, with its number; None exactly where the name is not there.
+    /// The root of the document of that name, with its number; None exactly where the name is not
+    /// there.
     pub fn find(&self, name: &str) -> Result<Option<Node>, AllocError>
         ensures { IfOk result (λ node. node ≡ root_named (chars name.now) self.now) }
     {
@@ -94,12 +96,14 @@ impl DocSet {
     }
 }
 
-/// A set of sound documents stays one when a sound document is added, and what is found in it is sound.
+/// A set of sound documents stays one when a sound document is added, and what is found in it is
+/// sound.
 pub fn documents_stay_sound()
-    ensures added { (name : List ℕ) (tree : PlainTree) (set : DocumentSet) → IsTrue (are_sound_documents set)
-        → IsTrue (is_sound_document tree) → IsTrue (are_sound_documents (with_document name tree set)) }
-    ensures found { (name : List ℕ) (set : DocumentSet) (root : Place) → IsTrue (are_sound_documents set)
-        → root_named name set ≡ Some root → IsTrue (is_sound_document root.tree) }
+    ensures added { (name : List ℕ) (tree : PlainTree) (set : DocumentSet) →
+        IsTrue (are_sound_documents set) → IsTrue (is_sound_document tree) →
+        IsTrue (are_sound_documents (with_document name tree set)) }
+    ensures found { (name : List ℕ) (set : DocumentSet) (root : Place) →
+        IsTrue (are_sound_documents set) → root_named name set ≡ Some root → IsTrue (is_sound_document root.tree) }
 {}
 
 fn is_named(documents: &IndexMap<Text, Tree>, name: &Text) -> bool
@@ -111,7 +115,8 @@ fn is_named(documents: &IndexMap<Text, Tree>, name: &Text) -> bool
 
 /// Puts the tree under the name; where memory runs out, all stays as it was.
 fn put(documents: &mut IndexMap<Text, Tree>, name: Text, tree: Tree) -> Result<(), AllocError>
-    ensures put { OnOk result (documents.new.entries ≡ insert_entry bytes_eq documents.old.entries name tree) }
+    ensures put { OnOk result (documents.new.entries
+        ≡ insert_entry bytes_eq documents.old.entries name tree) }
     ensures err { OnErr result (documents.new.entries ≡ documents.old.entries) }
 {
     documents.insert(name, tree)?;

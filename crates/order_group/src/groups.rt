@@ -17,9 +17,9 @@ pub struct Group {
     pub members: List<u64>,
 }
 
-/// The groups of items that have these keys (`group-by`, XSLT 2.0, 14.3): one for each key, in the order in which the
-/// keys are first seen, with the places of the items that have the key. An item without a key is in no group. Nodes are
-/// no keys: callers atomize them.
+/// The groups of items that have these keys (`group-by`, XSLT 2.0, 14.3): one for each key, in the
+/// order in which the keys are first seen, with the places of the items that have the key. An item
+/// without a key is in no group. Nodes are no keys: callers atomize them.
 pub fn group_by(alloc: Global, keys: &List<ItemList>) -> Result<List<Group>, AllocError>
     ensures { IfOk result (λ groups. groups ≡ grouped_by keys.now) }
 {
@@ -72,7 +72,8 @@ fn group_of(entry: KeyEntry) -> Group
     }
 }
 
-/// The longest runs of items with the same key (`group-adjacent`, XSLT 2.0, 14.3), each with its first key.
+/// The longest runs of items with the same key (`group-adjacent`, XSLT 2.0, 14.3), each with its
+/// first key.
 pub fn group_adjacent(alloc: Global, keys: &List<Atom>) -> Result<List<Group>, AllocError>
     ensures { IfOk result (λ groups. groups ≡ grouped_adjacent keys.now) }
 {
@@ -85,7 +86,8 @@ pub fn group_adjacent(alloc: Global, keys: &List<Atom>) -> Result<List<Group>, A
 }
 
 fn add_changes(groups: &mut Vec<Group>, first: &Atom, rest: &[Atom]) -> Result<(), AllocError>
-    ensures { OnOk result (groups.new.items ≡ continued groups.old.items 1 (changes first.now rest.now)) }
+    ensures { OnOk result (groups.new.items
+        ≡ continued groups.old.items 1 (changes first.now rest.now)) }
 {
     let mut before = first;
     let mut place = 1;
@@ -97,8 +99,8 @@ fn add_changes(groups: &mut Vec<Group>, first: &Atom, rest: &[Atom]) -> Result<(
     Ok(())
 }
 
-/// The groups that begin at the first item and at each where `starts` is true (`group-starting-with`, XSLT 2.0, 14.3).
-/// They have no key.
+/// The groups that begin at the first item and at each where `starts` is true
+/// (`group-starting-with`, XSLT 2.0, 14.3). They have no key.
 pub fn group_starting(alloc: Global, starts: &[bool]) -> Result<List<Group>, AllocError>
     ensures { IfOk result (λ groups. groups ≡ grouped_starting starts.now) }
 {
@@ -111,7 +113,8 @@ pub fn group_starting(alloc: Global, starts: &[bool]) -> Result<List<Group>, All
 }
 
 fn add_starts(groups: &mut Vec<Group>, rest: &[bool]) -> Result<(), AllocError>
-    ensures { OnOk result (groups.new.items ≡ continued groups.old.items 1 (map plain_mark rest.now)) }
+    ensures { OnOk result (groups.new.items
+        ≡ continued groups.old.items 1 (map plain_mark rest.now)) }
 {
     let mut place = 1;
     for begins in rest {
@@ -128,8 +131,8 @@ fn add_place(
     key: Option<&Atom>,
     place: u64,
 ) -> Result<(), AllocError>
-    ensures { OnOk result (groups.new.items
-        ≡ with_mark groups.old.items (record { begins = begins; key = option_copied key.entry }) place) }
+    ensures { OnOk result (groups.new.items ≡ with_mark groups.old.items
+        (record { begins = begins; key = option_copied key.entry }) place) }
 {
     if begins {
         begin_group(groups, key, place)

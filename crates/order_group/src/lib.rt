@@ -1,7 +1,8 @@
 //! The order and the groups of sequences.
 //!
-//! `sort_by_keys` puts rows of sort keys in their one stable order, which `order by` and xsl:sort share. It answers
-//! with the places of the rows, so that callers put whatever has those keys in order.
+//! `sort_by_keys` puts rows of sort keys in their one stable order, which `order by` and xsl:sort
+//! share. It answers with the places of the rows, so that callers put whatever has those keys in
+//! order.
 //!
 //! Example: of the rows `(b)`, `(a)`, `()`, `(a)` the places in order are 2, 1, 3, 0.
 #![tactic(auto)]

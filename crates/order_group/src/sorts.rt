@@ -33,9 +33,10 @@ struct Entry<'a> {
     place: u64,
 }
 
-/// The places of the rows, from 0, in their one stable order (XSLT 2.0, 13.1; XQuery 1.0, 3.8.3): the first column in
-/// which two rows differ decides, the empty key is least, and a column where `descending` is true is the other way
-/// round. `Mixed` comes exactly where a column holds two sort classes or a QName.
+/// The places of the rows, from 0, in their one stable order (XSLT 2.0, 13.1; XQuery 1.0, 3.8.3):
+/// the first column in which two rows differ decides, the empty key is least, and a column where
+/// `descending` is true is the other way round. `Mixed` comes exactly where a column holds two sort
+/// classes or a QName.
 pub fn sort_by_keys(
     alloc: Global,
     rows: &List<KeyRow>,

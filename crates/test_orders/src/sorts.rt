@@ -1,0 +1,132 @@
+// Rows in order.
+use crate::made::{MANY, word};
+use order_group::{KeyRow, SortFault, sort_by_keys};
+use std::alloc::AllocGlobal;
+use std::process::Abort;
+use xt_atoms::Atom;
+use xt_names::List;
+
+fn row(rt: &(impl Abort + AllocGlobal), first: Option<Atom>, second: Option<Atom>) -> KeyRow {
+    let mut cells = List::new(rt.alloc());
+    cells.push(first).expect(rt, "memory");
+    cells.push(second).expect(rt, "memory");
+    KeyRow { cells }
+}
+
+fn add_row(
+    rt: &(impl Abort + AllocGlobal),
+    rows: &mut List<KeyRow>,
+    first: Option<Atom>,
+    second: Option<Atom>,
+) {
+    rows.push(row(rt, first, second)).expect(rt, "memory");
+}
+
+// the places in order, or the empty list where a column is mixed
+fn sorted(rt: &(impl Abort + AllocGlobal), rows: &List<KeyRow>, descending: &[bool]) -> List<u64> {
+    match sort_by_keys(rt.alloc(), rows, descending) {
+        Ok(places) => places,
+        Err(fault) => {
+            drop(fault);
+            List::new(rt.alloc())
+        }
+    }
+}
+
+// last and first names, of which one has no first name
+fn names(rt: &(impl Abort + AllocGlobal)) -> List<KeyRow> {
+    let mut rows = List::new(rt.alloc());
+    add_row(
+        rt,
+        &mut rows,
+        Some(word(rt, "Jones")),
+        Some(word(rt, "Joan")),
+    );
+    add_row(rt, &mut rows, Some(word(rt, "Jones")), None);
+    add_row(
+        rt,
+        &mut rows,
+        Some(word(rt, "Adams")),
+        Some(word(rt, "Zoe")),
+    );
+    add_row(
+        rt,
+        &mut rows,
+        Some(word(rt, "Jones")),
+        Some(word(rt, "Joan")),
+    );
+    rows
+}
+
+#[test]
+fn names_are_sorted(rt: HostRuntime) {
+    let rows = names(&rt);
+    let up = sorted(&rt, &rows, &[false, false]);
+    assert!(rt; up.as_slice() == [2, 1, 0, 3].as_slice());
+    let down = sorted(&rt, &rows, &[true, true]);
+    assert!(rt; down.as_slice() == [0, 3, 1, 2].as_slice());
+    drop(up);
+    drop(down);
+    drop(rows);
+}
+
+fn mixed_column(rt: &(impl Abort + AllocGlobal)) -> u64 {
+    let mut rows = List::new(rt.alloc());
+    add_row(rt, &mut rows, Some(Atom::Int(1)), Some(Atom::Int(1)));
+    add_row(rt, &mut rows, Some(Atom::Int(1)), Some(Atom::Bool(true)));
+    let column = match sort_by_keys(rt.alloc(), &rows, &[false, false]) {
+        Err(SortFault::Mixed(column)) => column,
+        Err(SortFault::Memory(_)) => u64::MAX,
+        Ok(places) => {
+            drop(places);
+            u64::MAX
+        }
+    };
+    drop(rows);
+    column
+}
+
+#[test]
+fn a_column_of_two_kinds_is_mixed(rt: HostRuntime) {
+    assert!(rt; mixed_column(&rt) == 1);
+}
+
+// the rest by 2, and the number itself
+fn many_rows(rt: &(impl Abort + AllocGlobal)) -> List<KeyRow> {
+    let mut rows = List::new(rt.alloc());
+    for n in 0..MANY {
+        let number = n as i64;
+        add_row(
+            rt,
+            &mut rows,
+            Some(Atom::Int(number % 2)),
+            Some(Atom::Int(number)),
+        );
+    }
+    rows
+}
+
+// first the odd numbers from the greatest on, and then the even ones
+fn are_in_order(places: &[u64]) -> bool {
+    let mut next: u64 = MANY - 1;
+    for place in places {
+        if *place != next {
+            return false;
+        }
+        next = if next == 1 {
+            MANY - 2
+        } else {
+            next.saturating_sub(2)
+        };
+    }
+    places.len() as u64 == MANY
+}
+
+#[test]
+fn many_rows_are_sorted(rt: HostRuntime) {
+    let rows = many_rows(&rt);
+    let places = sorted(&rt, &rows, &[true, true]);
+    assert!(rt; are_in_order(places.as_slice()));
+    drop(places);
+    drop(rows);
+}
