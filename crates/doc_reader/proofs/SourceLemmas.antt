@@ -1,5 +1,5 @@
 -- A text and its characters, where some are taken from its front.
-use Rattle.std.proofs.Common.{◌≡◌, ℕ, ◌+◌, ◌≤◌, length-append, List, [], ◌∷◌, ◌++◌, length, take, Bool, true, false, Option, Some, slice_get, slice_range, refl, sym, ap, ◌∙◌, append_assoc, arith}
+use Rattle.std.proofs.Common.{◌≡◌, ℕ, ◌+◌, ◌≤◌, length-append, List, [], ◌∷◌, ◌++◌, length, take, Bool, true, false, Option, Some, slice_get, refl, sym, ap, ◌∙◌, append_assoc, arith}
 use Rattle.std.proofs.lemmas.Str.{chars-append, chars_past_char, IsCharBoundary-at_seam}
 use Rattle.std.proofs.lemmas.Bool.{and_parts}
 use Rattle.std.proofs.lemmas.List.{append_cancel_right}

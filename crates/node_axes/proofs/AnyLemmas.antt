@@ -1,6 +1,5 @@
 -- The same from any node.
-use Rattle.std.proofs.Common.{◌≡◌, ℕ, ◌+◌, ◌≤◌, suc, List, [], ◌∷◌, ◌++◌, length, Bool, true, false, Option, Some, None, refl, sym, ap, subst, ◌∙◌, arith, length-append}
-use Rattle.std.proofs.lemmas.Bool.{or_cases}
+use Rattle.std.proofs.Common.{◌≡◌, ℕ, ◌+◌, ◌≤◌, suc, List, ◌∷◌, length, Bool, true, Option, Some, None, refl, sym, ap, subst, ◌∙◌, arith, length-append}
 use Rattle.xt_tree.specs.declared.trees.Tree.{Tree}
 use Rattle.xt_tree.specs.Walk.{Spot}
 use Rattle.xt_types.specs.declared.axes.Axis.{Axis}
@@ -8,7 +7,7 @@ use Rattle.xt_types.specs.declared.axes.Axis.TheVariants.{Child, Descendant, Att
 use Rattle.node_axes.specs.Axes.{on_axis}
 use Rattle.node_axes.specs.Course.{is_further}
 use Rattle.node_axes.specs.Paths.{Stands, before, above, same, below, after, stands, is_over, has_path}
-use Rattle.node_axes.specs.Moves.{count_at, Right, NoRight, Left, NoLeft, Skips, AllBehind, Backs, NoneBack, has_spot, Lands, Ends, every}
+use Rattle.node_axes.specs.Moves.{Right, NoRight, Left, NoLeft, Skips, AllBehind, Backs, NoneBack, has_spot, Lands, Ends}
 use Rattle.node_axes.specs.Paths.{is_earlier, is_not_later}
 use Rattle.node_axes.proofs.LoopLemmas.{stands-same}
 use Rattle.node_axes.proofs.PathLemmas.{above_is, same_is}

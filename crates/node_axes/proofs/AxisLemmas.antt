@@ -1,15 +1,13 @@
 -- Each axis by how the paths stand.
-use Rattle.std.proofs.Common.{◌≡◌, ℕ, zero, suc, ◌+◌, ◌<◌, ◌≤◌, List, [], ◌∷◌, ◌++◌, length, Bool, true, false, ◌&&◌, ◌||◌, not, nat_eq, nat_lt, Option, Some, None, is_some, inl, inr, refl, sym, ap, subst, ◌∙◌, arith, length-append}
-use Rattle.std.proofs.lemmas.Bool.{both_ways, and_parts, or_cases, eqb-true, eq-eqb, ne_eqb, lt-ltb, le-ltb, ltb-true}
+use Rattle.std.proofs.Common.{◌≡◌, ℕ, suc, ◌+◌, ◌<◌, ◌≤◌, List, [], ◌∷◌, ◌++◌, length, Bool, true, false, ◌&&◌, not, nat_eq, nat_lt, Option, Some, None, inl, inr, refl, sym, ap, ◌∙◌, arith, length-append}
+use Rattle.std.proofs.lemmas.Bool.{and_parts, eqb-true, eq-eqb, lt-ltb, le-ltb, ltb-true}
 use Rattle.std.specs.declared.cmp.Ordering.{Ordering}
 use Rattle.std.specs.declared.cmp.Ordering.TheVariants.{Less, Equal, Greater}
 use Rattle.std.specs.Ordering.{nat_cmp, ordering_then}
 use Rattle.std.specs.Cmp.Lexicographic.{slice_cmp}
 use Rattle.xt_tree.specs.Place.{steps, step_cmp}
-use Rattle.xt_tree.specs.Walk.{Spot, spot_cmp}
-use Rattle.xt_types.specs.declared.axes.Axis.TheVariants.{Child, Descendant, Attribute, Itself, DescendantOrSelf, FollowingSibling, Following, Parent, Ancestor, PrecedingSibling, Preceding, AncestorOrSelf}
-use Rattle.node_axes.specs.Axes.{begins_with, same_path, same_attribute, is_later_sibling, is_less, is_before, is_attribute, way_length, is_child, is_descendant, is_own_attribute, is_itself, is_parent, is_ancestor, is_following_sibling, is_preceding_sibling, is_following, is_preceding, on_axis}
-use Rattle.node_axes.specs.Paths.{Stands, before, above, same, below, after, then_stands, stands, is_before_all, is_earlier, is_not_later, is_over}
+use Rattle.node_axes.specs.Axes.{begins_with, same_path, is_later_sibling, is_less, is_before, is_attribute, way_length, is_child, is_descendant, is_parent, is_ancestor, is_following, is_preceding}
+use Rattle.node_axes.specs.Paths.{Stands, before, above, same, below, after, then_stands, stands, is_before_all, is_earlier, is_over}
 use Rattle.node_axes.proofs.PathLemmas.{Places, places, above_is, same_is}
 use Rattle.node_axes.proofs.StartLemmas.{is_equal, eq_cmp, over_step}
 use Rattle.node_axes.proofs.LoopLemmas.{stands-same, stands-longer}

@@ -1,18 +1,18 @@
 -- What is still to come after a step.
-use Rattle.std.proofs.Common.{◌≡◌, ℕ, List, [], ◌∷◌, ◌++◌, map, reverse, Bool, true, false, ◌&&◌, cond, Option, Some, None, ◌⊎◌, inl, inr, refl, sym, ap, subst, ◌∙◌}
+use Rattle.std.proofs.Common.{◌≡◌, ℕ, List, [], ◌∷◌, ◌++◌, map, reverse, Bool, true, false, ◌&&◌, cond, Option, refl, sym, ap, ◌∙◌}
 use Rattle.std.proofs.lemmas.List.{reverse-append}
 use Rattle.std.proofs.lemmas.List.Elements.{filter_agree}
 use Rattle.std.proofs.lemmas.Cmp.{nat_cmp_total}
-use Rattle.std.specs.List.{filter, AllPairs}
+use Rattle.std.specs.List.{filter}
 use Rattle.std.specs.Option.{option_to_list}
 use Rattle.std.specs.declared.cmp.Ordering.{Ordering}
 use Rattle.std.specs.declared.cmp.Ordering.TheVariants.{Less, Equal, Greater}
-use Rattle.std.specs.Ordering.{nat_cmp, ordering_reverse}
+use Rattle.std.specs.Ordering.{ordering_reverse}
 use Rattle.std.specs.Cmp.{IsTotalOrder, on_total, then_total}
 use Rattle.std.specs.Cmp.Lexicographic.{lists_total}
 use Rattle.xt_tree.specs.declared.trees.Tree.{Tree}
 use Rattle.xt_tree.specs.Place.{Place, steps, step_cmp}
-use Rattle.xt_tree.specs.Walk.{Spot, spots_of, spot_cmp, SpotLess}
+use Rattle.xt_tree.specs.Walk.{Spot, spots_of, spot_cmp}
 use Rattle.xt_tree.proofs.WalkLemmas.{walk_rises}
 use Rattle.xt_tree.proofs.WalkPlaces.{walk_is_exact}
 use Rattle.xt_types.specs.declared.axes.Axis.{Axis}

@@ -1,20 +1,18 @@
 -- Where a step along an axis lands: earlier siblings, descendants, and what follows.
-use Rattle.std.proofs.Common.{◌≡◌, ℕ, zero, suc, ◌+◌, ◌<◌, ◌≤◌, List, [], ◌∷◌, ◌++◌, length, take, Bool, true, false, ◌&&◌, ◌||◌, not, nat_eq, nat_lt, Option, Some, None, is_some, ◌⊎◌, inl, inr, refl, sym, ap, subst, ◌∙◌, arith, length-append, append_assoc}
-use Rattle.std.proofs.lemmas.Bool.{both_ways, and_parts, or_cases, false_from_ne_true, eqb-true, eq-eqb, ne_eqb, lt-ltb, le-ltb, ltb-true}
+use Rattle.std.proofs.Common.{◌≡◌, ℕ, ◌<◌, ◌≤◌, List, [], ◌∷◌, ◌++◌, length, take, Bool, true, false, ◌&&◌, ◌||◌, not, Option, Some, None, refl, sym, ap, ◌∙◌, arith}
+use Rattle.std.proofs.lemmas.Bool.{false_from_ne_true}
 use Rattle.std.specs.Ordering.{nat_cmp}
 use Rattle.xt_tree.specs.declared.trees.Tree.{Tree}
-use Rattle.xt_tree.specs.Place.{subtree_at, has_attribute}
 use Rattle.xt_tree.specs.Walk.{Spot}
-use Rattle.xt_types.specs.declared.axes.Axis.{Axis}
-use Rattle.xt_types.specs.declared.axes.Axis.TheVariants.{Child, Descendant, Attribute, Itself, DescendantOrSelf, FollowingSibling, Following, Parent, Ancestor, PrecedingSibling, Preceding, AncestorOrSelf}
+use Rattle.xt_types.specs.declared.axes.Axis.TheVariants.{Descendant, DescendantOrSelf, Following, PrecedingSibling, Preceding}
 use Rattle.node_axes.specs.Axes.{same_path, same_attribute, is_later_sibling, is_before, is_reverse, is_attribute, is_descendant, is_itself, is_preceding_sibling, is_following, is_preceding, on_axis}
 use Rattle.node_axes.specs.Course.{is_further}
 use Rattle.node_axes.specs.Paths.{Stands, before, above, same, below, after, then_stands, stands, is_before_all, is_earlier, is_not_later, is_over, has_path}
-use Rattle.node_axes.specs.Moves.{count_at, Down, Left, NoLeft, Skips, AllBehind, Backs, NoneBack, has_spot, Lands, Ends, every}
-use Rattle.node_axes.proofs.PathLemmas.{flip, cmp_equal, stands-flip, above_is, same_is, first_child, leaf}
+use Rattle.node_axes.specs.Moves.{count_at, Down, Left, NoLeft, Skips, AllBehind, Backs, NoneBack, Lands, Ends, every}
+use Rattle.node_axes.proofs.PathLemmas.{cmp_equal, above_is, same_is, first_child, leaf}
 use Rattle.node_axes.proofs.MoveLemmas.{push_inj}
-use Rattle.node_axes.proofs.LoopLemmas.{before_is_earlier, earlier_is_not_later, stands-same, stands-longer}
-use Rattle.node_axes.proofs.AxisLemmas.{is_up, is_one, earlier_spot, before_is, same_path_is, descendant_is, following_is, attribute_following_is, preceding_is, attribute_preceding_is, Siblings, siblings_parts, siblings_on}
+use Rattle.node_axes.proofs.LoopLemmas.{before_is_earlier, earlier_is_not_later, stands-longer}
+use Rattle.node_axes.proofs.AxisLemmas.{is_up, is_one, same_path_is, descendant_is, following_is, attribute_following_is, preceding_is, attribute_preceding_is, Siblings, siblings_parts, siblings_on}
 use Rattle.node_axes.proofs.LandLemmas.{no_one, plain_before, before_trans, earlier_trans, lands_from, ends_from, smaller, before_beside, spot_first}
 
 -- ---- earlier siblings

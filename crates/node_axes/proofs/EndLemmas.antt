@@ -1,12 +1,12 @@
 -- Steps from and to attributes.
-use Rattle.std.proofs.Common.{◌≡◌, ◌≢◌, ℕ, ◌+◌, ◌<◌, ◌≤◌, List, Bool, true, false, ◌&&◌, not, Option, Some, None, inl, inr, refl, sym, ap, subst, ◌∙◌, arith}
+use Rattle.std.proofs.Common.{◌≡◌, ◌≢◌, ℕ, ◌+◌, ◌<◌, ◌≤◌, List, true, Option, Some, None, inl, inr, refl, sym, ap, subst, ◌∙◌, arith}
 use Rattle.std.proofs.lemmas.Bool.{cases_lt}
 use Rattle.xt_tree.specs.declared.trees.Tree.{Tree}
 use Rattle.xt_tree.specs.Place.{subtree_at, has_attribute}
 use Rattle.xt_tree.specs.Walk.{Spot}
 use Rattle.xt_types.specs.declared.axes.Axis.{Axis}
 use Rattle.xt_types.specs.declared.axes.Axis.TheVariants.{Child, Descendant, Attribute, Itself, DescendantOrSelf, FollowingSibling, Following, Parent, Ancestor, PrecedingSibling, Preceding, AncestorOrSelf}
-use Rattle.node_axes.specs.Axes.{on_axis, is_attribute, is_before, is_child, is_descendant, is_parent, is_ancestor, is_following_sibling, is_preceding_sibling, is_following, is_preceding}
+use Rattle.node_axes.specs.Axes.{on_axis, is_attribute, is_child, is_descendant, is_parent, is_ancestor, is_following_sibling, is_preceding_sibling}
 use Rattle.node_axes.specs.Course.{is_further}
 use Rattle.node_axes.specs.Paths.{has_path}
 use Rattle.node_axes.specs.Moves.{attribute_count_at, has_spot, Lands, Ends, every}

@@ -1,8 +1,8 @@
 -- The first and the last element that passes, in a list where each element stands before the later ones.
-use Rattle.std.proofs.Common.{◌≡◌, ℕ, zero, suc, ◌<◌, List, [], ◌∷◌, ◌++◌, length, get_or, Bool, true, false, ◌&&◌, not, cond, ◌⊎◌, inl, inr, refl, sym, ap, subst, ◌∙◌, arith}
+use Rattle.std.proofs.Common.{◌≡◌, ℕ, zero, suc, ◌<◌, List, [], ◌∷◌, ◌++◌, length, get_or, Bool, true, false, ◌&&◌, cond, ◌⊎◌, inl, inr, refl, sym, ap, subst, arith}
 use Rattle.std.specs.List.{filter, AllPairs, Contains}
 use Rattle.xt_names.proofs.ListLemmas.{further}
-use Rattle.std.proofs.lemmas.Bool.{both_ways, and_left, and_right, and_parts, cases_Bool}
+use Rattle.std.proofs.lemmas.Bool.{both_ways, and_right}
 
 abbrev pub In : {X : Type 0} → X → List X → Type 0
 In t [] = ⊥

@@ -1,20 +1,19 @@
 -- Where a step along an axis lands: the axes that go down or along.
-use Rattle.std.proofs.Common.{◌≡◌, ℕ, zero, suc, ◌+◌, ◌<◌, ◌≤◌, List, [], ◌∷◌, ◌++◌, length, take, Bool, true, false, ◌&&◌, ◌||◌, not, nat_eq, nat_lt, Option, Some, None, is_some, ◌⊎◌, inl, inr, refl, sym, ap, subst, ◌∙◌, arith, length-append, append_assoc}
-use Rattle.std.proofs.lemmas.Bool.{both_ways, and_parts, or_cases, false_from_ne_true, eqb-true, eq-eqb, ne_eqb, lt-ltb, le-ltb, ltb-true}
+use Rattle.std.proofs.Common.{◌≡◌, ℕ, ◌+◌, ◌<◌, ◌≤◌, List, [], ◌∷◌, ◌++◌, Bool, true, false, Some, None, ◌⊎◌, inl, inr, refl, sym, ap, subst, ◌∙◌, arith}
+use Rattle.std.proofs.lemmas.Bool.{false_from_ne_true}
 use Rattle.std.specs.Ordering.{nat_cmp}
 use Rattle.xt_tree.specs.declared.trees.Tree.{Tree}
-use Rattle.xt_tree.specs.Place.{subtree_at, has_attribute}
 use Rattle.xt_tree.specs.Walk.{Spot}
 use Rattle.xt_types.specs.declared.axes.Axis.{Axis}
-use Rattle.xt_types.specs.declared.axes.Axis.TheVariants.{Child, Descendant, Attribute, Itself, DescendantOrSelf, FollowingSibling, Following, Parent, Ancestor, PrecedingSibling, Preceding, AncestorOrSelf}
-use Rattle.node_axes.specs.Axes.{begins_with, same_path, same_attribute, is_later_sibling, is_before, is_reverse, is_attribute, is_child, is_descendant, is_own_attribute, is_itself, is_parent, is_ancestor, is_following_sibling, is_preceding_sibling, is_following, is_preceding, on_axis}
+use Rattle.xt_types.specs.declared.axes.Axis.TheVariants.{Child, FollowingSibling}
+use Rattle.node_axes.specs.Axes.{is_later_sibling, is_before, is_reverse, is_attribute, is_child, is_following_sibling, on_axis}
 use Rattle.node_axes.specs.Course.{is_further}
-use Rattle.node_axes.specs.Paths.{Stands, before, above, same, below, after, then_stands, stands, is_before_all, is_earlier, is_not_later, is_over, has_path}
-use Rattle.node_axes.specs.Moves.{count_at, Down, Right, NoRight, Left, NoLeft, Up, Skips, AllBehind, Backs, NoneBack, has_spot, Lands, Ends, every}
-use Rattle.node_axes.proofs.PathLemmas.{flip, Places, places, cmp_less, cmp_equal, stands-flip, stands-append, above_is, same_is, next_child, first_child, leaf, kid_within}
+use Rattle.node_axes.specs.Paths.{Stands, before, above, same, below, after, then_stands, stands, is_before_all, is_earlier, has_path}
+use Rattle.node_axes.specs.Moves.{count_at, Down, Right, NoRight, has_spot, Lands, Ends, every}
+use Rattle.node_axes.proofs.PathLemmas.{Places, places, cmp_less, cmp_equal, stands-append, next_child, first_child, kid_within}
 use Rattle.node_axes.proofs.MoveLemmas.{push_inj}
-use Rattle.node_axes.proofs.LoopLemmas.{before_is_earlier, stands-same, stands-longer, next_stands}
-use Rattle.node_axes.proofs.AxisLemmas.{is_up, is_one, earlier_spot, before_is, same_path_is, descendant_is, following_is, attribute_following_is, child_parts, child_on, Siblings, siblings_parts, siblings_on}
+use Rattle.node_axes.proofs.LoopLemmas.{stands-longer, next_stands}
+use Rattle.node_axes.proofs.AxisLemmas.{earlier_spot, before_is, child_parts, child_on, Siblings, siblings_parts, siblings_on}
 
 pub no_one : {A : Type 0} → false ≡ true → A
 no_one e = cc

@@ -1,13 +1,11 @@
 -- Moves that take several steps.
-use Rattle.std.proofs.Common.{◌≡◌, ℕ, zero, suc, ◌+◌, ◌-◌, ◌<◌, ◌≤◌, List, [], ◌∷◌, ◌++◌, length, drop, take, Bool, true, false, refl, sym, ap, subst, ◌∙◌, arith, length-append}
+use Rattle.std.proofs.Common.{◌≡◌, ℕ, zero, suc, ◌+◌, ◌-◌, ◌<◌, ◌≤◌, List, [], ◌∷◌, ◌++◌, length, take, true, false, refl, sym, ap, subst, ◌∙◌, arith, length-append}
 use Rattle.std.proofs.lemmas.Bool.{both_ways, false_from_ne_true}
-use Rattle.std.proofs.lemmas.List.{take-append-le}
-use Rattle.std.specs.declared.cmp.Ordering.TheVariants.{Less}
 use Rattle.xt_tree.specs.declared.trees.Tree.{Tree}
-use Rattle.node_axes.specs.Paths.{Stands, before, above, same, below, after, then_stands, stands, is_before_all, is_earlier, is_not_later, is_over, has_path}
+use Rattle.node_axes.specs.Paths.{Stands, before, above, same, below, after, stands, is_before_all, is_earlier, is_not_later, is_over, has_path}
 use Rattle.node_axes.specs.Moves.{count_at, Down, Skips, AllBehind, Backs, NoneBack}
 use Rattle.node_axes.proofs.PathLemmas.{flip, stands-flip, cmp_less, cmp_equal, stands-append, same_is, last_child, next_child, first_child, leaf, kid_within, child_before, parent_before}
-use Rattle.node_axes.proofs.MoveLemmas.{has_begin, has_kid, has_room, has_depth}
+use Rattle.node_axes.proofs.MoveLemmas.{has_begin, has_kid}
 
 pub before_is_earlier : (s : Stands) → is_before_all s ≡ true → is_earlier s ≡ true
 before_is_earlier before h = refl

@@ -1,18 +1,14 @@
 -- Moves from place to place.
-use Rattle.std.proofs.Common.{◌≡◌, ℕ, zero, suc, ◌+◌, ◌<◌, ◌≤◌, List, [], ◌∷◌, ◌++◌, length, drop, take, max, Bool, true, false, ◌&&◌, not, nat_eq, nat_lt, Option, Some, None, option_and_then, slice_get, ◌⊎◌, inl, inr, refl, sym, ap, subst, ◌∙◌, arith, length-append, append_assoc}
-use Rattle.std.proofs.lemmas.Bool.{both_ways, ltb-true, ltb-false, lt-ltb}
-use Rattle.std.proofs.lemmas.List.{take-append-le}
-use Rattle.std.specs.declared.cmp.Ordering.TheVariants.{Less, Equal, Greater}
-use Rattle.std.specs.Ordering.{nat_cmp}
+use Rattle.std.proofs.Common.{◌≡◌, ℕ, zero, suc, ◌+◌, ◌<◌, ◌≤◌, List, [], ◌∷◌, ◌++◌, length, true, Option, Some, None, option_and_then, slice_get, refl, sym, ap, subst, ◌∙◌, arith, length-append}
 use Rattle.xt_tree.specs.declared.trees.Tree.{Tree}
 use Rattle.xt_tree.specs.declared.trees.Tree.TheVariants.{Doc, Elem, Text, Comment, Pi, Attr}
 use Rattle.xt_tree.specs.Forest.{Forest, end, doc, elem, text, comment, pi, attr, forest_depth}
-use Rattle.xt_tree.specs.Place.{subtree_at, subtree_kids, has_attribute}
+use Rattle.xt_tree.specs.Place.{subtree_at, has_attribute}
 use Rattle.xt_tree.specs.TreeView.{kids_of, trees, tree_depth}
 use Rattle.xt_tree.proofs.PlaceLemmas.{subtree_at-append, kid_exists}
-use Rattle.node_axes.specs.Paths.{Stands, before, above, same, below, after, then_stands, stands, is_before_all, is_earlier, is_not_later, is_over, has_path}
-use Rattle.node_axes.specs.Moves.{count_at, Down, Right, NoRight, Left, NoLeft, Up, Skips, AllBehind, Backs, NoneBack}
-use Rattle.node_axes.proofs.PathLemmas.{cmp_less, stands-append, stands-push, last_child, next_child, first_child, leaf, kid_within, child_before, parent_before}
+use Rattle.node_axes.specs.Paths.{has_path}
+use Rattle.node_axes.specs.Moves.{count_at, Down, Right, NoRight, Left, NoLeft, Up}
+use Rattle.node_axes.proofs.PathLemmas.{kid_within}
 
 -- a way is no longer than the longest
 in_forest : (f : Forest) (i : ℕ) (k : Tree) → slice_get (trees f) i ≡ Some k → tree_depth k + 1 ≤ forest_depth f

@@ -1,19 +1,18 @@
 -- Where a step along an axis lands: the node itself and the nodes above, and attributes.
-use Rattle.std.proofs.Common.{◌≡◌, ℕ, zero, suc, ◌+◌, ◌<◌, ◌≤◌, List, [], ◌∷◌, ◌++◌, length, Bool, true, false, ◌&&◌, ◌||◌, not, nat_eq, nat_lt, Option, Some, None, is_some, ◌⊎◌, inl, inr, refl, sym, ap, subst, ◌∙◌, arith}
-use Rattle.std.proofs.lemmas.Bool.{both_ways, or_cases, or_left, or_right, lt-ltb, le-ltb, ltb-true}
+use Rattle.std.proofs.Common.{◌≡◌, ℕ, ◌+◌, ◌<◌, ◌≤◌, List, [], ◌∷◌, ◌++◌, length, Bool, true, false, ◌&&◌, ◌||◌, nat_lt, Option, Some, None, inl, inr, refl, sym, ap, subst, ◌∙◌, arith}
+use Rattle.std.proofs.lemmas.Bool.{or_cases, or_left, or_right, lt-ltb, le-ltb, ltb-true}
 use Rattle.xt_tree.specs.declared.trees.Tree.{Tree}
 use Rattle.xt_tree.specs.Place.{subtree_at, subtree_attributes, has_attribute}
 use Rattle.xt_tree.specs.TreeView.{attributes_of}
 use Rattle.xt_tree.specs.Walk.{Spot}
-use Rattle.xt_types.specs.declared.axes.Axis.{Axis}
 use Rattle.xt_types.specs.declared.axes.Axis.TheVariants.{Child, Descendant, Attribute, FollowingSibling, PrecedingSibling, DescendantOrSelf, AncestorOrSelf}
 use Rattle.node_axes.specs.Axes.{same_path, same_attribute, is_before, is_reverse, is_attribute, is_child, is_descendant, is_own_attribute, is_itself, is_ancestor, is_following_sibling, is_preceding_sibling, on_axis}
 use Rattle.node_axes.specs.Course.{is_further}
-use Rattle.node_axes.specs.Paths.{Stands, before, above, same, below, after, stands, is_earlier, is_over, has_path}
+use Rattle.node_axes.specs.Paths.{stands, is_earlier, is_over, has_path}
 use Rattle.node_axes.specs.Moves.{attribute_count_at, Up, has_spot, Lands, Ends, every}
-use Rattle.node_axes.proofs.PathLemmas.{flip, stands-flip}
+use Rattle.node_axes.proofs.PathLemmas.{stands-flip}
 use Rattle.node_axes.proofs.LoopLemmas.{stands-same, stands-longer}
-use Rattle.node_axes.proofs.AxisLemmas.{is_one, earlier_spot, option_less, before_is, same_path_is, attribute_ancestor_is}
+use Rattle.node_axes.proofs.AxisLemmas.{is_one, earlier_spot, before_is, same_path_is, attribute_ancestor_is}
 use Rattle.node_axes.proofs.LandLemmas.{no_one, plain_before}
 use Rattle.node_axes.proofs.UpLemmas.{itself_is, itself_on, path_is, not_after_same, not_before_same, over_parts, over_on, above_over, both_over, nothing_between, over_attribute, under_not_earlier, root_is_top}
 

@@ -1,19 +1,16 @@
 -- Where a step along an axis lands: the node itself, its attributes, and the nodes above.
-use Rattle.std.proofs.Common.{◌≡◌, ℕ, zero, suc, ◌+◌, ◌<◌, ◌≤◌, List, [], ◌∷◌, ◌++◌, length, Bool, true, false, ◌&&◌, ◌||◌, not, nat_eq, nat_lt, Option, Some, None, is_some, ◌⊎◌, inl, inr, refl, sym, ap, subst, ◌∙◌, arith, length-append, append_assoc, append-nil}
-use Rattle.std.proofs.lemmas.Bool.{both_ways, and_parts, or_cases, or_left, or_right, false_from_ne_true, eqb-true, eq-eqb, lt-ltb, le-ltb, ltb-true}
+use Rattle.std.proofs.Common.{◌≡◌, ℕ, suc, ◌+◌, List, [], ◌∷◌, ◌++◌, length, Bool, true, false, ◌&&◌, Option, Some, None, inl, inr, refl, sym, ap, subst, ◌∙◌, arith, length-append, append_assoc, append-nil}
+use Rattle.std.proofs.lemmas.Bool.{both_ways, and_parts, or_cases, or_left, false_from_ne_true, eqb-true, eq-eqb, le-ltb}
 use Rattle.xt_tree.specs.declared.trees.Tree.{Tree}
-use Rattle.xt_tree.specs.Place.{subtree_at, subtree_attributes, has_attribute}
-use Rattle.xt_tree.specs.TreeView.{attributes_of}
 use Rattle.xt_tree.specs.Walk.{Spot}
-use Rattle.xt_types.specs.declared.axes.Axis.{Axis}
-use Rattle.xt_types.specs.declared.axes.Axis.TheVariants.{Attribute, Itself, DescendantOrSelf, Parent, Ancestor, AncestorOrSelf}
-use Rattle.node_axes.specs.Axes.{same_path, same_attribute, is_before, is_reverse, is_attribute, is_descendant, is_own_attribute, is_itself, is_parent, is_ancestor, on_axis}
+use Rattle.xt_types.specs.declared.axes.Axis.TheVariants.{Itself, DescendantOrSelf, Parent, Ancestor}
+use Rattle.node_axes.specs.Axes.{same_path, same_attribute, is_before, is_reverse, is_attribute, is_descendant, is_itself, is_parent, is_ancestor, on_axis}
 use Rattle.node_axes.specs.Course.{is_further}
 use Rattle.node_axes.specs.Paths.{Stands, before, above, same, below, after, stands, is_before_all, is_earlier, is_over, has_path}
-use Rattle.node_axes.specs.Moves.{attribute_count_at, Up, has_spot, Lands, Ends, every}
-use Rattle.node_axes.proofs.PathLemmas.{flip, stands-flip, above_is, same_is, kid_within}
+use Rattle.node_axes.specs.Moves.{Up, has_spot, Lands, Ends, every}
+use Rattle.node_axes.proofs.PathLemmas.{flip, stands-flip, above_is, same_is}
 use Rattle.node_axes.proofs.MoveLemmas.{push_inj}
-use Rattle.node_axes.proofs.LoopLemmas.{before_is_earlier, stands-same, stands-longer}
+use Rattle.node_axes.proofs.LoopLemmas.{stands-same, stands-longer}
 use Rattle.node_axes.proofs.AxisLemmas.{is_up, is_one, earlier_spot, option_less, before_is, same_path_is, descendant_is, ancestor_is, attribute_ancestor_is, parent_parts, parent_on, owner_parts, owner_on}
 use Rattle.node_axes.proofs.LandLemmas.{no_one, plain_before, before_trans, lands_from, ends_from}
 use Rattle.node_axes.proofs.DownLemmas.{up_is_earlier, up_is_over}

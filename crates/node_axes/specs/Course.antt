@@ -1,8 +1,6 @@
 -- What a contract sees of a cursor, and which nodes are still to come.
-use Rattle.std.specs.Prelude.{◌≡◌, ℕ, List, [], ◌∷◌, ◌++◌, map, filter, Bool, true, false, ◌&&◌, if◌then◌else◌, Option, Some, None, is_some}
-use Rattle.std.specs.Prelude.{◌≤◌}
+use Rattle.std.specs.Prelude.{ℕ, List, [], map, filter, Bool, true, false, ◌&&◌, if◌then◌else◌, Option, Some, None}
 use Rattle.xt_tree.specs.Place.{Place}
-use Rattle.xt_tree.specs.TreeView.{tree_depth}
 use Rattle.xt_tree.specs.Walk.{Spot, spots_of}
 use Rattle.xt_types.specs.declared.axes.Axis.{Axis}
 use Rattle.xt_types.specs.declared.node_tests.Test.{Test}

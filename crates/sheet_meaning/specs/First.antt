@@ -1,6 +1,5 @@
 -- The first form of stylesheets, as trees.
 use Rattle.std.specs.Prelude.{ℕ, ◌-◌, List, [], ◌∷◌, Bool, true, false, not, ◌&&◌, ◌||◌, nat_lt, if◌then◌else◌, codes}
-use Rattle.std.specs.List.{list_all}
 use Rattle.std.specs.Str.{bytes_eq}
 use Rattle.xt_names.specs.Allowed.{is_empty_text}
 use Rattle.xt_names.specs.Classes.{is_ncname_text}

@@ -1,4 +1,4 @@
-use Rattle.std.proofs.Common.{◌≡◌, None, Some, refl, sym, ◌∙◌}
+use Rattle.std.proofs.Common.{None, Some, refl, sym, ◌∙◌}
 use Rattle.xt_types.specs.declared.axes.Axis.TheVariants.{Attribute, Itself, DescendantOrSelf, AncestorOrSelf}
 use Rattle.node_axes.specs.Moves.{every}
 use Rattle.node_axes.proofs.UpLemmas.{itself_first, with_first}

@@ -1,5 +1,5 @@
-use Rattle.std.proofs.Common.{◌≡◌, None, Some, refl, sym, ap, ◌∙◌, length}
-use Rattle.xt_types.specs.declared.axes.Axis.TheVariants.{Child, Descendant, Attribute, Itself, DescendantOrSelf, FollowingSibling, Following, Parent, Ancestor, PrecedingSibling, Preceding, AncestorOrSelf}
+use Rattle.std.proofs.Common.{None, Some, refl, sym, ◌∙◌}
+use Rattle.xt_types.specs.declared.axes.Axis.TheVariants.{Child, Descendant, Attribute, FollowingSibling, Following, Parent, Ancestor, PrecedingSibling, Preceding}
 use Rattle.node_axes.specs.Moves.{every}
 use Rattle.node_axes.proofs.DownLemmas.{attribute_follows_first, attribute_follows_none, precedes_first, precedes_none}
 use Rattle.node_axes.proofs.UpLemmas.{owner_first, owner_ancestor_first}

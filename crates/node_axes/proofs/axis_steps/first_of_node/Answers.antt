@@ -1,5 +1,5 @@
-use Rattle.std.proofs.Common.{◌≡◌, None, Some, refl, sym, ap, ◌∙◌, length}
-use Rattle.xt_types.specs.declared.axes.Axis.TheVariants.{Child, Descendant, Attribute, Itself, DescendantOrSelf, FollowingSibling, Following, Parent, Ancestor, PrecedingSibling, Preceding, AncestorOrSelf}
+use Rattle.std.proofs.Common.{None, refl, sym, ◌∙◌}
+use Rattle.xt_types.specs.declared.axes.Axis.TheVariants.{Child, Descendant, Itself, DescendantOrSelf, FollowingSibling, Following, Parent, Ancestor, PrecedingSibling, Preceding, AncestorOrSelf}
 use Rattle.node_axes.specs.Moves.{every}
 use Rattle.node_axes.proofs.LandLemmas.{child_first, child_none, sibling_first, sibling_none}
 use Rattle.node_axes.proofs.DownLemmas.{left_first, left_none, below_first, below_none, follows_first, follows_none, precedes_first, precedes_none}

@@ -1,4 +1,3 @@
-use Rattle.std.proofs.Common.{◌≡◌}
 use Rattle.node_axes.proofs.CourseLemmas.{walk_here, walk_over, walk_begin}
 use Rattle.node_axes.proofs.axis_steps.move_on.Goals as goal
 

@@ -1,4 +1,4 @@
-use Rattle.std.proofs.Common.{◌≡◌, None, Some, refl, sym, ◌∙◌, arith}
+use Rattle.std.proofs.Common.{arith}
 use Rattle.node_axes.proofs.LandLemmas.{no_one}
 use Rattle.node_axes.proofs.EndLemmas.{spot_path, own_next_at, own_end_at, top_owner_at, other_end_at}
 use Rattle.node_axes.proofs.axis_steps.next.Goals as goal

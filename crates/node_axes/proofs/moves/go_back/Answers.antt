@@ -1,4 +1,4 @@
-use Rattle.std.proofs.Common.{◌≡◌, ◌<◌, ◌≤◌, ◌++◌, ◌∷◌, [], length, true, false, arith}
+use Rattle.std.proofs.Common.{◌≡◌, ◌≤◌, length, true, false, arith}
 use Rattle.node_axes.specs.Paths.{stands, is_over}
 use Rattle.node_axes.proofs.LoopLemmas.{back_start, back_left_at, back_stop, back_more, back_end, mid_exists, at_first, no_length}
 use Rattle.node_axes.proofs.moves.go_back.Goals as goal

@@ -1,4 +1,4 @@
-use Rattle.std.proofs.Common.{◌≡◌, ◌≤◌, ◌-◌, length}
+use Rattle.std.proofs.Common.{length}
 use Rattle.std.specs.Vec.{vec_capacity}
 use Rattle.node_axes.proofs.LoopLemmas.{Backing}
 use Rattle.node_axes.proofs.moves.go_back.Given as goal

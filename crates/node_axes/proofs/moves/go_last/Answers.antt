@@ -1,4 +1,4 @@
-use Rattle.std.proofs.Common.{◌≡◌, ◌<◌, ◌≤◌, ◌+◌, ◌-◌, ◌++◌, ◌∷◌, [], length, ap, ◌∙◌, arith, length-append}
+use Rattle.std.proofs.Common.{◌<◌, ◌-◌, ◌∷◌, [], length, ap, ◌∙◌, arith, length-append}
 use Rattle.node_axes.specs.Moves.{count_at}
 use Rattle.node_axes.proofs.MoveLemmas.{has_room}
 use Rattle.node_axes.proofs.LoopLemmas.{sink_more}

@@ -1,4 +1,4 @@
-use Rattle.std.proofs.Common.{◌≡◌, ◌≤◌, ◌-◌, length}
+use Rattle.std.proofs.Common.{◌-◌, length}
 use Rattle.std.specs.Vec.{vec_capacity}
 use Rattle.xt_tree.specs.TreeView.{tree_depth}
 use Rattle.node_axes.proofs.LoopLemmas.{Sinking}

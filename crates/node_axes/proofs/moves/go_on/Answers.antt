@@ -1,4 +1,3 @@
-use Rattle.std.proofs.Common.{◌≡◌, refl}
 use Rattle.node_axes.proofs.LoopLemmas.{on_down, on_skip_from, on_end_from}
 use Rattle.node_axes.proofs.moves.go_on.Goals as goal
 

@@ -1,4 +1,4 @@
-use Rattle.std.proofs.Common.{◌≡◌, sym, ap, ◌∙◌}
+use Rattle.std.proofs.Common.{sym, ap, ◌∙◌}
 use Rattle.node_axes.specs.Course.{to_come}
 use Rattle.node_axes.specs.contracts.cursors.Cursor.{the_view}
 use Rattle.node_axes.proofs.CursorLemmas.{present_some, ends_walk}

@@ -1,4 +1,3 @@
-use Rattle.std.proofs.Common.{◌≡◌}
 use Rattle.node_axes.specs.Axes.{place_at}
 use Rattle.node_axes.specs.Course.{present_at}
 use Rattle.node_axes.specs.contracts.cursors.Cursor.{the_view}

@@ -1,4 +1,4 @@
-use Rattle.std.proofs.Common.{◌≡◌, sym, ◌∙◌}
+use Rattle.std.proofs.Common.{sym, ◌∙◌}
 use Rattle.node_axes.specs.contracts.cursors.Cursor.{the_view}
 use Rattle.node_axes.proofs.CursorLemmas.{present_view, present_true, present_false, node_is, place_is}
 use Rattle.node_axes.proofs.cursors.Cursor.node.Goals as goal
