@@ -1,10 +1,11 @@
 //! The order and the groups of sequences.
 //!
 //! `sort_by_keys` puts rows of sort keys in their one stable order, which `order by` and xsl:sort
-//! share. It answers with the places of the rows, so that callers put whatever has those keys in
-//! order.
+//! share. `group_by`, `group_adjacent` and `group_starting` make the groups of xsl:for-each-group.
+//! All answer with places, so that callers sort and group whatever has those keys.
 //!
-//! Example: of the rows `(b)`, `(a)`, `()`, `(a)` the places in order are 2, 1, 3, 0.
+//! Example: of the rows `(b)`, `(a)`, `()`, `(a)` the places in order are 2, 1, 3, 0; of items with
+//! these keys `group_by` makes the groups `b` with the place 0 and `a` with the places 1 and 3.
 #![tactic(auto)]
 
 mod groups;
