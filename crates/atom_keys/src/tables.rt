@@ -49,9 +49,10 @@ impl KeyTable {
     }
 
     /// Puts the place under the key, at its end, unless it stands there already. A new key stands
-    /// last.
+    /// last. For want of memory the table stays as it was.
     pub fn add(&mut self, key: &Atom, place: u64) -> Result<(), AllocError>
-        ensures { OnOk result (self.new ≡ with_place self.old key.now place) }
+        ensures ok { OnOk result (self.new ≡ with_place self.old key.now place) }
+        ensures err { OnErr result (self.new ≡ self.old) }
     {
         match self.find(key)? {
             Some(index) => {
@@ -83,7 +84,8 @@ impl KeyTable {
     /// Puts a new key at the end. Where the table of keys has no room for it the entry goes again.
     fn add_entry(&mut self, key: &Atom, place: u64) -> Result<(), AllocError>
         requires { index_of self.old key.now ≡ None }
-        ensures { OnOk result (self.new ≡ with_place self.old key.now place) }
+        ensures ok { OnOk result (self.new ≡ with_place self.old key.now place) }
+        ensures err { OnErr result (self.new ≡ self.old) }
     {
         let entry = entry_of(*self.entries.allocator(), key, place)?;
         self.entries.push(entry)?;
@@ -131,7 +133,8 @@ fn insert_key(keys: &mut IndexSet<AtomKey>, key: &Atom) -> Result<(), AllocError
 
 #[tactic(auto, unfolding(crate::specs::Tables::joined))]
 fn push_once(places: &mut List<u64>, place: u64) -> Result<(), AllocError>
-    ensures { OnOk result (places.new ≡ joined places.old place) }
+    ensures ok { OnOk result (places.new ≡ joined places.old place) }
+    ensures err { OnErr result (places.new ≡ places.old) }
 {
     if ends_in(places.as_slice(), place) {
         Ok(())

@@ -26,13 +26,13 @@ invariant_of-self-in-Some c =
     let here : slice_get es c.in-Some.index ≡ Some c.index_mut.result.now = slice_get-get_or es c.in-Some.index c.index_mut.result.now below ∙ ap Some (sym c.index_mut.ensures.value) in
     c.self.invariant ∙ sym (keys_stay es c.in-Some.index c.index_mut.result.now c.push_once.new.places here)
 
-pub returns-in_ok-push_once-in-Some : goal.returns-in_ok-push_once-in-Some
-returns-in_ok-push_once-in-Some c =
+pub returns-in_ok-push_once-in-Some-clause-ok : goal.returns-in_ok-push_once-in-Some-clause-ok
+returns-in_ok-push_once-in-Some-clause-ok c =
     let es = c.self.inside.entries.items in
     let at : index_of es c.args.key.now ≡ Some c.in-Some.index = ap (λ es. index_of es c.args.key.now) c.self.view_is ∙ sym c.in_ok-index.ensures ∙ c.in-Some.is in
     let below : c.in-Some.index < length es = index_within es c.args.key.now c.in-Some.index at in
     let here : slice_get es c.in-Some.index ≡ Some c.index_mut.result.now = slice_get-get_or es c.in-Some.index c.index_mut.result.now below ∙ ap Some (sym c.index_mut.ensures.value) in
     let r = c.index_mut.result.now in
-    ap (λ p. slice_set es c.in-Some.index (record { key = r.key; places = p })) c.in_ok-push_once-in-Some.ensures
+    ap (λ p. slice_set es c.in-Some.index (record { key = r.key; places = p })) c.in_ok-push_once-in-Some.ensures.ok
     ∙ sym (placed_old es c.args.key.now c.args.place c.in-Some.index r at here)
     ∙ ap (λ es. with_place es c.args.key.now c.args.place) c.self.view_is

@@ -20,8 +20,8 @@ invariant_of-self-in-Ok c =
     ∙ ap (λ e. keys_of (es ++ e ∷ [])) (sym c.in_ok-entry.ensures)
     ∙ ap keys_of (sym c.in_ok-push.ensures.items)
 
-pub returns-in-Ok : goal.returns-in-Ok
-returns-in-Ok c =
+pub returns-in-Ok-clause-ok : goal.returns-in-Ok-clause-ok
+returns-in-Ok-clause-ok c =
     let es = c.self.inside.entries.items in
     let new : index_of es c.args.key.now ≡ None = ap (λ es. index_of es c.args.key.now) c.self.view_is ∙ c.requires in
     c.in_ok-push.ensures.items
