@@ -1,0 +1,4 @@
+pub mod Answers
+pub mod Names
+pub mod Types
+pub mod Doubles
