@@ -27,7 +27,7 @@ use Rattle.xt_forms.specs.declared.quiet_calls.QuietCall.TheVariants as call
 use Rattle.xt_forms.specs.declared.quiet_forms.QuietForm.{QuietForm}
 use Rattle.xt_forms.specs.declared.quiet_forms.QuietForm.TheVariants as form
 use Rattle.quiet_meaning.specs.Forms.{form_of}
-use Rattle.quiet_meaning.specs.Nodes.{Nodes}
+use Rattle.step_walks.specs.Nodes.{Nodes}
 use Rattle.quiet_meaning.specs.Quietly.{Quietly, integer, literal, position, last, text_of, count_of, attribute, step, path, condition, numeric, conjunction, other, quietly, quietly_steps, quietly_of, expr_quietly, is_truth, is_predicate, is_conjunction, is_attribute_axis, is_named, any_of, all_of, is_attribute_name, stepped, slashed, with_step, compared, compared_with_integer, compared_with_literal, compared_with_last, negated, some_in, counted, called, called_with, call_gives, is_pattern_form, is_pattern_predicate}
 
 truth_form : (q : Quietly) → is_truth q ≡ forms.is_truth (form_of q)
@@ -291,7 +291,7 @@ plain = map-Expr pairs.Clauses pairs.Exprs pairs.Names pairs.Parts pairs.Arms pa
     Clause Expr NameSource Part Arm Bind DirectAttr FlworOf Order
     (λ p. p.0) (λ p. p.0) (λ p. p.0) (λ p. p.0) (λ p. p.0) (λ p. p.0) (λ p. p.0) (λ p. p.0) (λ p. p.0)
 
-abbrev gives_quietly : Expr-F Clause Expr NameSource Part Arm Bind DirectAttr FlworOf Order → Quietly
+abbrev pub gives_quietly : Expr-F Clause Expr NameSource Part Arm Bind DirectAttr FlworOf Order → Quietly
 gives_quietly x = expr_quietly (map-Expr Clause Expr NameSource Part Arm Bind DirectAttr FlworOf Order
     quietly.Clauses quietly.Exprs quietly.Names quietly.Parts quietly.Arms quietly.Binds quietly.Attrs quietly.Flwors quietly.Orders
     (clause_gives quietly quietly_steps) quietly_of (name_gives quietly quietly_steps) (part_gives quietly quietly_steps) (arm_gives quietly quietly_steps)
@@ -303,7 +303,7 @@ gives_form x = expr_quiet (map-Expr Clause Expr NameSource Part Arm Bind DirectA
     (clause_gives quiets quiet_steps) quiet_form_of (name_gives quiets quiet_steps) (part_gives quiets quiet_steps) (arm_gives quiets quiet_steps)
     (bind_gives quiets quiet_steps) (attr_gives quiets quiet_steps) (flwor_gives quiets quiet_steps) (order_gives quiets quiet_steps) x)
 
-rolled_quietly : (x : Expr-F Clause Expr NameSource Part Arm Bind DirectAttr FlworOf Order) → quietly_of (roll-Expr x) ≡ gives_quietly x
+pub rolled_quietly : (x : Expr-F Clause Expr NameSource Part Arm Bind DirectAttr FlworOf Order) → quietly_of (roll-Expr x) ≡ gives_quietly x
 rolled_quietly x = fold-roll-Expr _ _ _ _ _ _ _ _ _ _ _ _ _ _ _ _ _ _ x
 
 rolled_form : (x : Expr-F Clause Expr NameSource Part Arm Bind DirectAttr FlworOf Order) → quiet_form_of (roll-Expr x) ≡ gives_form x
@@ -383,3 +383,8 @@ pub pattern_predicate : (e : Expr) → is_quiet_expr e ≡ true → is_pattern_p
 pattern_predicate e q =
     let parts = and_parts (is_regular_expr e) (forms.is_predicate (quiet_form_of e)) q in
     rw (parts.0, pattern_form (quietly_of e) (ap forms.is_predicate (all_are_alike e) ∙ parts.1)) refl
+
+-- what holds of each layer of parts holds of each expression
+pub each_expr : (P : Expr → Type 0) → ((x : Expr-F Clause Expr NameSource Part Arm Bind DirectAttr FlworOf Order) → P (roll-Expr x)) → (e : Expr) → P e
+each_expr P h = ind-Expr (λ _. Unit {0}) P (λ _. Unit {0}) (λ _. Unit {0}) (λ _. Unit {0}) (λ _. Unit {0}) (λ _. Unit {0}) (λ _. Unit {0}) (λ _. Unit {0})
+    (λ x y is. tt) (λ x y is. h x) (λ x y is. tt) (λ x y is. tt) (λ x y is. tt) (λ x y is. tt) (λ x y is. tt) (λ x y is. tt) (λ x y is. tt)

@@ -1,4 +1,3 @@
-pub mod Nodes
 pub mod Values
 pub mod Quietly
 pub mod Forms

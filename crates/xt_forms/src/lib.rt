@@ -22,7 +22,7 @@ pub use functions::is_function;
 pub use laws::{a_whole_nests_one_more_than_its_parts, plain_and_quiet_expressions_are_regular};
 pub use nesting::{nest, nest_pattern};
 pub use plainness::is_plain;
-pub use quiet_calls::QuietCall;
+pub use quiet_calls::{QuietCall, quiet_call};
 pub use quiet_forms::QuietForm;
 pub use quietness::is_quiet;
 pub use regularity::is_regular;

@@ -22,8 +22,9 @@ pub enum QuietCall {
     Other,
 }
 
+/// Which of these functions the name is one of, if it is one.
 #[tactic(auto, unfolding(crate::specs::Quiet::quiet_call))]
-pub(crate) fn quiet_call(name: &ExprName) -> QuietCall
+pub fn quiet_call(name: &ExprName) -> QuietCall
     ensures { result ≡ quiet_call name.now }
 {
     if is_in_fn(name) {

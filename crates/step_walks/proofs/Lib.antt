@@ -1,0 +1,4 @@
+pub mod HitLemmas
+pub mod OrderLemmas
+pub mod SiftLemmas
+pub mod NodeLemmas
