@@ -1,0 +1,12 @@
+pub mod CharacterFacts
+pub mod CommentLemmas
+pub mod GapLemmas
+pub mod KindLemmas
+pub mod NameLemmas
+pub mod PartLemmas
+pub mod PlaceLemmas
+pub mod QuoteLemmas
+pub mod ReadingLemmas
+pub mod RunLemmas
+pub mod ScanLemmas
+pub mod SymbolLemmas

@@ -1,0 +1,5 @@
+pub mod Classes
+pub mod Gaps
+pub mod Readings
+pub mod Runs
+pub mod Tokens
