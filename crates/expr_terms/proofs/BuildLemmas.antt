@@ -1,8 +1,9 @@
 -- Values of productions whose parts stand in a Vec.
 use Rattle.std.proofs.Common.{Bool, true, false, ◌++◌, ◌≡◌, ◌≢◌, ℕ, ◌+◌, List, [], ◌∷◌, Option, Some, None, is_some, refl, sym, ◌∙◌, ap, length, arith, length-append}
 use Rattle.expr_terms.specs.declared.raws.Raw.TheViews.{out-Raw}
+use Rattle.expr_terms.specs.declared.raws.Raw.TheOpen.{Raw-F, Leaf, Node}
 use Rattle.expr_terms.specs.Productions.{Production, parens, otherwise, conditional, passes}
-use Rattle.expr_terms.specs.Raws.{Raw, node, as_parens, only_parens, as_chain, only_chain, as_inner_chain, only_inner, chain_or, in_chain, build_parens, build_else, build_chain, build_plain}
+use Rattle.expr_terms.specs.Raws.{Raw, node, as_parens, only_parens, as_chain, only_chain, as_inner_chain, only_inner, as_last, as_parts, as_else, chain_or, in_chain, build_parens, build_else, build_chain, build_plain}
 
 longer : (xs : List Raw) (x v : Raw) → length ((x ∷ xs) ++ v ∷ []) ≡ 1 → ⊥
 longer xs x v e = omega (arith, length-append (x ∷ xs) (v ∷ []))
@@ -87,3 +88,19 @@ build_plain-one p vs [] v h l e = rw (e, h) refl
 build_plain-one p vs (x ∷ xs) v h l e = absurd (longer xs x v (sym (ap length e) ∙ l))
 
 pub ruleset builds = (only_chain-many, only_chain-one, build_parens-kept, build_parens-only, build_else-kept, build_else-only, only_inner-one, build_chain-many, build_chain-three, build_plain-many, build_plain-kept, build_plain-one)
+
+last-own : (v : Raw) (f : Raw-F Raw) → as_last f ≡ true → as_else v f ≡ as_parts f
+last-own v (Leaf t) e = never e
+last-own v (Node p vs) e = rw e refl
+
+last-other : (v : Raw) (f : Raw-F Raw) → as_last f ≡ false → as_else v f ≡ v ∷ []
+last-other v (Leaf t) e = refl
+last-other v (Node p vs) e = rw e refl
+
+pub else-own : (v : Raw) → as_last (out-Raw v) ≡ true → as_else v (out-Raw v) ≡ as_parts (out-Raw v)
+else-own v e = last-own v (out-Raw v) e
+
+pub else-other : (v : Raw) → as_last (out-Raw v) ≡ false → as_else v (out-Raw v) ≡ v ∷ []
+else-other v e = last-other v (out-Raw v) e
+
+pub ruleset lasts = (else-own, else-other)

@@ -65,12 +65,21 @@ chain_or (Some vs) v = node otherwise vs
 abbrev pub in_else : Raw → Raw
 in_else v = chain_or (as_inner_chain (out-Raw v)) v
 
-abbrev pub as_else : Raw-F Raw → List Raw
-as_else (Leaf t) = []
-as_else (Node p vs) = vs
+abbrev pub as_last : Raw-F Raw → Bool
+as_last (Leaf t) = false
+as_last (Node p vs) = is_otherwise p
+
+abbrev pub as_parts : Raw-F Raw → List Raw
+as_parts (Leaf t) = []
+as_parts (Node p vs) = vs
+
+-- the parts of the last part
+abbrev pub as_else : Raw → Raw-F Raw → List Raw
+as_else v (Leaf t) = v ∷ []
+as_else v (Node p vs) = if is_otherwise p then vs else v ∷ []
 
 abbrev pub in_chain : Raw → Raw → Raw → Raw
-in_chain test arm last = node conditional (as_else (out-Raw last) ++ arm ∷ test ∷ [])
+in_chain test arm last = node conditional (as_else last (out-Raw last) ++ arm ∷ test ∷ [])
 
 abbrev pub build_parens : List Raw → Raw
 build_parens [] = node parens []

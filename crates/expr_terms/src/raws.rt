@@ -2,7 +2,7 @@
 ghost use Rattle.std.specs.Prelude.{◌≡◌, ◌++◌, ◌∷◌, [], IfOk, is_some};
 ghost use Rattle.expr_terms.specs.declared.raws.Raw.TheViews.{out-Raw};
 ghost use Rattle.expr_terms.specs.Productions.{conditional};
-ghost use Rattle.expr_terms.specs.Raws.{is_parens, is_otherwise, is_conditional, as_parens, as_chain, only_chain, as_inner_chain, only_parens, only_inner, as_else, in_chain, build_parens, build_else, build_chain, build_plain, build, node};
+ghost use Rattle.expr_terms.specs.Raws.{is_parens, is_otherwise, is_conditional, as_parens, as_chain, only_chain, as_inner_chain, only_parens, only_inner, as_else, as_last, as_parts, in_chain, build_parens, build_else, build_chain, build_plain, build, node};
 
 use crate::bodies::passes;
 use crate::productions::Production;
@@ -195,13 +195,33 @@ fn build_else(parts: Vec<Raw>) -> Raw
     Raw::Node(Production::Otherwise, List::of_vec(parts))
 }
 
-/// The parts of the last part of a conditional.
-fn as_else(alloc: Global, value: Raw) -> Vec<Raw>
-    ensures { result.items ≡ as_else (out-Raw value) }
+fn as_last(value: &Raw) -> bool
+    ensures { result ≡ as_last (out-Raw value.now) }
+{
+    match value {
+        Raw::Leaf(_) => false,
+        Raw::Node(production, _) => is_otherwise(*production),
+    }
+}
+
+fn parts_of(alloc: Global, value: Raw) -> Vec<Raw>
+    ensures { result.items ≡ as_parts (out-Raw value) }
 {
     match value {
         Raw::Leaf(_) => Vec::new(alloc),
         Raw::Node(_, parts) => parts.into_vec(),
+    }
+}
+
+/// The parts of the last part of a conditional.
+#[tactic(auto, using(crate::proofs::BuildLemmas::lasts))]
+fn as_else(alloc: Global, value: Raw) -> Result<Vec<Raw>, AllocError>
+    ensures { IfOk result (λ parts. parts.items ≡ as_else value (out-Raw value)) }
+{
+    if as_last(&value) {
+        Ok(parts_of(alloc, value))
+    } else {
+        pushed(Vec::new(alloc), value)
     }
 }
 
@@ -216,7 +236,8 @@ fn pushed(parts: Vec<Raw>, part: Raw) -> Result<Vec<Raw>, AllocError>
 fn in_chain(alloc: Global, test: Raw, arm: Raw, last: Raw) -> Result<Raw, AllocError>
     ensures { IfOk result (λ value. value ≡ in_chain test arm last) }
 {
-    let arms = pushed(as_else(alloc, last), arm)?;
+    let arms = as_else(alloc, last)?;
+    let arms = pushed(arms, arm)?;
     let arms = pushed(arms, test)?;
     Ok(Raw::Node(Production::Conditional, List::of_vec(arms)))
 }
