@@ -1,0 +1,58 @@
+// Arguments that are lists.
+ghost use Rattle.xt_atoms.specs.Casts.{Answers};
+ghost use Rattle.xdm_items.specs.Conversion.{converted};
+ghost use Rattle.function_arguments.specs.Arguments.{atomic, text_arguments, integer_arguments, atom_arguments};
+
+use std::alloc::Global;
+use xdm_items::{ItemList, convert, copy_item_list};
+use xt_atoms::ValueFault;
+use xt_names::AtomType;
+use xt_types::{Count, ItemType, SeqType};
+
+/// The argument as any number of values of the type xs:string; each item is an atom of this type.
+#[tactic(auto, unfolding(crate::specs::Arguments::text_arguments))]
+pub fn texts(alloc: Global, items: &ItemList) -> Result<ItemList, ValueFault>
+    ensures { Answers (text_arguments items.now) result }
+{
+    atomic(alloc, items, AtomType::Str, Count::Many)
+}
+
+/// The argument as any number of values of the type xs:integer; each item is an atom of this type.
+#[tactic(auto, unfolding(crate::specs::Arguments::integer_arguments))]
+pub fn integers(alloc: Global, items: &ItemList) -> Result<ItemList, ValueFault>
+    ensures { Answers (integer_arguments items.now) result }
+{
+    atomic(alloc, items, AtomType::Int, Count::Many)
+}
+
+/// The argument as any number of atomic values; each item is an atom.
+#[tactic(auto, unfolding(crate::specs::Arguments::atom_arguments))]
+pub fn atoms(alloc: Global, items: &ItemList) -> Result<ItemList, ValueFault>
+    ensures { Answers (atom_arguments items.now) result }
+{
+    atomic(alloc, items, AtomType::Any, Count::Many)
+}
+
+/// The argument as so many atoms of the type.
+pub(crate) fn atomic(
+    alloc: Global,
+    items: &ItemList,
+    kind: AtomType,
+    count: Count,
+) -> Result<ItemList, ValueFault>
+    ensures { Answers (converted (atomic kind count) items.now) result }
+{
+    converted(alloc, items, &SeqType::Of(ItemType::Atomic(kind), count))
+}
+
+/// The argument as a value of the type.
+pub(crate) fn converted(
+    alloc: Global,
+    items: &ItemList,
+    to: &SeqType,
+) -> Result<ItemList, ValueFault>
+    ensures { Answers (converted to.now items.now) result }
+{
+    let own = copy_item_list(items)?;
+    convert(alloc, own, to)
+}

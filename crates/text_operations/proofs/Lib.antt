@@ -1,0 +1,4 @@
+pub mod PositionLemmas
+pub mod SearchLemmas
+pub mod SpaceLemmas
+pub mod TranslationLemmas

@@ -1,0 +1,4 @@
+pub mod Positions
+pub mod Searches
+pub mod Spaces
+pub mod Translations
