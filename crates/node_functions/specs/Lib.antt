@@ -1,0 +1,4 @@
+pub mod AttributeTables
+pub mod Deep
+pub mod Roots
+pub mod Left

@@ -1,0 +1,2 @@
+pub mod ExtremeLemmas
+pub mod SumLemmas
