@@ -4,3 +4,4 @@ pub mod Tokens
 pub mod Productions
 pub mod Choices
 pub mod Raws
+pub mod Nest
