@@ -1,3 +1,4 @@
 pub mod Values
 pub mod Quietly
 pub mod Forms
+pub mod Paths
