@@ -1,0 +1,3 @@
+pub mod ViewLemmas
+pub mod PartLemmas
+pub mod ClimbLemmas

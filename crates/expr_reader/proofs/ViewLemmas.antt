@@ -1,0 +1,22 @@
+-- The frames of the code, as the machine has them.
+use Rattle.std.proofs.Common.{◌≡◌, ℕ, suc, ◌<◌, ◌≤◌, ◌+◌, ◌-◌, List, [], ◌∷◌, ◌++◌, refl, ap, drop, length, get_or, arith, append-nil, zero}
+use Rattle.expr_reader.specs.declared.frames.Frame.{Frame}
+use Rattle.expr_reader.specs.TokenNames.{Token}
+use Rattle.expr_reader.specs.Terms.{Language, Nonterminal}
+use Rattle.expr_terms.specs.declared.choices.Second.{Second}
+use Rattle.expr_terms.specs.Choices.{choose}
+use Rattle.expr_grammar.specs.Machine as machine
+use Rattle.expr_reader.specs.View.{frame_of, frames_on, frames_of}
+
+frames_on-append : (below : List machine.Frame) (fs : List Frame) (f : Frame) → frames_on below (fs ++ f ∷ []) ≡ frame_of f ∷ frames_on below fs
+frames_on-append below [] f = refl
+frames_on-append below (g ∷ fs) f = frames_on-append (frame_of g ∷ below) fs f
+
+pub frames_of-append : (fs : List Frame) (f : Frame) → frames_of (fs ++ f ∷ []) ≡ frame_of f ∷ frames_of fs
+frames_of-append fs f = frames_on-append [] fs f
+
+pub descend-more : (d : ℕ) (l : Language) (n : Nonterminal) (t : Token) (s : Second) (fs : List machine.Frame) → 0 < d → machine.descend l d n t s fs ≡ machine.picked (λ m gs. machine.descend l (d - 1) m t s gs) l t fs (choose n t s)
+descend-more zero l n t s fs h = absurd (omega arith)
+descend-more (suc d) l n t s fs h = let e : suc d - 1 ≡ d = omega arith in rw e refl
+
+pub ruleset views = (frames_of-append, append-nil)

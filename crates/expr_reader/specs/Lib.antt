@@ -1,0 +1,5 @@
+pub mod View
+pub mod Answers
+pub mod TokenNames
+pub mod Terms
+pub mod RawNames
