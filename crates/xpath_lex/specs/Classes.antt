@@ -1,5 +1,5 @@
--- The classes of characters that tokens are made of (XML 1.0, 2.2 and 2.3; Namespaces in XML 1.0, 3;
--- XPath 2.0, A.2).
+-- The classes of characters that tokens are made of (XML 1.0, 2.2 and 2.3; Namespaces in XML 1.0,
+-- 3; XPath 2.0, A.2).
 use Rattle.std.specs.Prelude.{ℕ, List, [], ◌∷◌, Bool, ◌&&◌, ◌||◌, ◌==◌, nat_le}
 use Rattle.std.specs.List.{list_any}
 use Rattle.xt_names.specs.Classes.{is_in_ranges, xml_char_ranges, ncname_start_ranges, ncname_char_ranges}

@@ -33,12 +33,13 @@ ends_in_digit [] = false
 ends_in_digit (c ∷ []) = is_digit c
 ends_in_digit (c ∷ d ∷ cs) = ends_in_digit (d ∷ cs)
 
--- In all that follows `total` is how many bytes the whole text has, `ts` are the characters that are
--- left of it, and `behind` says whether a digit stands directly before them.
+-- In all that follows `total` is how many bytes the whole text has, `ts` are the characters that
+-- are left of it, and `behind` says whether a digit stands directly before them.
 
 -- behind white space and comments stands this token, which is the longest there, and this is left
 -- behind it
-pub record TokenAt (total : ℕ) (behind : Bool) (ts : List ℕ) (token : Placed) (rest : List ℕ) : Type 0 where
+pub record TokenAt (total : ℕ) (behind : Bool) (ts : List ℕ) (token : Placed) (rest : List ℕ)
+    : Type 0 where
   pub after : Bool
   pub here : List ℕ
   pub gap : Gap behind ts after here

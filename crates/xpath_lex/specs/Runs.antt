@@ -19,9 +19,11 @@ NotNext c (d ∷ ts) = c ≡ d → ⊥
 -- that a quote which closes it stands directly before
 unfoldable pub literal_rest : ℕ → Bool → List ℕ → Option (List ℕ) → Option (List ℕ)
 literal_rest quote behind [] best = best
-literal_rest quote true (c ∷ cs) best = if c == quote then literal_rest quote false cs best else best
+literal_rest quote true (c ∷ cs) best =
+    if c == quote then literal_rest quote false cs best else best
 literal_rest quote false (c ∷ cs) best =
-    if c == quote then literal_rest quote true cs (Some cs) else if is_char c then literal_rest quote false cs best else best
+    if c == quote then literal_rest quote true cs (Some cs)
+    else if is_char c then literal_rest quote false cs best else best
 
 -- a character that begins no number, no literal and no name
 pub record IsMark (c : ℕ) : Type 0 where

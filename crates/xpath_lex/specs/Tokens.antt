@@ -38,8 +38,8 @@ pub data Decimal : List ℕ → Type 0 where
   more : {c : ℕ} {ts : List ℕ} → is_digit c ≡ true → Decimal ts → Decimal (c ∷ ts)
   point : {c : ℕ} {ts : List ℕ} → is_digit c ≡ true → Decimal (46 ∷ c ∷ ts)
 
--- Where no token begins, whatever stands there. The truth value says whether a digit stands directly
--- before.
+-- Where no token begins, whatever stands there. The truth value says whether a digit stands
+-- directly before.
 pub data Barred : Bool → List ℕ → Type 0 where
   -- `(:` begins a comment and nothing else
   comment : {behind : Bool} {ts : List ℕ} → Barred behind (40 ∷ 58 ∷ ts)
@@ -49,13 +49,15 @@ pub data Barred : Bool → List ℕ → Type 0 where
   decimal : {behind : Bool} {ts : List ℕ} → Decimal ts → Barred behind ts
 
 -- a token may begin here
-pub record Begins (behind : Bool) (ts : List ℕ) (kind : TokenKind) (run rest : List ℕ) : Type 0 where
+pub record Begins (behind : Bool) (ts : List ℕ) (kind : TokenKind) (run rest : List ℕ)
+    : Type 0 where
   pub allowed : Barred behind ts → ⊥
   pub is_token : IsToken kind run
   pub parts : ts ≡ run ++ rest
 
 -- and none that is longer
-pub record Longest (behind : Bool) (ts : List ℕ) (kind : TokenKind) (run rest : List ℕ) : Type 0 where
+pub record Longest (behind : Bool) (ts : List ℕ) (kind : TokenKind) (run rest : List ℕ)
+    : Type 0 where
   pub begins : Begins behind ts kind run rest
   pub longest : (other : TokenKind) (more less : List ℕ) → Begins behind ts other more less
       → length more ≤ length run
