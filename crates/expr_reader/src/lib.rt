@@ -1,7 +1,10 @@
 //! The reader of expressions and of sequence types over tokens.
 //!
-//! Example: the tokens `1`, `-`, `2`, `-`, `3` are read as the one level of `-` with its three operands;
-//! `1`, `=`, `2`, `=`, `3` spell nothing.
+//! A value is given exactly where the tokens spell it, and none exactly where they spell nothing. The
+//! open productions stand on a stack of frames, so no depth of nesting takes stack of the machine.
+//!
+//! Example: the tokens `1`, `-`, `2`, `-`, `3` are read as the one level of `-` with its three
+//! operands; `1`, `=`, `2`, `=`, `3` spell nothing.
 #![tactic(auto)]
 
 ghost use Rattle.std.specs.Prelude.{◌≡◌, IfOk};

@@ -13,6 +13,7 @@ mod bodies;
 mod choices;
 mod classes;
 mod keys;
+mod levels;
 mod productions;
 mod raws;
 mod tokens;

@@ -10,8 +10,8 @@ use crate::tokens::Token;
 use std::alloc::{AllocError, Global};
 use xt_names::List;
 
-/// What was read: fixed words and marks are gone, and a production that adds nothing to its only part
-/// is that part.
+/// What was read: fixed words and marks are gone, and a production that adds nothing to its only
+/// part is that part.
 #[derive(Drop)]
 #[cycle(raw)]
 pub enum Raw {

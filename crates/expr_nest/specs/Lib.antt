@@ -1,0 +1,4 @@
+pub mod TokenNames
+pub mod Terms
+pub mod RawNames
+pub mod Held
