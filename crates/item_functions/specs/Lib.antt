@@ -1,0 +1,3 @@
+pub mod OnSequences
+pub mod OnValues
+pub mod Outcomes
