@@ -1,0 +1,4 @@
+pub mod JoinLemmas
+pub mod TextLemmas
+pub mod TranslateLemmas
+pub mod CodepointLemmas
