@@ -1,4 +1,4 @@
-pub mod Functions
+pub mod NamedTexts
 pub mod Nest
 pub mod Parts
 pub mod Plain

@@ -1,6 +1,6 @@
 -- Expressions of XPath 2.0, 3, whose functions are those of the table.
 use Rattle.std.specs.Prelude.{length, Bool, true, false, not, ◌&&◌, is_none}
-use Rattle.xt_forms.specs.Functions.{is_function}
+use Rattle.function_table.specs.Find.{is_known}
 use Rattle.xt_forms.specs.Regular.{is_regular_expr, every, is_some_at_all}
 use Rattle.xt_syntax.specs.declared.exprs.Expr.{Expr}
 use Rattle.xt_syntax.specs.declared.exprs.Arm.{Arm}
@@ -44,7 +44,7 @@ expr_plain (Cast a kind empty) = a
 expr_plain (Slash a b) = a && b
 expr_plain (Step axis node_test tests) = every tests
 expr_plain (Filter of tests) = of && every tests
-expr_plain (Call name args) = is_function name (length args) && every args
+expr_plain (Call name args) = is_known name (length args) && every args
 expr_plain (ElemC name content) = false
 expr_plain (AttrC name content) = false
 expr_plain (DocC content) = false

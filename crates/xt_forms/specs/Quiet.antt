@@ -3,7 +3,8 @@ use Rattle.std.specs.Prelude.{ℕ, List, [], ◌∷◌, Bool, true, false, ◌&&
 use Rattle.std.specs.List.{list_all}
 use Rattle.std.specs.Str.{bytes_eq}
 use Rattle.xt_names.specs.declared.names.ExprName.{ExprName}
-use Rattle.xt_forms.specs.Functions.{is_in_fn, is_one_of}
+use Rattle.function_table.specs.Find.{is_in_fn}
+use Rattle.xt_forms.specs.NamedTexts.{is_one_of}
 use Rattle.xt_forms.specs.Regular.{is_regular_expr}
 use Rattle.xt_forms.specs.declared.quiet_forms.QuietForm.{QuietForm}
 use Rattle.xt_forms.specs.declared.quiet_forms.QuietForm.TheVariants as form

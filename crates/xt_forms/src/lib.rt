@@ -8,8 +8,8 @@
 #![tactic(auto)]
 
 mod facts;
-mod functions;
 mod laws;
+mod named_texts;
 mod nesting;
 mod plainness;
 mod quiet_calls;
@@ -18,7 +18,6 @@ mod quietness;
 mod regular_parts;
 mod regularity;
 
-pub use functions::is_function;
 pub use laws::{a_whole_nests_one_more_than_its_parts, plain_and_quiet_expressions_are_regular};
 pub use nesting::{nest, nest_pattern};
 pub use plainness::is_plain;

@@ -3,11 +3,11 @@ ghost use Rattle.std.specs.Prelude.{◌≡◌, map};
 ghost use Rattle.xt_forms.specs.Plain.{is_plain_expr, has_plain_forms, is_plain_arm, is_plain_bind, is_plain_clause, is_plain_flwor};
 ghost use Rattle.xt_forms.specs.Regular.{every};
 
-use crate::functions::is_function;
 use crate::regularity::is_regular;
+use function_table::is_known;
 use xt_syntax::{Arm, Bind, Clause, Expr, Flwor};
 
-/// Whether the expression uses XPath alone (XPath 2.0, 3) and calls only functions of the table: it is
+/// Whether the expression uses XPath alone (XPath 2.0, 3) and calls only functions of the table, or `doc`: it is
 /// regular, and in it stand no constructor, no `let`, no type on a variable, no position, no `where` and no order.
 pub fn is_plain(e: &Expr) -> bool
     ensures { result ≡ is_plain_expr e.now }
@@ -47,7 +47,7 @@ fn has_plain_forms(e: &Expr) -> bool
         | Expr::Castable(a, _, _)
         | Expr::Cast(a, _, _) => has_plain_forms(a.get()),
         Expr::Filter(of, tests) => has_plain_forms(of.get()) && are_plain(tests.get().as_slice()),
-        Expr::Call(name, args) => is_function(name, args.get().len())
+        Expr::Call(name, args) => is_known(name, args.get().len())
             && are_plain(args.get().as_slice()),
         Expr::ElemC(_, _)
         | Expr::AttrC(_, _)

@@ -2,8 +2,9 @@
 ghost use Rattle.std.specs.Prelude.{◌≡◌};
 ghost use Rattle.xt_forms.specs.Quiet.{local_call, quiet_call, called, called_with};
 
-use crate::functions::{is_in_fn, is_one_of};
+use crate::named_texts::is_one_of;
 use crate::quiet_forms::{QuietForm, condition_if};
+use function_table::is_in_fn;
 use xt_names::{ExprName, Text, is_ascii_text};
 
 /// The functions that quiet predicates call.

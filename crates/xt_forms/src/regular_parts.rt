@@ -2,7 +2,7 @@
 ghost use Rattle.std.specs.Prelude.{◌≡◌, map};
 ghost use Rattle.xt_forms.specs.Regular.{has_no_child, is_bare_name, is_cast_name, is_cast_type, is_regular_kind, part_facts_of};
 
-use crate::functions::is_one_of;
+use crate::named_texts::is_one_of;
 use xt_names::{AtomType, ExprName, Name, is_ascii_text};
 use xt_syntax::{Part, SeqType};
 use xt_types::is_regular_type;

@@ -1,7 +1,7 @@
 use Rattle.std.proofs.Common.{◌≡◌, drop, true, nat_lt}
 use Rattle.std.specs.List.{list_all, list_any}
 use Rattle.std.specs.Str.{bytes_eq}
-use Rattle.xt_forms.proofs.functions.is_one_of.Given as goal
+use Rattle.xt_forms.proofs.named_texts.is_one_of.Given as goal
 
 abbrev pub invariant-loop-name : goal.invariant-loop-name
 invariant-loop-name l =
