@@ -1,5 +1,5 @@
 -- What the grammar leaves to its values: a direct element ends with the name that it begins with, and has no attribute `xmlns` (XQuery 1.0, 3.7.1).
-use Rattle.std.specs.Prelude.{ℕ, List, [], ◌∷◌, map, Bool, true, false, not, ◌&&◌, ◌||◌, Option, Some, None, codes}
+use Rattle.std.specs.Prelude.{List, [], ◌∷◌, Bool, true, false, not, ◌&&◌, Option, Some, None, codes}
 use Rattle.std.specs.List.{list_all}
 use Rattle.std.specs.Str.{bytes_eq}
 use Rattle.xt_names.specs.Allowed.{is_empty_text}
@@ -20,9 +20,6 @@ tag_in (token.Inner prefix local) = Some (record { prefix = prefix; local = loca
 tag_in (token.Shut prefix local) = Some (record { prefix = prefix; local = local })
 tag_in (token.Attribute prefix local) = Some (record { prefix = prefix; local = local })
 tag_in _ = None
-
-abbrev pub tag_of : Shape → Option Tag
-tag_of s = s.tag
 
 abbrev pub is_good : Shape → Bool
 is_good s = s.good
