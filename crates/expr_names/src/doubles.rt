@@ -11,7 +11,8 @@ use xt_names::Name;
 /// Up to so many names it is faster to compare each pair than to make a table.
 const FEW: usize = 32;
 
-/// Whether no two names have one uri and local part. Past a few names it takes memory for a table of them.
+/// Whether no two names have one uri and local part. Past a few names it takes memory for a table
+/// of them.
 pub fn names_differ(alloc: Global, names: &[Name]) -> Result<bool, AllocError>
     ensures { IfOk result (λ differ. differ ≡ names_differ names.now) }
 {

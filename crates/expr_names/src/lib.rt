@@ -1,11 +1,12 @@
-//! What names, name tests, types and axes mean where they stand in an expression, and which static rules they break
-//! (XPath 2.0, 2.1.1, 2.5 and 3.2.1; XQuery 1.0, 3.7.1.2).
+//! What names, name tests, types and axes mean where they stand in an expression, and which static
+//! rules they break (XPath 2.0, 2.1.1, 2.5 and 3.2.1; XQuery 1.0, 3.7.1.2).
 //!
-//! Each call that resolves something gives its value exactly where no rule is broken, and else the code of the first
-//! broken rule. A prefix that is bound to no uri, or to the empty one, is not declared; of several bindings of a prefix
-//! the first counts.
+//! Each call that resolves something gives its value exactly where no rule is broken, and else the
+//! code of the first broken rule. A prefix that is bound to no uri, or to the empty one, is not
+//! declared; of several bindings of a prefix the first counts.
 //!
-//! Example: where `p` is bound to `urn:p`, `p:a` means the name `a` of `urn:p`, and `q:a` breaks XPST0081.
+//! Example: where `p` is bound to `urn:p`, `p:a` means the name `a` of `urn:p`, and `q:a` breaks
+//! XPST0081.
 #![tactic(auto)]
 
 mod doubles;

@@ -39,7 +39,8 @@ pub fn declared_uri(alloc: Global, bound: &[Binding], prefix: &Text) -> Result<T
     Ok(uri)
 }
 
-/// The uri of a name, which is `default` where the name has no prefix; XPST0081 where the prefix is not declared.
+/// The uri of a name, which is `default` where the name has no prefix; XPST0081 where the prefix
+/// is not declared.
 #[tactic(auto, unfolding(crate::specs::Names::undeclared_in, crate::specs::Names::uri_in))]
 pub fn uri_in(
     alloc: Global,

@@ -10,7 +10,8 @@ use std::alloc::{AllocError, Global};
 use xt_names::{Binding, ExprName, Text};
 use xt_types::NameTest;
 
-/// The name test, in which a name without a prefix has no uri; XPST0081 where the prefix is not declared.
+/// The name test, in which a name without a prefix has no uri; XPST0081 where the prefix is not
+/// declared.
 #[tactic(auto, unfolding(crate::specs::Names::name_test, crate::specs::Names::test_broken))]
 pub fn name_test(
     alloc: Global,

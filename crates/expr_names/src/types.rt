@@ -50,7 +50,8 @@ pub fn call_type(name: &ExprName) -> Option<AtomType>
     }
 }
 
-/// The type of a cast; XPST0080 where it is xs:anyAtomicType, and XPST0051 where it is another type that no cast is to.
+/// The type of a cast; XPST0080 where it is xs:anyAtomicType, and XPST0051 where it is another
+/// type that no cast is to.
 #[tactic(auto, unfolding(crate::specs::Types::cast_broken, crate::specs::Types::type_or_any))]
 pub fn cast_type(kind: Option<AtomType>) -> Result<AtomType, ResolveFault>
     ensures { Answers result (cast_broken kind) (type_or_any kind) }

@@ -1,7 +1,9 @@
-//! What the grammar of expressions leaves to its values (XQuery 1.0, 3.7.1): the end tag of a direct element has the name of
-//! its start tag, letter by letter, and no attribute is `xmlns` or has that prefix.
+//! What the grammar of expressions leaves to its values (XQuery 1.0, 3.7.1): the end tag of a
+//! direct element has the name of its start tag, letter by letter, and no attribute is `xmlns` or
+//! has that prefix.
 //!
-//! Example: what is read of `<a></a>` is shaped, and what is read of `<a></b>` or of `<a xmlns="u"/>` is not.
+//! Example: what is read of `<a></a>` is shaped, and what is read of `<a></b>` or of `<a
+//! xmlns="u"/>` is not.
 #![tactic(auto)]
 
 mod shapes;
