@@ -1,0 +1,167 @@
+// A raw value as a text: a node is its name and its parts in parentheses.
+use crate::words::tokens_of;
+use expr_reader::{parse, parse_type};
+use expr_terms::{Language, Level, Production, Raw, Token, key_text};
+use std::alloc::AllocGlobal;
+use std::process::Abort;
+
+fn put(rt: &(impl Abort + AllocGlobal), out: &mut String, text: &str) {
+    out.push_str(text).expect(rt, "memory");
+}
+
+fn put_name(rt: &(impl Abort + AllocGlobal), out: &mut String, prefix: &str, local: &str) {
+    if prefix != "" {
+        put(rt, out, prefix);
+        put(rt, out, ":");
+    }
+    put(rt, out, local);
+}
+
+fn put_token(rt: &(impl Abort + AllocGlobal), out: &mut String, token: &Token) {
+    match token {
+        Token::Key(key) => put(rt, out, key_text(*key)),
+        Token::Name(local) => put(rt, out, local.as_str()),
+        Token::Qname(prefix, local) => put_name(rt, out, prefix.as_str(), local.as_str()),
+        Token::AnyLocal(prefix) => put_name(rt, out, prefix.as_str(), "*"),
+        Token::AnyPrefix(local) => put_name(rt, out, "*", local.as_str()),
+        Token::Digits(number) => {
+            let text = format!(in rt.alloc(); "{number}").expect(rt, "memory");
+            put(rt, out, text.as_str());
+        }
+        Token::Quoted(_) => put(rt, out, "'s'"),
+        Token::Outer(prefix, local)
+        | Token::Inner(prefix, local)
+        | Token::Attribute(prefix, local)
+        | Token::Shut(prefix, local) => put_name(rt, out, prefix.as_str(), local.as_str()),
+        Token::Chars(_, _) => put(rt, out, "t"),
+        Token::Unquote | Token::TagEnd | Token::EmptyEnd | Token::Enter => put(rt, out, "?"),
+    }
+}
+
+fn level_name(level: Level) -> &'static str {
+    match level {
+        Level::Ors => "Ors",
+        Level::Ands => "Ands",
+        Level::Compares => "Compares",
+        Level::Ranges => "Ranges",
+        Level::Adds => "Adds",
+        Level::Multiplies => "Multiplies",
+        Level::Unions => "Unions",
+        Level::Crosses => "Crosses",
+        Level::Instances => "Instances",
+        Level::Treats => "Treats",
+        Level::Castables => "Castables",
+        Level::Casts => "Casts",
+    }
+}
+
+// Nodes that are never met have no name.
+fn name_of(production: Production) -> &'static str {
+    match production {
+        Production::Chain(level) => level_name(level),
+        Production::Operated(_) => "Op",
+        Production::Listing => "Listing",
+        Production::Argued => "Argued",
+        Production::Conditional => "Conditional",
+        Production::Otherwise => "Otherwise",
+        Production::Flwor => "Flwor",
+        Production::Quantified => "Quantified",
+        Production::ForClause => "ForClause",
+        Production::LetClause => "LetClause",
+        Production::Bind => "Bind",
+        Production::LetBind => "LetBind",
+        Production::QuantBind => "QuantBind",
+        Production::Typed => "Typed",
+        Production::Placed => "Placed",
+        Production::WhereTest => "WhereTest",
+        Production::Ordered => "Ordered",
+        Production::Stable => "Stable",
+        Production::KeySpec => "KeySpec",
+        Production::Empties => "Empties",
+        Production::Signed => "Signed",
+        Production::Rooted => "Rooted",
+        Production::RootedDeep => "RootedDeep",
+        Production::RootSteps => "RootSteps",
+        Production::Steps => "Steps",
+        Production::StepAfter => "StepAfter",
+        Production::DeepAfter => "DeepAfter",
+        Production::AxisStep => "AxisStep",
+        Production::AttributeStep => "AttributeStep",
+        Production::TestStep => "TestStep",
+        Production::ParentStep => "ParentStep",
+        Production::FilterStep => "FilterStep",
+        Production::PlainKind => "PlainKind",
+        Production::PiKind => "PiKind",
+        Production::NamedKind => "NamedKind",
+        Production::Number => "Number",
+        Production::Literal => "Literal",
+        Production::Variable => "Variable",
+        Production::Parens => "Parens",
+        Production::Context => "Context",
+        Production::Call => "Call",
+        Production::Computed => "Computed",
+        Production::Constructed => "Constructed",
+        Production::PiConstructed => "PiConstructed",
+        Production::Enclosing => "Enclosing",
+        Production::EmptyType => "EmptyType",
+        Production::ItemsType => "ItemsType",
+        Production::AnyItem => "AnyItem",
+        Production::OneType => "OneType",
+        Production::Questioned => "Questioned",
+        Production::Element => "Element",
+        Production::Full => "Full",
+        Production::NoContent => "NoContent",
+        Production::Paired => "Paired",
+        Production::PartEnclosed => "PartEnclosed",
+        Production::Child => "Child",
+        Production::ItemEnclosed => "ItemEnclosed",
+        _ => "?",
+    }
+}
+
+fn show(rt: &(impl Abort + AllocGlobal), out: &mut String, raw: &Raw, depth: u8) {
+    if depth == 0 {
+        return;
+    }
+    match raw {
+        Raw::Leaf(token) => put_token(rt, out, token),
+        Raw::Node(production, parts) => {
+            put(rt, out, name_of(*production));
+            put(rt, out, "(");
+            for (place, part) in parts.as_slice().iter().enumerate() {
+                if place > 0 {
+                    put(rt, out, " ");
+                }
+                show(rt, out, part, depth - 1);
+            }
+            put(rt, out, ")");
+        }
+    }
+}
+
+fn shown(rt: &(impl Abort + AllocGlobal), value: Option<Raw>) -> String {
+    let mut out = String::new(rt.alloc());
+    match value {
+        None => put(rt, &mut out, "none"),
+        Some(raw) => {
+            show(rt, &mut out, &raw, 100);
+            drop(raw);
+        }
+    }
+    out
+}
+
+// What the words are read as, or `none`.
+pub(crate) fn read(rt: &(impl Abort + AllocGlobal), language: Language, words: &str) -> String {
+    let tokens = tokens_of(rt, words);
+    let value = parse(rt.alloc(), language, tokens.as_slice()).expect(rt, "memory");
+    drop(tokens);
+    shown(rt, value)
+}
+
+pub(crate) fn read_type(rt: &(impl Abort + AllocGlobal), words: &str) -> String {
+    let tokens = tokens_of(rt, words);
+    let value = parse_type(rt.alloc(), Language::Xquery, tokens.as_slice()).expect(rt, "memory");
+    drop(tokens);
+    shown(rt, value)
+}
