@@ -1,5 +1,5 @@
 -- The parts of a list.
-use Rattle.std.proofs.Common.{Bool, true, false, ◌++◌, ◌≡◌, ℕ, suc, ◌<◌, ◌≤◌, ◌+◌, List, [], ◌∷◌, refl, drop, length, get_or, arith, drop-cons, add-one, zero, ap, length-append, ◌≢◌}
+use Rattle.std.proofs.Common.{◌≡◌, ℕ, suc, ◌<◌, ◌≤◌, ◌+◌, List, [], ◌∷◌, refl, drop, length, get_or, arith, drop-cons, add-one, zero}
 
 pub drop_past : {A : Type 0} (xs : List A) (k : ℕ) → length xs ≤ k → drop k xs ≡ []
 drop_past [] zero h = refl

@@ -1,5 +1,5 @@
 -- The frames of the code, as the machine has them.
-use Rattle.std.proofs.Common.{◌≡◌, ℕ, suc, ◌<◌, ◌≤◌, ◌+◌, ◌-◌, List, [], ◌∷◌, ◌++◌, refl, ap, drop, length, get_or, arith, append-nil, zero}
+use Rattle.std.proofs.Common.{◌≡◌, ◌≢◌, ℕ, suc, ◌<◌, ◌≤◌, ◌+◌, ◌-◌, List, [], ◌∷◌, ◌++◌, refl, ap, drop, length, get_or, arith, append-nil, zero}
 use Rattle.expr_reader.specs.declared.frames.Frame.{Frame}
 use Rattle.expr_reader.specs.TokenNames.{Token}
 use Rattle.expr_reader.specs.Terms.{Language, Nonterminal}
@@ -19,4 +19,12 @@ pub descend-more : (d : ℕ) (l : Language) (n : Nonterminal) (t : Token) (s : S
 descend-more zero l n t s fs h = absurd (omega arith)
 descend-more (suc d) l n t s fs h = let e : suc d - 1 ≡ d = omega arith in rw e refl
 
-pub ruleset views = (frames_of-append, append-nil)
+frames_on-some : (below : List machine.Frame) (fs : List Frame) → below ≢ [] → frames_on below fs ≢ []
+frames_on-some below [] h e = h e
+frames_on-some below (f ∷ fs) h e = frames_on-some (frame_of f ∷ below) fs (λ n. absurd cc) e
+
+pub frames_of-some : (fs : List Frame) → fs ≢ [] → frames_of fs ≢ []
+frames_of-some [] h e = h refl
+frames_of-some (f ∷ fs) h e = frames_on-some (frame_of f ∷ []) fs (λ n. absurd cc) e
+
+pub ruleset views = (frames_of-append, append-nil, frames_of-some)

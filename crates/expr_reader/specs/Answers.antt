@@ -1,15 +1,56 @@
--- What the answer of the reader says of the tokens.
-use Rattle.std.specs.Prelude.{List, Option, Some, None}
+-- What the answers of the reader say of the tokens.
+use Rattle.std.specs.Prelude.{◌≡◌, ◌≤◌, ◌<◌, ℕ, nat_le, Bool, true, false, List, Option, Some, None, is_some, if◌then◌else◌}
 use Rattle.expr_terms.specs.declared.tokens.Token.{Token}
 use Rattle.expr_terms.specs.declared.raws.Raw.{Raw}
+use Rattle.expr_terms.specs.declared.choices.Second.{Second}
 use Rattle.expr_terms.specs.declared.productions.Language.{Language}
+use Rattle.expr_terms.specs.Nest.{raw_nest_of}
 use Rattle.expr_grammar.specs.Grammar.{Spells, SpellsType}
+use Rattle.expr_grammar.specs.Machine.{Frame, advance, finish}
+use Rattle.expr_reader.specs.declared.readings.Reading.{Reading}
+use Rattle.expr_reader.specs.declared.readings.Reading.TheVariants.{Value, Nothing, TooDeep}
+use Rattle.expr_reader.specs.Outline.{outline, outlines, Sinks}
 
--- the value is spelled, or none is
-abbrev pub Parsed : Language → List Token → Option Raw → Type 0
-Parsed l ts None = (v : Raw) → Spells l ts v → ⊥
-Parsed l ts (Some v) = Spells l ts v
+-- what is read, where it nests no deeper than the limit
+abbrev pub within : ℕ → Option Raw → Reading
+within k None = Nothing
+within k (Some v) = if nat_le (raw_nest_of v) k then Value v else TooDeep
 
-abbrev pub ParsedType : Language → List Token → Option Raw → Type 0
-ParsedType l ts None = (v : Raw) → SpellsType l ts v → ⊥
-ParsedType l ts (Some v) = SpellsType l ts v
+-- the value is spelled within the limit, nothing is spelled, or something past the limit is
+abbrev pub Parsed : Language → List Token → ℕ → Reading → Type 0
+Parsed l ts k Nothing = (v : Raw) → Spells l ts v → ⊥
+Parsed l ts k (Value v) = Spells l ts v × (raw_nest_of v ≤ k)
+Parsed l ts k TooDeep = (v : Raw) × (Spells l ts v × (k < raw_nest_of v))
+
+abbrev pub ParsedType : Language → List Token → ℕ → Reading → Type 0
+ParsedType l ts k Nothing = (v : Raw) → SpellsType l ts v → ⊥
+ParsedType l ts k (Value v) = SpellsType l ts v × (raw_nest_of v ≤ k)
+ParsedType l ts k TooDeep = (v : Raw) × (SpellsType l ts v × (k < raw_nest_of v))
+
+-- where a token leads to, but for what the open productions have
+abbrev pub Outlined : Bool → Option (List Frame) → List Frame → Type 0
+Outlined true o new = outlines o ≡ Some (outline new)
+Outlined false o new = o ≡ None
+
+abbrev pub Stepped : Bool → Option (List Frame) → List Frame → Type 0
+Stepped true o new = o ≡ Some new
+Stepped false o new = o ≡ None
+
+-- A token has been led into the productions that are open. As long as no part was too deep, they are as the machine has them; from then
+-- on only where they stand is, and what is read will nest deeper than the limit.
+pub record Advanced (went : Bool) (k : ℕ) (was deep : Bool) (l : Language) (t : Token) (s : Second) (old new : List Frame) : Type 0 where
+  pub outlined : Outlined went (advance l t s old) new
+  pub exact : deep ≡ false → Stepped went (advance l t s old) new
+  pub sinks : was ≡ false → deep ≡ true → Sinks k l t s old
+  pub stays : was ≡ true → deep ≡ true
+
+abbrev pub Judged : Reading → Raw → ℕ → Bool → Type 0
+Judged Nothing v k deep = ⊥
+Judged (Value w) v k deep = (deep ≡ false) × (w ≡ v) × (raw_nest_of v ≤ k)
+Judged TooDeep v k deep = deep ≡ false → k < raw_nest_of v
+
+-- the tokens have come to their end
+abbrev pub Finished : Reading → ℕ → Bool → List Frame → Type 0
+Finished Nothing k deep fs = finish fs ≡ None
+Finished (Value v) k deep fs = (deep ≡ false) × (finish fs ≡ Some v) × (raw_nest_of v ≤ k)
+Finished TooDeep k deep fs = (is_some (finish fs) ≡ true) × (deep ≡ false → (w : Raw) → finish fs ≡ Some w → k < raw_nest_of w)

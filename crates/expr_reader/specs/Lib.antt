@@ -1,4 +1,6 @@
 pub mod View
+pub mod Counts
+pub mod Outline
 pub mod Answers
 pub mod TokenNames
 pub mod Terms

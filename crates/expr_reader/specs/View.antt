@@ -1,8 +1,8 @@
 -- The frames of the code, as the machine has them.
-use Rattle.std.specs.Prelude.{◌≡◌, ℕ, ◌+◌, List, [], ◌∷◌, ◌++◌, ◌≢◌, length, drop, Bool, true, false, Option, Some, None}
+use Rattle.std.specs.Prelude.{◌≡◌, ℕ, ◌<◌, List, [], ◌∷◌, ◌++◌, ◌≢◌, length, drop, Bool, true, false, Option, Some, None}
 use Rattle.expr_reader.specs.declared.frames.Frame.{Frame}
 use Rattle.expr_reader.specs.declared.fronts.Front.{Front}
-use Rattle.expr_reader.specs.declared.fronts.Front.TheVariants.{Refused, Taken, Below}
+use Rattle.expr_reader.specs.declared.fronts.Front.TheVariants.{Absent, Begun, Below}
 use Rattle.expr_reader.specs.declared.steps.Way.{Way}
 use Rattle.expr_reader.specs.declared.steps.Way.TheVariants.{Stuck, Moved, Through}
 use Rattle.expr_terms.specs.declared.tokens.Token.{Token}
@@ -10,10 +10,13 @@ use Rattle.expr_terms.specs.declared.raws.Raw.{Raw}
 use Rattle.expr_terms.specs.declared.choices.Second.{Second}
 use Rattle.expr_terms.specs.declared.productions.Language.{Language}
 use Rattle.expr_terms.specs.declared.productions.Nonterminal.{Nonterminal}
-use Rattle.expr_terms.specs.declared.productions.Production.{Production}
 use Rattle.expr_terms.specs.declared.productions.Symbol.{Symbol}
 use Rattle.expr_terms.specs.Productions.{body}
 use Rattle.expr_terms.specs.Choices.{choose}
+use Rattle.expr_reader.specs.declared.parts.Gift.{Gift}
+use Rattle.expr_reader.specs.declared.parts.Gift.TheVariants.{Refused, Kept, Dropped}
+use Rattle.expr_nest.specs.Held.{held}
+use Rattle.expr_reader.specs.Outline.{topmost_held}
 use Rattle.expr_grammar.specs.Machine as machine
 
 abbrev pub frame_of : Frame → machine.Frame
@@ -34,8 +37,8 @@ Wanted (Some s) ss rest = ss ≡ s ∷ rest
 
 -- what the front of a nonterminal is: the frames hold it, or nothing is done
 abbrev pub Fronted : Front → Language → Nonterminal → Token → Second → List Frame → List Frame → Type 0
-Fronted Refused l n t s old new = (new ≡ old) × ((go : Nonterminal → List machine.Frame → Option (List machine.Frame)) → machine.picked go l t (frames_of old) (choose n t s) ≡ None)
-Fronted Taken l n t s old new = (go : Nonterminal → List machine.Frame → Option (List machine.Frame)) → machine.picked go l t (frames_of old) (choose n t s) ≡ Some (frames_of new)
+Fronted Absent l n t s old new = (new ≡ old) × ((go : Nonterminal → List machine.Frame → Option (List machine.Frame)) → machine.picked go l t (frames_of old) (choose n t s) ≡ None)
+Fronted Begun l n t s old new = (go : Nonterminal → List machine.Frame → Option (List machine.Frame)) → machine.picked go l t (frames_of old) (choose n t s) ≡ Some (frames_of new)
 Fronted (Below m) l n t s old new = ((f : Frame) × (new ≡ old ++ f ∷ [])) × ((go : Nonterminal → List machine.Frame → Option (List machine.Frame)) → machine.picked go l t (frames_of old) (choose n t s) ≡ go m (frames_of new))
 
 abbrev pub Opened : Bool → Option (List machine.Frame) → List Frame → List Frame → Type 0
@@ -51,15 +54,18 @@ Went Stuck w frame old new = w ≡ machine.stuck
 Went Moved w frame old new = w ≡ machine.moved (frames_of new)
 Went (Through f) w frame old new = (w ≡ machine.through) × (f.production ≡ frame.production) × (f.kids.items ≡ frame.kids.items) × (new ≡ old)
 
-abbrev pub Stepped : Bool → Option (List machine.Frame) → List Frame → Type 0
-Stepped true o new = o ≡ Some (frames_of new)
-Stepped false o new = o ≡ None
-
 -- the value stands behind the others of the topmost frame
 abbrev pub with_value : Raw → List machine.Frame → List machine.Frame
 with_value v [] = []
 with_value v (machine.doing q us rs ∷ fs) = machine.doing q (us ++ v ∷ []) rs ∷ fs
 
-abbrev pub Given : Bool → Raw → List machine.Frame → List machine.Frame → List Frame → List Frame → Type 0
-Given false v old new xs ys = (old ≡ []) × (xs ≡ [])
-Given true v old new xs ys = (new ≡ with_value v old) × (length ys ≡ length xs) × (xs ≢ []) × (old ≢ [])
+-- a production with one more part, or without it where it nests too deep with it
+abbrev pub Taken : Frame × Gift → Frame → Raw → ℕ → Type 0
+Taken (g, Refused) f v k = ⊥
+Taken (g, Kept) f v k = frame_of g ≡ machine.doing f.production (f.kids.items ++ v ∷ []) (drop f.place (body f.production))
+Taken (g, Dropped) f v k = (frame_of g ≡ frame_of f) × (k < held f.production (f.kids.items ++ v ∷ []))
+
+abbrev pub Given : Gift → Raw → ℕ → Bool → List machine.Frame → List machine.Frame → List Frame → List Frame → Type 0
+Given Refused v k deep old new xs ys = (old ≡ []) × (xs ≡ [])
+Given Kept v k deep old new xs ys = (new ≡ with_value v old) × (length ys ≡ length xs) × (xs ≢ []) × (old ≢ []) × (deep ≡ false)
+Given Dropped v k deep old new xs ys = (new ≡ old) × (length ys ≡ length xs) × (xs ≢ []) × (old ≢ []) × (deep ≡ false → k < topmost_held (with_value v old))

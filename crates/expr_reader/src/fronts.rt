@@ -3,14 +3,15 @@ ghost use Rattle.std.specs.Prelude.{◌≡◌, ◌∷◌, IfOk};
 ghost use Rattle.expr_grammar.specs.Machine.{descend, deep};
 ghost use Rattle.expr_reader.specs.View.{frame_of, frames_of, Fronted, Opened, Tried};
 
-use crate::frames::{Frame, keep, symbol};
+use crate::frames::Frame;
+use crate::parts::{opened, symbol, with_token};
 use expr_terms::{Language, Nonterminal, Second, Symbol, Token, choose, fits, speaks};
 use std::alloc::{AllocError, Global};
 
 /// What the front of a nonterminal is.
 pub enum Front {
-    Refused,
-    Taken,
+    Absent,
+    Begun,
     Below(Nonterminal),
 }
 
@@ -27,35 +28,26 @@ fn open_front(
     ensures { IfOk result (λ front. Fronted front language nonterminal token.now second frames.old.items frames.new.items) }
 {
     match choose(nonterminal, token, second) {
-        None => Ok(Front::Refused),
+        None => Ok(Front::Absent),
         Some(production) => {
             if !speaks(language, production) {
-                return Ok(Front::Refused);
+                return Ok(Front::Absent);
             }
             match symbol(production, 0) {
                 Some(Symbol::Tok(class)) => {
                     if !fits(class, token) {
-                        return Ok(Front::Refused);
+                        return Ok(Front::Absent);
                     }
-                    let mut kids = Vec::new(alloc);
-                    keep(&mut kids, class, token)?;
-                    frames.push(Frame {
-                        production,
-                        place: 1,
-                        kids,
-                    })?;
-                    Ok(Front::Taken)
+                    let frame = opened(alloc, production, 0);
+                    frames.push(with_token(frame, class, token)?)?;
+                    Ok(Front::Begun)
                 }
                 Some(Symbol::One(inner)) => {
-                    frames.push(Frame {
-                        production,
-                        place: 1,
-                        kids: Vec::new(alloc),
-                    })?;
+                    frames.push(opened(alloc, production, 1))?;
                     Ok(Front::Below(inner))
                 }
                 Some(Symbol::Maybe(_)) | Some(Symbol::Many(_)) | Some(Symbol::Longest(_)) | None =>
-                    Ok(Front::Refused),
+                    Ok(Front::Absent),
             }
         }
     }
@@ -79,8 +71,8 @@ fn descend(
         return Ok(false);
     }
     match open_front(alloc, frames, language, nonterminal, token, second)? {
-        Front::Refused => Ok(false),
-        Front::Taken => Ok(true),
+        Front::Absent => Ok(false),
+        Front::Begun => Ok(true),
         Front::Below(inner) => {
             if descend(alloc, frames, depth - 1, language, inner, token, second)? {
                 Ok(true)

@@ -1,7 +1,9 @@
 //! The reader of expressions and of sequence types over tokens.
 //!
-//! A value is given exactly where the tokens spell it, and none exactly where they spell nothing. The
-//! open productions stand on a stack of frames, so no depth of nesting takes stack of the machine.
+//! A value is given exactly where the tokens spell it within the limit of nesting, none exactly where
+//! they spell nothing, and `TooDeep` exactly where they spell what nests deeper. The open productions
+//! stand on a stack of frames, so no depth of nesting takes stack of the machine; a value is dropped as
+//! soon as it nests too deep, so none is ever deeper than the limit.
 //!
 //! Example: the tokens `1`, `-`, `2`, `-`, `3` are read as the one level of `-` with its three
 //! operands; `1`, `=`, `2`, `=`, `3` spell nothing.
@@ -9,13 +11,17 @@
 
 ghost use Rattle.std.specs.Prelude.{◌≡◌, IfOk};
 ghost use Rattle.expr_grammar.specs.Machine.{run, start, read_whole, read_type};
-ghost use Rattle.expr_reader.specs.Answers.{Parsed, ParsedType};
+ghost use Rattle.expr_reader.specs.Answers.{within, Parsed, ParsedType};
 
+mod counts;
 mod frames;
 mod fronts;
+mod parts;
+mod readings;
 mod steps;
 
-use expr_terms::{Language, Production, Raw, Token, second_of};
+use expr_terms::{Language, Production, Token, second_of};
+pub use readings::Reading;
 use std::alloc::{AllocError, Global};
 
 /// What the tokens lead to from the production alone.
@@ -25,37 +31,54 @@ fn read(
     language: Language,
     production: Production,
     tokens: &[Token],
-) -> Result<Option<Raw>, AllocError>
-    ensures { IfOk result (λ v. v ≡ run language tokens.now (start production)) }
+    limit: u16,
+) -> Result<Reading, AllocError>
+    ensures { IfOk result (λ reading. reading ≡ within limit (run language tokens.now (start production))) }
 {
-    let mut frames = frames::start(alloc, production)?;
+    let mut frames = parts::start(alloc, production)?;
+    let mut is_deep = false;
     for i in 0..tokens.len() {
         let second = second_of(&tokens[i + 1..]);
-        if !steps::advance(alloc, &mut frames, language, &tokens[i], second)? {
-            return Ok(None);
+        let token = &tokens[i];
+        if !steps::advance(
+            alloc,
+            &mut frames,
+            &mut is_deep,
+            limit,
+            language,
+            token,
+            second,
+        )? {
+            return Ok(Reading::Nothing);
         }
     }
-    steps::finish(frames)
+    steps::finish(frames, limit, is_deep)
 }
 
-/// The expression that the tokens spell, or none where they spell none.
+/// The expression that the tokens spell, where it nests no deeper than the limit.
 #[tactic(auto, using(crate::proofs::ClimbLemmas::answers))]
-pub fn parse(alloc: Global, language: Language, tokens: &[Token]) -> Result<Option<Raw>, AllocError>
-    ensures spelled { IfOk result (λ v. Parsed language tokens.now v) }
-    ensures value { IfOk result (λ v. v ≡ read_whole language tokens.now) }
+pub fn parse(
+    alloc: Global,
+    language: Language,
+    tokens: &[Token],
+    limit: u16,
+) -> Result<Reading, AllocError>
+    ensures spelled { IfOk result (λ reading. Parsed language tokens.now limit reading) }
+    ensures value { IfOk result (λ reading. reading ≡ within limit (read_whole language tokens.now)) }
 {
-    read(alloc, language, Production::Top, tokens)
+    read(alloc, language, Production::Top, tokens, limit)
 }
 
-/// The sequence type that the tokens spell, or none where they spell none.
+/// The sequence type that the tokens spell. No limit of nesting comes near it.
 #[tactic(auto, using(crate::proofs::ClimbLemmas::answers))]
 pub fn parse_type(
     alloc: Global,
     language: Language,
     tokens: &[Token],
-) -> Result<Option<Raw>, AllocError>
-    ensures spelled { IfOk result (λ v. ParsedType language tokens.now v) }
-    ensures value { IfOk result (λ v. v ≡ read_type language tokens.now) }
+    limit: u16,
+) -> Result<Reading, AllocError>
+    ensures spelled { IfOk result (λ reading. ParsedType language tokens.now limit reading) }
+    ensures value { IfOk result (λ reading. reading ≡ within limit (read_type language tokens.now)) }
 {
-    read(alloc, language, Production::TypeTop, tokens)
+    read(alloc, language, Production::TypeTop, tokens, limit)
 }

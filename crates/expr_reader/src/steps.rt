@@ -1,12 +1,15 @@
 // Leading a token into the open productions, and closing what it does not go on with.
-ghost use Rattle.std.specs.Prelude.{◌≡◌, drop, IfOk};
+ghost use Rattle.std.specs.Prelude.{◌≡◌, ◌+◌, ◌<◌, drop, IfOk};
 ghost use Rattle.expr_terms.specs.Productions.{body};
-ghost use Rattle.expr_grammar.specs.Machine.{along, advance, skips, finish};
-ghost use Rattle.expr_reader.specs.View.{frames_of, Went, Stepped};
+ghost use Rattle.expr_grammar.specs.Machine.{doing, along, skips};
+ghost use Rattle.expr_reader.specs.View.{frame_of, frames_of, Went};
+ghost use Rattle.expr_reader.specs.Answers.{Advanced, Judged, Finished};
 
-use crate::frames::{Frame, give, symbol, take_token};
+use crate::frames::{Frame, Value};
 use crate::fronts::try_below;
-use expr_terms::{Language, Production, Raw, Second, Symbol, Token, begins, build, fits};
+use crate::parts::{Gift, closed, give, symbol, with_token};
+use crate::readings::Reading;
+use expr_terms::{Language, Production, Raw, Second, Symbol, Token, begins, fits};
 use std::alloc::{AllocError, Global};
 
 /// How far a token leads into what is wanted.
@@ -15,6 +18,28 @@ pub enum Way {
     Stuck,
     Moved,
     Through(Frame),
+}
+
+/// The frame behind the part that it wants next.
+fn past(frame: Frame) -> Frame
+    requires small { frame.place < 18446744073709551615 }
+    ensures frame { frame_of result ≡ doing frame.production frame.kids.items (drop (frame.place + 1) (body frame.production)) }
+    ensures production { result.production ≡ frame.production }
+    ensures place { result.place ≡ frame.place + 1 }
+    ensures kids { result.kids.items ≡ frame.kids.items }
+{
+    let Frame {
+        production,
+        place,
+        kids,
+        nest,
+    } = frame;
+    Frame {
+        production,
+        place: place + 1,
+        kids,
+        nest,
+    }
 }
 
 /// Leads the token into what the frame still wants.
@@ -30,75 +55,41 @@ fn along(
 ) -> Result<Way, AllocError>
     ensures { IfOk result (λ way. Went way (along language token.now second frame.production frame.kids.items (frames_of frames.old.items) (drop frame.place (body frame.production))) frame frames.old.items frames.new.items) }
 {
-    let Frame {
-        production,
-        place,
-        kids,
-    } = frame;
-    match symbol(production, place) {
-        None => Ok(Way::Through(Frame {
-            production,
-            place,
-            kids,
-        })),
+    match symbol(frame.production, frame.place) {
+        None => Ok(Way::Through(frame)),
         Some(Symbol::Tok(class)) => {
             if !fits(class, token) {
+                drop(frame);
                 return Ok(Way::Stuck);
             }
-            take_token(frames, production, place + 1, kids, class, token)?;
+            frames.push(with_token(frame, class, token)?)?;
             Ok(Way::Moved)
         }
         Some(Symbol::One(inner)) => {
-            let frame = Frame {
-                production,
-                place: place + 1,
-                kids,
-            };
+            let frame = past(frame);
             match try_below(alloc, frames, frame, language, inner, token, second)? {
                 None => Ok(Way::Moved),
                 Some(_) => Ok(Way::Stuck),
             }
         }
         Some(Symbol::Maybe(inner)) => {
-            let frame = Frame {
-                production,
-                place: place + 1,
-                kids,
-            };
+            let frame = past(frame);
             match try_below(alloc, frames, frame, language, inner, token, second)? {
                 None => Ok(Way::Moved),
                 Some(frame) => along(alloc, frames, frame, language, token, second),
             }
         }
         Some(Symbol::Many(inner)) => {
-            let frame = Frame {
-                production,
-                place,
-                kids,
-            };
             match try_below(alloc, frames, frame, language, inner, token, second)? {
                 None => Ok(Way::Moved),
                 Some(frame) => {
-                    let Frame {
-                        production,
-                        place: _,
-                        kids,
-                    } = frame;
-                    let frame = Frame {
-                        production,
-                        place: place + 1,
-                        kids,
-                    };
+                    let frame = past(frame);
                     along(alloc, frames, frame, language, token, second)
                 }
             }
         }
         Some(Symbol::Longest(inner)) => {
-            let frame = Frame {
-                production,
-                place: place + 1,
-                kids,
-            };
+            let frame = past(frame);
             if begins(inner, token) {
                 match try_below(alloc, frames, frame, language, inner, token, second)? {
                     None => Ok(Way::Moved),
@@ -116,25 +107,24 @@ fn along(
 pub fn advance(
     alloc: Global,
     frames: &mut Vec<Frame>,
+    is_deep: &mut bool,
+    limit: u16,
     language: Language,
     token: &Token,
     second: Second,
 ) -> Result<bool, AllocError>
-    ensures { IfOk result (λ went. Stepped went (advance language token.now second (frames_of frames.old.items)) frames.new.items) }
+    ensures { IfOk result (λ went. Advanced went limit is_deep.old is_deep.new language token.now second (frames_of frames.old.items) (frames_of frames.new.items)) }
 {
     while let Some(frame) = frames.pop() {
         match along(alloc, frames, frame, language, token, second)? {
             Way::Stuck => return Ok(false),
             Way::Moved => return Ok(true),
             Way::Through(done) => {
-                let Frame {
-                    production,
-                    place: _,
-                    kids,
-                } = done;
-                let value = build(production, kids)?;
-                if !give(frames, value)? {
-                    return Ok(false);
+                let value = closed(done)?;
+                match give(frames, value, limit, *is_deep)? {
+                    Gift::Refused => return Ok(false),
+                    Gift::Kept => {}
+                    Gift::Dropped => *is_deep = true,
                 }
             }
         }
@@ -156,28 +146,40 @@ fn skips(production: Production, place: usize) -> bool
     }
 }
 
-/// The value at the end of the tokens.
+/// The value, unless it nests too deep or a part of it was dropped.
+fn judged(value: Value, limit: u16, is_deep: bool) -> Reading
+    ensures { Judged result value.raw limit is_deep }
+{
+    let Value { raw, levels } = value;
+    if is_deep || levels > u32::from(limit) {
+        drop(raw);
+        Reading::TooDeep
+    } else {
+        Reading::Value(raw)
+    }
+}
+
+/// What has been read at the end of the tokens.
 #[tactic(auto, using(crate::proofs::ClimbLemmas::finishing))]
-pub fn finish(frames: Vec<Frame>) -> Result<Option<Raw>, AllocError>
-    ensures { IfOk result (λ v. v ≡ finish (frames_of frames.items)) }
+pub fn finish(frames: Vec<Frame>, limit: u16, is_deep: bool) -> Result<Reading, AllocError>
+    ensures { IfOk result (λ reading. Finished reading limit is_deep (frames_of frames.items)) }
 {
     let mut frames = frames;
+    let mut deep = is_deep;
     while let Some(frame) = frames.pop() {
-        let Frame {
-            production,
-            place,
-            kids,
-        } = frame;
-        if !skips(production, place) {
-            return Ok(None);
+        if !skips(frame.production, frame.place) {
+            drop(frame);
+            return Ok(Reading::Nothing);
         }
-        let value = build(production, kids)?;
+        let value = closed(frame)?;
         if frames.is_empty() {
-            return Ok(Some(value));
+            return Ok(judged(value, limit, deep));
         }
-        if !give(&mut frames, value)? {
-            return Ok(None);
+        match give(&mut frames, value, limit, deep)? {
+            Gift::Refused => return Ok(Reading::Nothing),
+            Gift::Kept => {}
+            Gift::Dropped => deep = true,
         }
     }
-    Ok(None)
+    Ok(Reading::Nothing)
 }

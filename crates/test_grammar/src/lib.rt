@@ -10,6 +10,8 @@ mod expressions;
 #[cfg(test)]
 mod large;
 #[cfg(test)]
+mod limits;
+#[cfg(test)]
 mod queries;
 #[cfg(test)]
 mod refusals;

@@ -1,6 +1,6 @@
 // A raw value as a text: a node is its name and its parts in parentheses.
 use crate::words::tokens_of;
-use expr_reader::{parse, parse_type};
+use expr_reader::{Reading, parse, parse_type};
 use expr_terms::{Language, Level, Production, Raw, Token, key_text};
 use std::alloc::AllocGlobal;
 use std::process::Abort;
@@ -139,11 +139,12 @@ fn show(rt: &(impl Abort + AllocGlobal), out: &mut String, raw: &Raw, depth: u8)
     }
 }
 
-fn shown(rt: &(impl Abort + AllocGlobal), value: Option<Raw>) -> String {
+fn shown(rt: &(impl Abort + AllocGlobal), reading: Reading) -> String {
     let mut out = String::new(rt.alloc());
-    match value {
-        None => put(rt, &mut out, "none"),
-        Some(raw) => {
+    match reading {
+        Reading::Nothing => put(rt, &mut out, "none"),
+        Reading::TooDeep => put(rt, &mut out, "deep"),
+        Reading::Value(raw) => {
             show(rt, &mut out, &raw, 100);
             drop(raw);
         }
@@ -151,17 +152,28 @@ fn shown(rt: &(impl Abort + AllocGlobal), value: Option<Raw>) -> String {
     out
 }
 
-// What the words are read as, or `none`.
-pub(crate) fn read(rt: &(impl Abort + AllocGlobal), language: Language, words: &str) -> String {
+// What the words are read as within the limit of nesting, or `none`, or `deep`.
+pub(crate) fn read_within(
+    rt: &(impl Abort + AllocGlobal),
+    language: Language,
+    words: &str,
+    limit: u16,
+) -> String {
     let tokens = tokens_of(rt, words);
-    let value = parse(rt.alloc(), language, tokens.as_slice()).expect(rt, "memory");
+    let reading = parse(rt.alloc(), language, tokens.as_slice(), limit).expect(rt, "memory");
     drop(tokens);
-    shown(rt, value)
+    shown(rt, reading)
+}
+
+pub(crate) fn read(rt: &(impl Abort + AllocGlobal), language: Language, words: &str) -> String {
+    read_within(rt, language, words, 400)
 }
 
 pub(crate) fn read_type(rt: &(impl Abort + AllocGlobal), words: &str) -> String {
     let tokens = tokens_of(rt, words);
-    let value = parse_type(rt.alloc(), Language::Xquery, tokens.as_slice()).expect(rt, "memory");
+    let reading = parse_type(rt.alloc(), Language::Xquery, tokens.as_slice(), 400).expect(
+        rt, "memory",
+    );
     drop(tokens);
-    shown(rt, value)
+    shown(rt, reading)
 }

@@ -1,6 +1,6 @@
-use Rattle.std.proofs.Common.{rules, ◌≡◌, ◌++◌, [], ◌∷◌, drop, Some, None, arith, ℕ, List, sym, ◌∙◌}
+use Rattle.std.proofs.Common.{◌≡◌, ◌++◌, [], ◌∷◌, sym, ◌∙◌}
 use Rattle.std.proofs.lemmas.List.{same_from_push}
-use Rattle.expr_reader.proofs.ViewLemmas.{views, frames_of-append}
+use Rattle.expr_reader.proofs.ViewLemmas.{frames_of-append}
 use Rattle.expr_reader.proofs.fronts.try_below.Goals as goal
 
 pub returns-in-Some : goal.returns-in-Some

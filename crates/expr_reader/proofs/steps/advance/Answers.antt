@@ -1,0 +1,35 @@
+use Rattle.std.proofs.Common.{◌≡◌, ◌∙◌, ◌∷◌, ap, sym}
+use Rattle.expr_reader.specs.View.{frame_of, frames_of}
+use Rattle.expr_reader.proofs.ViewLemmas.{frames_of-append}
+use Rattle.expr_reader.proofs.ClimbLemmas.{going_at, going_stuck, going_moved, going_kept, going_dropped}
+use Rattle.expr_reader.proofs.steps.advance.Goals as goal
+
+pub returns-in-Stuck : goal.returns-in-Stuck
+returns-in-Stuck c =
+    let e : frames_of c.loop-frame.frames.items ≡ frame_of c.in-Some.frame ∷ frames_of c.pop.new.self.items = ap frames_of c.in-Some.ensures.items ∙ frames_of-append c.pop.new.self.items c.in-Some.frame in
+    let g = going_at _ _ _ _ _ _ _ _ _ c.loop-frame.invariant e in
+    going_stuck _ _ _ _ _ _ _ _ _ _ _ _ g (rw c.in-Stuck.is at c.in_ok-along.ensures)
+
+pub returns-in-Moved : goal.returns-in-Moved
+returns-in-Moved c =
+    let e : frames_of c.loop-frame.frames.items ≡ frame_of c.in-Some.frame ∷ frames_of c.pop.new.self.items = ap frames_of c.in-Some.ensures.items ∙ frames_of-append c.pop.new.self.items c.in-Some.frame in
+    let g = going_at _ _ _ _ _ _ _ _ _ c.loop-frame.invariant e in
+    going_moved _ _ _ _ _ _ _ _ _ _ _ _ g (rw c.in-Moved.is at c.in_ok-along.ensures)
+
+pub loop-frame-preserved-in-Kept : goal.loop-frame-preserved-in-Kept
+loop-frame-preserved-in-Kept c =
+    let e : frames_of c.loop-frame.frames.items ≡ frame_of c.in-Some.frame ∷ frames_of c.pop.new.self.items = ap frames_of c.in-Some.ensures.items ∙ frames_of-append c.pop.new.self.items c.in-Some.frame in
+    let g = going_at _ _ _ _ _ _ _ _ _ c.loop-frame.invariant e in
+    let w = rw c.in-Through.is at c.in_ok-along.ensures in
+    let q = rw (w.1, w.2) at c.in_ok-value-in-Through.ensures in
+    let h = rw c.in-Kept.is at c.in_ok-give-in-Through.ensures in
+    going_at _ _ _ _ _ _ _ _ _ (going_kept _ _ _ _ _ _ _ _ _ _ _ g w.0) (sym (rw (q, w.3) at h.0))
+
+pub loop-frame-preserved : goal.loop-frame-preserved
+loop-frame-preserved c =
+    let e : frames_of c.loop-frame.frames.items ≡ frame_of c.in-Some.frame ∷ frames_of c.pop.new.self.items = ap frames_of c.in-Some.ensures.items ∙ frames_of-append c.pop.new.self.items c.in-Some.frame in
+    let g = going_at _ _ _ _ _ _ _ _ _ c.loop-frame.invariant e in
+    let w = rw c.in-Through.is at c.in_ok-along.ensures in
+    let q = rw (w.1, w.2) at c.in_ok-value-in-Through.ensures in
+    let h = rw c.in-Dropped.is at c.in_ok-give-in-Through.ensures in
+    going_at _ _ _ _ _ _ _ _ _ (going_dropped _ _ _ _ _ _ _ _ _ _ _ g w.0 (rw (q, w.3) at h.4)) (sym (rw w.3 at h.0))

@@ -1,0 +1,28 @@
+-- The productions that are open, without what they have.
+use Rattle.std.specs.Prelude.{ℕ, ◌<◌, List, [], ◌∷◌, Option, Some, None}
+use Rattle.expr_terms.specs.declared.tokens.Token.{Token}
+use Rattle.expr_terms.specs.declared.raws.Raw.{Raw}
+use Rattle.expr_terms.specs.declared.choices.Second.{Second}
+use Rattle.expr_terms.specs.declared.productions.Language.{Language}
+use Rattle.expr_terms.specs.Nest.{raw_nest_of}
+use Rattle.expr_grammar.specs.Machine.{Frame, doing, run}
+use Rattle.expr_terms.specs.Choices.{second_of}
+use Rattle.expr_nest.specs.Held.{held}
+use Rattle.std.specs.Prelude.{◌≡◌}
+
+abbrev pub outline : List Frame → List Frame
+outline [] = []
+outline (doing p vs ss ∷ fs) = doing p [] ss ∷ outline fs
+
+abbrev pub outlines : Option (List Frame) → Option (List Frame)
+outlines None = None
+outlines (Some fs) = Some (outline fs)
+
+-- how deep the parts nest that the topmost production has
+abbrev pub topmost_held : List Frame → ℕ
+topmost_held [] = 0
+topmost_held (doing p vs ss ∷ fs) = held p vs
+
+-- whatever is read from here on nests deeper than the limit
+abbrev pub Sinks : ℕ → Language → Token → Second → List Frame → Type 0
+Sinks k l t s fs = (ts : List Token) (w : Raw) → second_of ts ≡ s → run l (t ∷ ts) fs ≡ Some w → k < raw_nest_of w

@@ -1,0 +1,181 @@
+// Taking tokens and values into the productions that are open.
+ghost use Rattle.std.specs.Prelude.{◌≡◌, ◌++◌, ◌+◌, [], ◌∷◌, drop, ◌<◌, ◌≤◌, IfOk, IfSome, OnOk, false};
+ghost use Rattle.expr_terms.specs.Productions.{body};
+ghost use Rattle.expr_reader.specs.Terms.{tok};
+ghost use Rattle.expr_terms.specs.Raws.{keep, build};
+ghost use Rattle.expr_grammar.specs.Machine.{start, doing};
+ghost use Rattle.expr_reader.specs.View.{frame_of, frames_of, Wanted, Given, Taken};
+
+use crate::counts::{before_parts, built_nest, with_part};
+use crate::frames::{Frame, Value};
+use expr_terms::{Class, Production, Raw, Symbol, Token, body, build, keeps};
+use std::alloc::{AllocError, Global};
+
+/// What became of a value.
+#[derive(Clone, Copy)]
+pub enum Gift {
+    /// No production is open that could take it.
+    Refused,
+    /// It stands behind the others.
+    Kept,
+    /// It was dropped, since with it the production nests too deep.
+    Dropped,
+}
+
+/// What a production wants at the place.
+#[tactic(auto, using(crate::proofs::PartLemmas::parts))]
+pub fn symbol(production: Production, place: usize) -> Option<Symbol>
+    ensures wanted { Wanted result (drop place (body production)) (drop (place + 1) (body production)) }
+    ensures small { IfSome result (λ s. place < 18446744073709551615) }
+{
+    let parts = body(production);
+    if place < parts.len() {
+        Some(parts[place])
+    } else {
+        None
+    }
+}
+
+/// A production of which nothing is read yet.
+pub fn opened(alloc: Global, production: Production, place: usize) -> Frame
+    ensures frame { frame_of result ≡ doing production [] (drop place (body production)) }
+    ensures production { result.production ≡ production }
+    ensures place { result.place ≡ place }
+    ensures kids { result.kids.items ≡ [] }
+{
+    Frame {
+        production,
+        place,
+        kids: Vec::new(alloc),
+        nest: before_parts(production),
+    }
+}
+
+/// Puts the token to the others, where it tells more than its production.
+#[tactic(auto, using(crate::proofs::ViewLemmas::views))]
+fn keep(kids: &mut Vec<Raw>, class: Class, token: &Token) -> Result<(), AllocError>
+    ensures { OnOk result (kids.new.items ≡ kids.old.items ++ keep class token.now []) }
+{
+    if keeps(class) {
+        kids.push(Raw::Leaf(token.copy()?))?;
+    }
+    Ok(())
+}
+
+/// Takes a token that is wanted. It adds no level.
+#[tactic(auto, using(crate::proofs::ViewLemmas::views, crate::proofs::CountLemmas::leaves))]
+pub fn with_token(frame: Frame, class: Class, token: &Token) -> Result<Frame, AllocError>
+    requires wanted { drop frame.place (body frame.production) ≡ tok class ∷ drop (frame.place + 1) (body frame.production) }
+    requires small { frame.place < 18446744073709551615 }
+    ensures { IfOk result (λ more. frame_of more ≡ doing frame.production (frame.kids.items ++ keep class token.now []) (drop (frame.place + 1) (body frame.production))) }
+{
+    let Frame {
+        production,
+        place,
+        kids,
+        nest,
+    } = frame;
+    let mut kids = kids;
+    keep(&mut kids, class, token)?;
+    Ok(Frame {
+        production,
+        place: place + 1,
+        kids,
+        nest,
+    })
+}
+
+/// The value of a production that wants nothing more.
+#[tactic(auto, using(crate::proofs::CountLemmas::closes))]
+pub fn closed(frame: Frame) -> Result<Value, AllocError>
+    ensures { IfOk result (λ value. value.raw ≡ build frame.production frame.kids.items) }
+{
+    let Frame {
+        production,
+        place: _,
+        kids,
+        nest,
+    } = frame;
+    let levels = built_nest(production, nest, kids.as_slice());
+    let raw = build(production, kids)?;
+    Ok(Value { raw, levels })
+}
+
+/// Whether the production nests deeper than the limit with the value.
+#[tactic(auto, using(crate::proofs::CountLemmas::parts))]
+fn with_value(frame: Frame, value: Value, limit: u16) -> Result<(Frame, Gift), AllocError>
+    ensures { IfOk result (λ more. Taken more frame value.raw limit) }
+{
+    let Frame {
+        production,
+        place,
+        kids,
+        nest,
+    } = frame;
+    let Value { raw, levels } = value;
+    let more = with_part(production, nest, &raw, levels);
+    if more > u32::from(limit) {
+        drop(raw);
+        return Ok((
+            Frame {
+                production,
+                place,
+                kids,
+                nest,
+            },
+            Gift::Dropped,
+        ));
+    }
+    let mut kids = kids;
+    kids.push(raw)?;
+    Ok((
+        Frame {
+            production,
+            place,
+            kids,
+            nest: more,
+        },
+        Gift::Kept,
+    ))
+}
+
+/// Gives the value to the topmost production, unless it nests too deep with it or a value was dropped before.
+#[tactic(auto, using(crate::proofs::ViewLemmas::views))]
+pub fn give(
+    frames: &mut Vec<Frame>,
+    value: Value,
+    limit: u16,
+    is_deep: bool,
+) -> Result<Gift, AllocError>
+    ensures { IfOk result (λ gift. Given gift value.raw limit is_deep (frames_of frames.old.items) (frames_of frames.new.items) frames.old.items frames.new.items) }
+{
+    if is_deep {
+        drop(value);
+        return if frames.is_empty() {
+            Ok(Gift::Refused)
+        } else {
+            Ok(Gift::Dropped)
+        };
+    }
+    match frames.pop() {
+        None => {
+            drop(value);
+            Ok(Gift::Refused)
+        }
+        Some(frame) => {
+            let (frame, gift) = with_value(frame, value, limit)?;
+            frames.push(frame)?;
+            Ok(gift)
+        }
+    }
+}
+
+/// Nothing but the production is open.
+#[tactic(auto, using(crate::proofs::ViewLemmas::views))]
+pub fn start(alloc: Global, production: Production) -> Result<Vec<Frame>, AllocError>
+    ensures { IfOk result (λ frames. frames_of frames.items ≡ start production) }
+{
+    let mut frames = Vec::new(alloc);
+    frames.push(opened(alloc, production, 0))?;
+    Ok(frames)
+}
