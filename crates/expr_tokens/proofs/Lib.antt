@@ -1,0 +1,4 @@
+pub mod KeyLemmas
+pub mod NumberLemmas
+pub mod QuoteLemmas
+pub mod TermLemmas
