@@ -1,4 +1,5 @@
--- The names of nodes (XQuery 1.0 and XPath 2.0 Functions and Operators, 2.1 and 14.1 to 14.3; XDM, 5.11).
+-- The names of nodes (XQuery 1.0 and XPath 2.0 Functions and Operators, 2.1 and 14.1 to 14.3;
+-- XDM, 5.11).
 use Rattle.std.specs.Prelude.{ℕ, List, [], ◌∷◌, Option, Some, None, option_and_then, Result, Ok}
 use Rattle.xt_names.specs.declared.codes.Code.{Code}
 use Rattle.xt_names.specs.declared.names.Name.{Name}
@@ -26,11 +27,13 @@ name_or_target None None = None
 
 -- the name of a node: elements, attributes and processing instructions have one
 unfoldable pub place_name : Place → Option Name
-place_name n = name_or_target (option_and_then name_of_tree (subtree_of n)) (option_and_then target_of (subtree_of n))
+place_name n =
+    name_or_target (option_and_then name_of_tree (subtree_of n)) (option_and_then target_of (subtree_of n))
 
 -- the name of the node that the argument is, if there is one
 unfoldable pub argument_name : List Item → Result (Option Name) Code
-argument_name argument = and_then (optional_node_argument argument) (λ n. Ok (option_and_then place_name n))
+argument_name argument =
+    and_then (optional_node_argument argument) (λ n. Ok (option_and_then place_name n))
 
 -- `prefix:local`, or `local` where there is no prefix
 abbrev pub lexical : Option Name → List ℕ

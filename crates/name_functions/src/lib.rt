@@ -1,10 +1,13 @@
-//! Functions on the names of nodes and on QNames (XQuery 1.0 and XPath 2.0 Functions and Operators, 2.1, 11 and 14).
+//! Functions on the names of nodes and on QNames (XQuery 1.0 and XPath 2.0 Functions and
+//! Operators, 2.1, 11 and 14).
 //!
-//! Each call takes the arguments of a function as lists of items, converts them in turn to the types of the parameters and
-//! answers exactly what its definition in `specs/` says: the value, or the code of the first error. Only want of memory is
-//! left open. The target of a processing instruction is its local name, and uris are given as texts.
+//! Each call takes the arguments of a function as lists of items, converts them in turn to the
+//! types of the parameters and answers exactly what its definition in `specs/` says: the value,
+//! or the code of the first error. Only want of memory is left open. The target of a processing
+//! instruction is its local name, and uris are given as texts.
 //!
-//! Example: `name` of the element `<p:a xmlns:p="urn:p"/>` is `"p:a"`, and `qname` of `"urn:p"` and `"p:a"` is its name.
+//! Example: `name` of the element `<p:a xmlns:p="urn:p"/>` is `"p:a"`, and `qname` of `"urn:p"`
+//! and `"p:a"` is its name.
 #![tactic(auto)]
 
 mod names;

@@ -10,8 +10,9 @@ use xt_atoms::{Atom, ValueFault, to_text};
 use xt_names::{Name, Text, TextBuilder};
 use xt_tree::Node;
 
-/// The name of the node as a text, its prefix included, and the empty text where there is no node or it has no name (`fn:name`,
-/// Functions and Operators, 14.1); XPTY0004 where the argument is not at most one node.
+/// The name of the node as a text, its prefix included, and the empty text where there is no node
+/// or it has no name (`fn:name`, Functions and Operators, 14.1); XPTY0004 where the argument is
+/// not at most one node.
 #[tactic(auto, unfolding(crate::specs::NodeNames::name_of))]
 pub fn name(alloc: Global, argument: &ItemList) -> Result<ItemList, ValueFault>
     ensures { Answers (name_of argument.now) result }
@@ -20,8 +21,9 @@ pub fn name(alloc: Global, argument: &ItemList) -> Result<ItemList, ValueFault>
     Ok(text_list(alloc, lexical(alloc, found)?)?)
 }
 
-/// The local part of the name of the node, and the empty text where there is no node or it has no name (`fn:local-name`,
-/// Functions and Operators, 14.2); XPTY0004 where the argument is not at most one node.
+/// The local part of the name of the node, and the empty text where there is no node or it has no
+/// name (`fn:local-name`, Functions and Operators, 14.2); XPTY0004 where the argument is not at
+/// most one node.
 #[tactic(auto, unfolding(crate::specs::NodeNames::local_name_of))]
 pub fn local_name(alloc: Global, argument: &ItemList) -> Result<ItemList, ValueFault>
     ensures { Answers (local_name_of argument.now) result }
@@ -30,8 +32,9 @@ pub fn local_name(alloc: Global, argument: &ItemList) -> Result<ItemList, ValueF
     Ok(text_list(alloc, local_text(alloc, found)?)?)
 }
 
-/// The uri of the name of the node, and the empty text where there is no node or its name has no uri (`fn:namespace-uri`,
-/// Functions and Operators, 14.3); XPTY0004 where the argument is not at most one node.
+/// The uri of the name of the node, and the empty text where there is no node or its name has no
+/// uri (`fn:namespace-uri`, Functions and Operators, 14.3); XPTY0004 where the argument is not at
+/// most one node.
 #[tactic(auto, unfolding(crate::specs::NodeNames::namespace_uri_of))]
 pub fn namespace_uri(alloc: Global, argument: &ItemList) -> Result<ItemList, ValueFault>
     ensures { Answers (namespace_uri_of argument.now) result }
@@ -40,8 +43,9 @@ pub fn namespace_uri(alloc: Global, argument: &ItemList) -> Result<ItemList, Val
     Ok(text_list(alloc, uri_text(alloc, found)?)?)
 }
 
-/// The name of the node as a QName, and nothing where there is no node or it has no name (`fn:node-name`, Functions and
-/// Operators, 2.1); XPTY0004 where the argument is not at most one node.
+/// The name of the node as a QName, and nothing where there is no node or it has no name
+/// (`fn:node-name`, Functions and Operators, 2.1); XPTY0004 where the argument is not at most one
+/// node.
 #[tactic(auto, unfolding(crate::specs::NodeNames::node_name_of))]
 pub fn node_name(alloc: Global, argument: &ItemList) -> Result<ItemList, ValueFault>
     ensures { Answers (node_name_of argument.now) result }

@@ -10,8 +10,8 @@ use xdm_items::ItemList;
 use xt_atoms::ValueFault;
 use xt_names::Name;
 
-/// The prefix of the QName, and nothing where there is none (`fn:prefix-from-QName`, Functions and Operators, 11.2.2);
-/// XPTY0004 where the argument is not at most one QName.
+/// The prefix of the QName, and nothing where there is none (`fn:prefix-from-QName`, Functions
+/// and Operators, 11.2.2); XPTY0004 where the argument is not at most one QName.
 #[tactic(auto, unfolding(crate::specs::QNames::prefix_from_qname_of))]
 pub fn prefix_from_qname(alloc: Global, argument: &ItemList) -> Result<ItemList, ValueFault>
     ensures { Answers (prefix_from_qname_of argument.now) result }
@@ -20,8 +20,8 @@ pub fn prefix_from_qname(alloc: Global, argument: &ItemList) -> Result<ItemList,
     Ok(prefix_list(alloc, name)?)
 }
 
-/// The local part of the QName, and nothing where there is no QName (`fn:local-name-from-QName`, Functions and Operators,
-/// 11.2.3); XPTY0004 where the argument is not at most one QName.
+/// The local part of the QName, and nothing where there is no QName (`fn:local-name-from-QName`,
+/// Functions and Operators, 11.2.3); XPTY0004 where the argument is not at most one QName.
 #[tactic(auto, unfolding(crate::specs::QNames::local_name_from_qname_of))]
 pub fn local_name_from_qname(alloc: Global, argument: &ItemList) -> Result<ItemList, ValueFault>
     ensures { Answers (local_name_from_qname_of argument.now) result }
@@ -30,8 +30,9 @@ pub fn local_name_from_qname(alloc: Global, argument: &ItemList) -> Result<ItemL
     Ok(local_list(alloc, name)?)
 }
 
-/// The uri of the QName, the empty text where it has none, and nothing where there is no QName (`fn:namespace-uri-from-QName`,
-/// Functions and Operators, 11.2.4); XPTY0004 where the argument is not at most one QName.
+/// The uri of the QName, the empty text where it has none, and nothing where there is no QName
+/// (`fn:namespace-uri-from-QName`, Functions and Operators, 11.2.4); XPTY0004 where the argument
+/// is not at most one QName.
 #[tactic(auto, unfolding(crate::specs::QNames::namespace_uri_from_qname_of))]
 pub fn namespace_uri_from_qname(alloc: Global, argument: &ItemList) -> Result<ItemList, ValueFault>
     ensures { Answers (namespace_uri_from_qname_of argument.now) result }

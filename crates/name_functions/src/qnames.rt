@@ -13,8 +13,9 @@ use xt_names::{Code, DynamicCode, Name, is_ncname};
 
 const NO_NAME: ValueFault = ValueFault::Error(Code::Dynamic(DynamicCode::FOCA0002));
 
-/// The QName that the second text spells in the namespace of the first (`fn:QName`, Functions and Operators, 11.1.2);
-/// FOCA0002 where it spells none, or where XML and its namespaces do not allow that name.
+/// The QName that the second text spells in the namespace of the first (`fn:QName`, Functions and
+/// Operators, 11.1.2); FOCA0002 where it spells none, or where XML and its namespaces do not
+/// allow that name.
 #[tactic(auto, unfolding(crate::specs::QNames::qname_of))]
 pub fn qname(alloc: Global, uri: &ItemList, name: &ItemList) -> Result<ItemList, ValueFault>
     ensures { Answers (qname_of uri.now name.now) result }
@@ -34,7 +35,8 @@ fn named(alloc: Global, name: Option<Name>) -> Result<ItemList, ValueFault>
     }
 }
 
-/// The name that the text spells in the namespace: a name without a colon, or two of them with a colon between them.
+/// The name that the text spells in the namespace: a name without a colon, or two of them with a
+/// colon between them.
 #[tactic(auto, using(crate::proofs::QNameLemmas::no_chars, crate::proofs::QNameLemmas::colon_chars), unfolding(crate::specs::QNames::spelled_name))]
 fn spelled_name(alloc: Global, uri: &str, spelled: &str) -> Result<Option<Name>, AllocError>
     ensures { IfOk result (λ name. name ≡ spelled_name (chars uri.now) (chars spelled.now)) }
