@@ -6,8 +6,8 @@ ghost use Rattle.quiet_meaning.specs.Quietly.{quietly_of, holds_at, holds_quietl
 ghost use Rattle.quiet_meaning.specs.Paths.{is_path_form, nodes_of_form};
 ghost use Rattle.quiet_eval.specs.Subjects.{negated_part, path_part, nodes_at, is_junction, decided, focus};
 
-use crate::hits::hits;
 use crate::singles::judge;
+use crate::step_hits::hits;
 use crate::subjects::{negated, path_in};
 use std::alloc::{AllocError, Global};
 use step_walks::in_order;
@@ -188,9 +188,14 @@ fn reached_by_step(
     in_order(kept)
 }
 
-/// Those of the nodes that the predicates keep in turn.
+/// Those of the nodes that the predicates keep in turn, each of which counts positions among those that it gets (XPath 2.0,
+/// 3.2.2).
 #[cycle(holds)]
-fn kept_in_turn(alloc: Global, tests: &[Expr], nodes: Vec<Node>) -> Result<Vec<Node>, AllocError>
+pub fn kept_in_turn(
+    alloc: Global,
+    tests: &[Expr],
+    nodes: Vec<Node>,
+) -> Result<Vec<Node>, AllocError>
     requires { list_all is_pattern_form (map quietly_of tests.now) ≡ true }
     ensures { IfOk result (λ kept. kept.items ≡ kept_by_all (map holds_at (map quietly_of tests.now)) nodes.items) }
 {

@@ -12,12 +12,7 @@ use xt_types::{Axis, Test};
 
 /// The nodes on the axis of the node that pass the test, in the order of the axis.
 #[tactic(auto, unfolding(step_walks::specs::Hits::hits_ahead))]
-pub(crate) fn hits(
-    alloc: Global,
-    axis: Axis,
-    test: &Test,
-    node: &Node,
-) -> Result<Vec<Node>, AllocError>
+pub fn hits(alloc: Global, axis: Axis, test: &Test, node: &Node) -> Result<Vec<Node>, AllocError>
     ensures { IfOk result (λ nodes. nodes.items ≡ filter (passes_at axis test.now) (axis_nodes axis node.now)) }
 {
     let mut cursor = Cursor::new(alloc, node, axis, test.copy()?)?;
