@@ -1,0 +1,6 @@
+mod SubjectLemmas
+mod JudgeLemmas
+mod NameLemmas
+mod CaseLemmas
+mod CycleLemmas
+mod NestLemmas
