@@ -1,0 +1,5 @@
+pub mod Lists
+pub mod Types
+pub mod Operators
+pub mod Bindings
+pub mod Table

@@ -1,0 +1,108 @@
+-- The static rules that a part of a production can break (XPath 2.0, 2.1.1, 2.5 and 3.2.1.1; XQuery 1.0, 3.7.1.1).
+use Rattle.std.specs.Prelude.{ℕ, List, [], ◌∷◌, ◌++◌, Bool, true, false, Option, Some, None, if◌then◌else◌}
+use Rattle.xt_names.specs.declared.names.Binding.{Binding}
+use Rattle.xt_names.specs.declared.names.Name.{Name}
+use Rattle.xt_names.specs.declared.kinds.AtomType.{AtomType}
+use Rattle.xt_names.specs.declared.codes.Code.{Code}
+use Rattle.xt_names.specs.declared.codes.Code.TheVariants.{QueryStatic}
+use Rattle.xt_names.specs.declared.codes.QueryStaticCode.TheVariants.{XPST0010, XPST0017, XQST0040}
+use Rattle.xt_syntax.specs.declared.exprs.Expr.{Expr}
+use Rattle.expr_names.specs.Names.{undeclared_in, test_broken}
+use Rattle.expr_names.specs.Types.{type_named, call_type, known_broken, cast_broken, arity_broken}
+use Rattle.expr_names.specs.Doubles.{names_differ}
+use Rattle.expr_terms.specs.declared.keys.Key.{Key}
+use Rattle.expr_terms.specs.declared.keys.Key.TheVariants.{NamespaceWord as namespace_word}
+use Rattle.expr_terms.specs.declared.productions.Production.{Production}
+use Rattle.expr_terms.specs.declared.productions.Production.TheVariants as production
+use Rattle.expr_terms.specs.declared.productions.Level.{Level}
+use Rattle.expr_terms.specs.declared.productions.Level.TheVariants as level
+use Rattle.expr_meant.specs.declared.meant.Meant.{Meant}
+use Rattle.expr_meant.specs.declared.meant.Meant.TheVariants as meant
+use Rattle.expr_meant.specs.Parts.{key_of}
+use Rattle.expr_meant.specs.Names.{written_of, written_test_in}
+use Rattle.expr_rules.specs.Known.{name_of, named_type}
+
+-- a prefix is declared
+abbrev pub undeclared_of : List Binding → Meant → List Code
+undeclared_of bound m = undeclared_in bound (written_of m)
+
+-- .. that of a name test too
+unfoldable pub test_broken_of : List Binding → Meant → List Code
+test_broken_of bound (meant.Token t) = test_broken bound (written_test_in t)
+test_broken_of bound _ = []
+
+-- an atomic type is known
+unfoldable pub type_broken_of : List Binding → Meant → List Code
+type_broken_of bound (meant.Token t) = undeclared_of bound (meant.Token t) ++ known_broken (named_type bound (meant.Token t))
+type_broken_of bound _ = []
+
+-- .. and one that a cast is to
+unfoldable pub cast_broken_of : List Binding → Meant → List Code
+cast_broken_of bound (meant.Token t) = undeclared_of bound (meant.Token t) ++ cast_broken (named_type bound (meant.Token t))
+cast_broken_of bound _ = []
+
+-- the namespace axis is left out
+unfoldable pub axis_key_broken : Key → List Code
+axis_key_broken namespace_word = QueryStatic XPST0010 ∷ []
+axis_key_broken _ = []
+
+abbrev pub axis_broken : Meant → List Code
+axis_broken m = axis_key_broken (key_of m)
+
+unfoldable pub operated_broken : Level → List Binding → Meant → List Code
+operated_broken level.Instances bound m = type_broken_of bound m
+operated_broken level.Treats bound m = type_broken_of bound m
+operated_broken _ bound m = []
+
+-- the rules that a part breaks where it stands in the production; it is the first one, or a later one
+unfoldable pub own_broken : List Binding → Production → Bool → Meant → List Code
+own_broken bound production.AxisStep first m = if first then axis_broken m else test_broken_of bound m
+own_broken bound production.AttributeStep first m = test_broken_of bound m
+own_broken bound production.TestStep first m = test_broken_of bound m
+own_broken bound production.NamedKind first m = test_broken_of bound m
+own_broken bound production.Variable first m = undeclared_of bound m
+own_broken bound production.Call first m = undeclared_of bound m
+own_broken bound production.Bind first m = undeclared_of bound m
+own_broken bound production.LetBind first m = undeclared_of bound m
+own_broken bound production.QuantBind first m = undeclared_of bound m
+own_broken bound production.Placed first m = undeclared_of bound m
+own_broken bound production.Constructed first m = undeclared_of bound m
+own_broken bound production.Element first m = undeclared_of bound m
+own_broken bound production.Child first m = undeclared_of bound m
+own_broken bound production.Paired first m = undeclared_of bound m
+own_broken bound production.Typed first m = type_broken_of bound m
+own_broken bound production.ItemsType first m = if first then type_broken_of bound m else []
+own_broken bound production.OneType first m = cast_broken_of bound m
+own_broken bound (production.Operated l) first m = operated_broken l bound m
+own_broken bound _ first m = []
+
+-- the arguments of a call
+unfoldable pub args_in : Meant → List Expr
+args_in (meant.Arguments args) = args
+args_in _ = []
+
+abbrev pub args_of : List Meant → List Expr
+args_of [] = []
+args_of (m ∷ ms) = args_in m
+
+-- a call of the name of an atomic type has one argument
+abbrev pub call_broken : List Binding → List ℕ → List Meant → List Code
+call_broken bound functions [] = []
+call_broken bound functions (m ∷ ms) = arity_broken (call_type (type_named (name_of bound functions m))) (args_of ms)
+
+-- .. which is tested once all parts are there
+unfoldable pub end_broken : List Binding → List ℕ → Production → List Meant → List Code
+end_broken bound functions production.Call ms = call_broken bound functions ms
+end_broken bound functions _ ms = []
+
+abbrev pub name_and : Meant → List Name → List Name
+name_and (meant.Attribute a) ns = a.name ∷ ns
+name_and _ ns = ns
+
+abbrev pub attr_names : List Meant → List Name
+attr_names [] = []
+attr_names (m ∷ ms) = name_and m (attr_names ms)
+
+-- no two attributes have one name
+abbrev pub doubles_broken : List Meant → List Code
+doubles_broken ms = if names_differ (attr_names ms) then [] else QueryStatic XQST0040 ∷ []

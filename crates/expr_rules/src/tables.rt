@@ -1,0 +1,74 @@
+// Which rules a part has to keep where it stands.
+ghost use Rattle.std.specs.Prelude.{◌≡◌, []};
+ghost use Rattle.expr_names.specs.Answers.{Answers};
+ghost use Rattle.expr_rules.specs.Rules.{operated_broken, own_broken};
+
+use crate::rules::{axis_rule, cast_rule, name_rule, test_rule, type_rule};
+use expr_meant::Meant;
+use expr_names::ResolveFault;
+use expr_terms::{Level, Production};
+use std::alloc::Global;
+use xt_names::Binding;
+
+#[tactic(auto, unfolding(crate::specs::Rules::operated_broken))]
+fn operated_rule(
+    level: Level,
+    alloc: Global,
+    bound: &[Binding],
+    part: &Meant,
+) -> Result<(), ResolveFault>
+    ensures { Answers result (operated_broken level bound.now part.now) tt }
+{
+    match level {
+        Level::Instances => type_rule(alloc, bound, part),
+        Level::Treats => type_rule(alloc, bound, part),
+        _ => Ok(()),
+    }
+}
+
+/// The first rule that the part breaks where it stands in the production: XPST0010, XPST0051,
+/// XPST0080 or XPST0081. It is the first part, or a later one.
+#[tactic(auto, unfolding(crate::specs::Rules::own_broken))]
+pub fn own_rule(
+    alloc: Global,
+    bound: &[Binding],
+    production: Production,
+    first: bool,
+    part: &Meant,
+) -> Result<(), ResolveFault>
+    ensures { Answers result (own_broken bound.now production first part.now) tt }
+{
+    match production {
+        Production::AxisStep => {
+            if first {
+                axis_rule(part)
+            } else {
+                test_rule(alloc, bound, part)
+            }
+        }
+        Production::AttributeStep => test_rule(alloc, bound, part),
+        Production::TestStep => test_rule(alloc, bound, part),
+        Production::NamedKind => test_rule(alloc, bound, part),
+        Production::Variable => name_rule(alloc, bound, part),
+        Production::Call => name_rule(alloc, bound, part),
+        Production::Bind => name_rule(alloc, bound, part),
+        Production::LetBind => name_rule(alloc, bound, part),
+        Production::QuantBind => name_rule(alloc, bound, part),
+        Production::Placed => name_rule(alloc, bound, part),
+        Production::Constructed => name_rule(alloc, bound, part),
+        Production::Element => name_rule(alloc, bound, part),
+        Production::Child => name_rule(alloc, bound, part),
+        Production::Paired => name_rule(alloc, bound, part),
+        Production::Typed => type_rule(alloc, bound, part),
+        Production::ItemsType => {
+            if first {
+                type_rule(alloc, bound, part)
+            } else {
+                Ok(())
+            }
+        }
+        Production::OneType => cast_rule(alloc, bound, part),
+        Production::Operated(level) => operated_rule(level, alloc, bound, part),
+        _ => Ok(()),
+    }
+}
