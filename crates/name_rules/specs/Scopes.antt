@@ -1,5 +1,5 @@
 -- Names of variables and functions that are in scope.
-use Rattle.std.specs.Prelude.{ℕ, List, [], ◌∷◌, ◌++◌, Bool, ◌&&◌, ◌||◌, ◌==◌, if◌then◌else◌}
+use Rattle.std.specs.Prelude.{ℕ, List, [], ◌∷◌, ◌++◌, Bool, true, not, ◌&&◌, ◌||◌, ◌==◌, if◌then◌else◌}
 use Rattle.std.specs.List.{list_any}
 use Rattle.std.specs.Str.{bytes_eq}
 use Rattle.function_table.specs.Find.{is_known}
@@ -19,6 +19,15 @@ with_name names name = if has_name names name then names else names ++ name ∷ 
 abbrev pub with_names : List ExprName → List ExprName → List ExprName
 with_names names [] = names
 with_names names (n ∷ ns) = with_names (with_name names n) ns
+
+-- none of the names is in the list or stands before
+abbrev pub are_new : List ExprName → List ExprName → Bool
+are_new names [] = true
+are_new names (n ∷ ns) = not (has_name names n) && are_new (with_name names n) ns
+
+-- no name stands twice
+abbrev pub names_differ : List ExprName → Bool
+names_differ names = are_new [] names
 
 abbrev pub same_signature : Signature → Signature → Bool
 same_signature a b = same_name a.name b.name && (a.arity == b.arity)

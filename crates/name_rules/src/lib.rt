@@ -16,4 +16,4 @@ mod scopes;
 
 pub use broken::broken_names;
 pub use functions::{Functions, Signature};
-pub use scopes::Scope;
+pub use scopes::{Scope, names_differ};

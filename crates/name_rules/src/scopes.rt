@@ -1,7 +1,7 @@
 #![tactic(auto, using(crate::proofs::LayerLemmas::has_name_append, crate::proofs::LayerLemmas::layer_names_append, crate::proofs::LayerLemmas::added_last))]
 
 ghost use Rattle.std.specs.Prelude.{◌≡◌, ◌++◌, [], IfOk, OnOk};
-ghost use Rattle.name_rules.specs.Scopes.{has_name, with_name, with_names};
+ghost use Rattle.name_rules.specs.Scopes.{has_name, with_name, with_names, names_differ};
 ghost use Rattle.name_rules.specs.Layers.{layer_names};
 
 use indexmap::IndexSet;
@@ -83,6 +83,20 @@ impl Scope {
         }
         Ok(scope)
     }
+}
+
+/// Whether no name stands twice.
+pub fn names_differ(names: &List<ExprName>) -> Result<bool, AllocError>
+    ensures { IfOk result (λ differ. differ ≡ names_differ names.now) }
+{
+    let mut seen = Scope::new(names.allocator())?;
+    for name in names.as_slice() {
+        if seen.has(name) {
+            return Ok(false);
+        }
+        seen = seen.with(name.copy()?)?;
+    }
+    Ok(true)
 }
 
 /// The same tables.
