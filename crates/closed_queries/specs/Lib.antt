@@ -1,0 +1,2 @@
+pub mod ExprTexts
+pub mod Texts
