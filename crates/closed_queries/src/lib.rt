@@ -6,8 +6,12 @@
 //! Example: the query `1` is closed, and so is `declare variable $x := 1; $x`; the query `$x` is not.
 #![tactic(auto)]
 
+mod closed;
 mod expr_texts;
+mod names_kept;
+mod parts;
 mod texts;
 
+pub use closed::query_closed;
 pub use expr_texts::has_sound_texts;
 pub use texts::{is_sound_expr_name, is_sound_name, is_sound_name_test, is_sound_type};
