@@ -1,0 +1,4 @@
+pub mod FaultLemmas
+pub mod FormLemmas
+pub mod LayerLemmas
+pub mod LoopLemmas

@@ -1,0 +1,4 @@
+pub mod Broken
+pub mod Faults
+pub mod Layers
+pub mod Scopes
