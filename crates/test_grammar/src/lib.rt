@@ -18,6 +18,8 @@ mod refusals;
 #[cfg(test)]
 mod shown;
 #[cfg(test)]
+mod texts;
+#[cfg(test)]
 mod types;
 #[cfg(test)]
 mod words;

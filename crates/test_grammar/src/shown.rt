@@ -2,8 +2,10 @@
 use crate::words::tokens_of;
 use expr_reader::{Reading, parse, parse_type};
 use expr_terms::{Language, Level, Production, Raw, Token, key_text};
+use expr_tokens::terms;
 use std::alloc::AllocGlobal;
 use std::process::Abort;
+use xpath_lex::tokens;
 
 fn put(rt: &(impl Abort + AllocGlobal), out: &mut String, text: &str) {
     out.push_str(text).expect(rt, "memory");
@@ -28,7 +30,11 @@ fn put_token(rt: &(impl Abort + AllocGlobal), out: &mut String, token: &Token) {
             let text = format!(in rt.alloc(); "{number}").expect(rt, "memory");
             put(rt, out, text.as_str());
         }
-        Token::Quoted(_) => put(rt, out, "'s'"),
+        Token::Quoted(text) => {
+            put(rt, out, "'");
+            put(rt, out, text.as_str());
+            put(rt, out, "'");
+        }
         Token::Outer(prefix, local)
         | Token::Inner(prefix, local)
         | Token::Attribute(prefix, local)
@@ -163,6 +169,29 @@ pub(crate) fn read_within(
     let reading = parse(rt.alloc(), language, tokens.as_slice(), limit).expect(rt, "memory");
     drop(tokens);
     shown(rt, reading)
+}
+
+// What a text of XPath is read as, from its characters on.
+pub(crate) fn read_text(rt: &(impl Abort + AllocGlobal), text: &str) -> String {
+    let alloc = rt.alloc();
+    let found = match tokens(alloc, text) {
+        Ok(lexed) => {
+            let found = terms(alloc, lexed.as_slice()).expect(rt, "memory");
+            drop(lexed);
+            found
+        }
+        Err(_) => None,
+    };
+    match found {
+        None => shown(rt, Reading::Nothing),
+        Some(tokens) => {
+            let reading = parse(alloc, Language::Xpath, tokens.as_slice(), 400).expect(
+                rt, "memory",
+            );
+            drop(tokens);
+            shown(rt, reading)
+        }
+    }
 }
 
 pub(crate) fn read(rt: &(impl Abort + AllocGlobal), language: Language, words: &str) -> String {
