@@ -67,9 +67,6 @@ going_moved k was deep l t s old fs new p vs ss g e =
     let a = advance_moved l t s fs new p vs ss e in
     record { outlined = g.outlined ∙ ap outlines a; exact = λ d. g.exact d ∙ a; sinks = g.sinks; stays = g.stays }
 
-pub going_refused : (k : ℕ) (was deep : Bool) (l : Language) (t : Token) (s : Second) (old fs new : List Frame) (p : Production) (vs : List Raw) (ss : List Symbol) → Going k was deep l t s old (doing p vs ss ∷ fs) → along l t s p vs fs ss ≡ through → fs ≡ [] → Advanced false k was deep l t s old new
-going_refused k was deep l t s old fs new p vs ss g e n = going_none k was deep l t s old (doing p vs ss ∷ fs) new g (advance_through l t s fs p vs ss e ∙ ap (λ x. advance l t s (with_value (build p vs) x)) n)
-
 pub going_kept : (k : ℕ) (was deep : Bool) (l : Language) (t : Token) (s : Second) (old fs : List Frame) (p : Production) (vs : List Raw) (ss : List Symbol) → Going k was deep l t s old (doing p vs ss ∷ fs) → along l t s p vs fs ss ≡ through → Going k was deep l t s old (with_value (build p vs) fs)
 going_kept k was deep l t s old fs p vs ss g e =
     let a = advance_through l t s fs p vs ss e in
@@ -80,19 +77,23 @@ topmost_sinks : (k : ℕ) (l : Language) (ts : List Token) (fs : List Frame) (w 
 topmost_sinks k l ts [] w h e = absurd (omega arith)
 topmost_sinks k l ts (doing q us rs ∷ fs) w h e = let n = parts_nest_no_deeper l ts q us rs fs w e in omega arith
 
-pub going_dropped : (k : ℕ) (was deep : Bool) (l : Language) (t : Token) (s : Second) (old fs : List Frame) (p : Production) (vs : List Raw) (ss : List Symbol) → Going k was deep l t s old (doing p vs ss ∷ fs) → along l t s p vs fs ss ≡ through → (deep ≡ false → k < topmost_held (with_value (build p vs) fs)) → Going k was true l t s old fs
-going_dropped k was deep l t s old fs p vs ss g e h = record { outlined = g.outlined ∙ ap outlines a ∙ advance-outline l t s (with_value (build p vs) fs) fs (outline_with (build p vs) fs); exact = λ d. wrong d; sinks = λ a b. sinks deep g h a; stays = λ a. refl }
+-- productions that the value passes are closed
+pub going_passed : (k : ℕ) (was deep : Bool) (l : Language) (t : Token) (s : Second) (old fs gs : List Frame) (v : Raw) → Going k was deep l t s old (with_value v fs) → advance l t s (with_value v fs) ≡ advance l t s (with_value v gs) → Going k was deep l t s old (with_value v gs)
+going_passed k was deep l t s old fs gs v g e = record { outlined = g.outlined ∙ ap outlines e; exact = λ d. g.exact d ∙ e; sinks = g.sinks; stays = g.stays }
+
+pub going_dropped : (k : ℕ) (was deep : Bool) (l : Language) (t : Token) (s : Second) (old fs : List Frame) (v : Raw) → Going k was deep l t s old (with_value v fs) → (deep ≡ false → k < topmost_held (with_value v fs)) → Going k was true l t s old fs
+going_dropped k was deep l t s old fs v g h = record { outlined = g.outlined ∙ advance-outline l t s (with_value v fs) fs (outline_with v fs); exact = λ d. wrong d; sinks = λ a b. sinks deep g h a; stays = λ a. refl }
   where
-    a : advance l t s (doing p vs ss ∷ fs) ≡ advance l t s (with_value (build p vs) fs)
-    a = advance_through l t s fs p vs ss e
-
-    sinks : (b : Bool) → Going k was b l t s old (doing p vs ss ∷ fs) → (b ≡ false → k < topmost_held (with_value (build p vs) fs)) → was ≡ false → Sinks k l t s old
+    sinks : (b : Bool) → Going k was b l t s old (with_value v fs) → (b ≡ false → k < topmost_held (with_value v fs)) → was ≡ false → Sinks k l t s old
     sinks true g h w = g.sinks w refl
-    sinks false g h w = λ ts v n r.
-        let same : advance l t (second_of ts) old ≡ advance l t (second_of ts) (with_value (build p vs) fs) = rw n (g.exact refl ∙ a) in
-        topmost_sinks k l (t ∷ ts) (with_value (build p vs) fs) v (h refl) (rw same at r)
+    sinks false g h w = λ ts x n r.
+        let same : advance l t (second_of ts) old ≡ advance l t (second_of ts) (with_value v fs) = rw n (g.exact refl) in
+        topmost_sinks k l (t ∷ ts) (with_value v fs) x (h refl) (rw same at r)
 
-pub ruleset climbing = (views, going_begin, going_none, going_stuck, going_moved, going_refused, going_kept, going_dropped)
+pub going_nowhere : (k : ℕ) (was deep : Bool) (l : Language) (t : Token) (s : Second) (old fs new : List Frame) (v : Raw) → Going k was deep l t s old (with_value v fs) → fs ≡ [] → Advanced false k was deep l t s old new
+going_nowhere k was deep l t s old fs new v g n = going_none k was deep l t s old (with_value v fs) new g (ap (λ x. advance l t s (with_value v x)) n)
+
+pub ruleset climbing = (views, going_begin, going_none, going_stuck, going_moved, going_passed, going_nowhere, going_kept, going_dropped)
 
 pub finish_stuck : (p : Production) (vs : List Raw) (ss : List Symbol) (fs : List Frame) → skips ss ≡ false → finish (doing p vs ss ∷ fs) ≡ None
 finish_stuck p vs ss [] e = rw e refl

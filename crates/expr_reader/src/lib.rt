@@ -17,6 +17,7 @@ mod counts;
 mod frames;
 mod fronts;
 mod parts;
+mod passing;
 mod readings;
 mod steps;
 

@@ -8,6 +8,7 @@ ghost use Rattle.expr_reader.specs.Answers.{Advanced, Judged, Finished};
 use crate::frames::{Frame, Value};
 use crate::fronts::try_below;
 use crate::parts::{Gift, closed, give, symbol, with_token};
+use crate::passing::pass_up;
 use crate::readings::Reading;
 use expr_terms::{Language, Production, Raw, Second, Symbol, Token, begins, fits};
 use std::alloc::{AllocError, Global};
@@ -121,6 +122,7 @@ pub fn advance(
             Way::Moved => return Ok(true),
             Way::Through(done) => {
                 let value = closed(done)?;
+                pass_up(frames, token);
                 match give(frames, value, limit, *is_deep)? {
                     Gift::Refused => return Ok(false),
                     Gift::Kept => {}

@@ -40,7 +40,7 @@ fn levels(rt: HostRuntime) {
         assert!(rt; at.as_str() != "none");
         assert!(rt; at.as_str() != "deep");
         drop(at);
-        let below = read_within(&rt, Language::Xpath, words, levels - 1);
+        let below = read_within(&rt, Language::Xpath, words, levels.saturating_sub(1));
         assert_eq!(rt; below.as_str(), "deep");
         drop(below);
     }
