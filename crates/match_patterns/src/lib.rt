@@ -1,0 +1,12 @@
+//! Whether a pattern matches a node (XSLT 2.0, 5.5.3).
+//!
+//! `matches` is exact: `pattern_matches` of `specs/` says it step by step, from the last to the first. Without predicates no list
+//! of siblings is made.
+//!
+//! Example: `b/c[2]` matches the second `c` of those that a `b` has as children.
+#![tactic(auto)]
+
+mod patterns;
+mod steps;
+
+pub use patterns::matches;
