@@ -1,0 +1,2 @@
+pub mod Ands
+pub mod Pours
