@@ -13,7 +13,7 @@ use Rattle.xt_syntax.specs.declared.queries.QueryParam.{QueryParam}
 use Rattle.name_rules.specs.declared.functions.Signature.{Signature}
 use Rattle.name_rules.specs.Broken.{names_broken_of}
 use Rattle.name_rules.specs.Faults.{first}
-use Rattle.name_rules.specs.Scopes.{with_names, names_differ, has_function, with_function}
+use Rattle.name_rules.specs.Scopes.{with_names, names_differ, param_names, has_function, with_function}
 use Rattle.closed_queries.specs.Texts.{is_sound_expr_name, is_sound_name_test, is_sound_type, is_free_binding, is_free_uri}
 use Rattle.closed_queries.specs.ExprTexts.{has_sound_texts}
 
@@ -49,9 +49,6 @@ has_good_parts q =
 
 abbrev pub variable_names : List QueryVar → List ExprName
 variable_names variables = map (λ v. v.name) variables
-
-abbrev pub param_names : List QueryParam → List ExprName
-param_names params = map (λ p. p.name) params
 
 -- no function has name and number of parameters of one in the list or of one that stands before
 abbrev pub are_new_functions : List Signature → List QueryFunction → Bool

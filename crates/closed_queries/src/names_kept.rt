@@ -1,14 +1,14 @@
 // What a query declares, and whether it names nothing else.
 ghost use Rattle.std.specs.Prelude.{◌≡◌, [], IfOk};
 ghost use Rattle.std.specs.List.{list_all};
-ghost use Rattle.closed_queries.specs.Closed.{variable_names, param_names, are_new_functions, have_different_params, has_different_names, with_functions, keeps_names, if_keeps, value_keeps_names, body_keeps_names, all_keep_names, query_keeps_names};
+ghost use Rattle.closed_queries.specs.Closed.{variable_names, are_new_functions, have_different_params, has_different_names, with_functions, keeps_names, if_keeps, value_keeps_names, body_keeps_names, all_keep_names, query_keeps_names};
 ghost use Rattle.name_rules.specs.Faults.{first};
-ghost use Rattle.name_rules.specs.Scopes.{names_differ, with_names};
+ghost use Rattle.name_rules.specs.Scopes.{names_differ, param_names, with_names};
 
-use name_rules::{Functions, Scope, broken_names, names_differ};
+use name_rules::{Functions, Scope, broken_names, names_differ, param_names};
 use std::alloc::{AllocError, Global};
 use xt_names::{ExprName, List};
-use xt_syntax::{Expr, Query, QueryFunction, QueryParam, QueryVar};
+use xt_syntax::{Expr, Query, QueryFunction, QueryVar};
 
 /// Whether no two variables have one name, no two functions one name and number of parameters, and no two parameters of
 /// one function one name.
@@ -32,16 +32,6 @@ fn variable_names(variables: &List<QueryVar>) -> Result<List<ExprName>, AllocErr
     let mut names = List::new(variables.allocator());
     for variable in variables.as_slice() {
         names.push(variable.name.copy()?)?;
-    }
-    Ok(names)
-}
-
-fn param_names(params: &List<QueryParam>) -> Result<List<ExprName>, AllocError>
-    ensures { IfOk result (λ names. names ≡ param_names params.now) }
-{
-    let mut names = List::new(params.allocator());
-    for param in params.as_slice() {
-        names.push(param.name.copy()?)?;
     }
     Ok(names)
 }

@@ -3,6 +3,10 @@ use Rattle.std.proofs.Common.{◌≡◌, List, [], ◌∷◌, ◌++◌, Option, 
 use Rattle.xt_names.specs.declared.codes.Code.{Code}
 use Rattle.name_rules.specs.Faults.{first, earlier}
 
+pub first_of_none : first [] ≡ None
+unfolding first
+first_of_none = refl
+
 pub first_of_two : (xs ys : List Code) → first (xs ++ ys) ≡ earlier (first xs) (first ys)
 unfolding first earlier
 first_of_two [] ys = refl

@@ -1,9 +1,10 @@
 -- Names of variables and functions that are in scope.
-use Rattle.std.specs.Prelude.{ℕ, List, [], ◌∷◌, ◌++◌, Bool, true, not, ◌&&◌, ◌||◌, ◌==◌, if◌then◌else◌}
+use Rattle.std.specs.Prelude.{ℕ, List, [], ◌∷◌, ◌++◌, map, Bool, true, not, ◌&&◌, ◌||◌, ◌==◌, if◌then◌else◌}
 use Rattle.std.specs.List.{list_any}
 use Rattle.std.specs.Str.{bytes_eq}
 use Rattle.function_table.specs.Find.{is_known}
 use Rattle.xt_names.specs.declared.names.ExprName.{ExprName}
+use Rattle.xt_syntax.specs.declared.queries.QueryParam.{QueryParam}
 use Rattle.name_rules.specs.declared.functions.Signature.{Signature}
 
 abbrev pub same_name : ExprName → ExprName → Bool
@@ -28,6 +29,9 @@ are_new names (n ∷ ns) = not (has_name names n) && are_new (with_name names n)
 -- no name stands twice
 abbrev pub names_differ : List ExprName → Bool
 names_differ names = are_new [] names
+
+abbrev pub param_names : List QueryParam → List ExprName
+param_names params = map (λ p. p.name) params
 
 abbrev pub same_signature : Signature → Signature → Bool
 same_signature a b = same_name a.name b.name && (a.arity == b.arity)

@@ -12,8 +12,11 @@ mod broken;
 mod faults;
 mod functions;
 mod leaves;
+mod params;
 mod scopes;
 
 pub use broken::broken_names;
+pub use faults::earlier;
 pub use functions::{Functions, Signature};
+pub use params::param_names;
 pub use scopes::{Scope, names_differ};
