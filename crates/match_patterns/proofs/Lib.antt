@@ -1,2 +1,3 @@
 mod StepLemmas
 mod MemberLemmas
+mod FreeLemmas

@@ -100,7 +100,7 @@ unfolding is_child_kind
 no_child None h = absurd cc
 no_child (Some a) h = absurd cc
 
-member_of : (along : Axis) (wanted : Test) (number : ℕ) (tree : Tree) (path : List ℕ) (attribute : Option ℕ)
+pub member_of : (along : Axis) (wanted : Test) (number : ℕ) (tree : Tree) (path : List ℕ) (attribute : Option ℕ)
     → stands_for along (record { number = number; tree = tree; path = path; attribute = attribute }) ≡ true
     → passes_at along wanted (record { number = number; tree = tree; path = path; attribute = attribute }) ≡ true
     → (s : PatternStep) → s.axis ≡ along → s.test ≡ wanted
@@ -119,16 +119,3 @@ member_of axis.Child wanted number tree (i ∷ path) None h p s a t =
     rw (a, t) (in_filter (passes_at axis.Child wanted) n (axis_nodes axis.Child parent)
     (on_forward_axis axis.Child parent (i ∷ path, None) refl (below_there (subtree_at tree (i ∷ path)) None axis.Child wanted p) (child_of_above i path)) p)
 member_of along wanted number tree path attribute h p s a t = absurd cc
-
-none_kept : (b : Bool) (s : PatternStep) (n : Place) → b ≡ (length s.quiet == 0) → b ≡ true → kept_by_all (keeps s.quiet) (candidates s n) ≡ candidates s n
-unfolding kept_by_all
-none_kept b s n h e = by s.quiet (eqb-true (length s.quiet) 0 (sym h ∙ e))
-  where
-    by : (tests : List Expr) → length tests ≡ 0 → kept_by_all (keeps tests) (candidates s n) ≡ candidates s n
-    by [] l = refl
-    by (x ∷ xs) l = absurd (omega arith)
-
-pub member : (b : Bool) (s : PatternStep) (n : Place) → stands_for s.axis n ≡ true → passes_at s.axis s.test n ≡ true → b ≡ (length s.quiet == 0) → b ≡ true
-    → true ≡ list_any (is_same n) (kept_by_all (keeps s.quiet) (candidates s n))
-member b s n h p e t =
-    sym (some_in (is_same n) n (candidates s n) (member_of s.axis s.test n.number n.tree n.path n.attribute h p s refl refl) (itself n)) ∙ ap (list_any (is_same n)) (sym (none_kept b s n e t))

@@ -3,6 +3,10 @@ use Rattle.std.proofs.Common.{◌≡◌, ℕ, zero, suc, ◌+◌, ◌-◌, ◌<�
 use Rattle.std.specs.Prelude.{◌&&◌}
 use Rattle.std.proofs.lemmas.List.{reverse-append, take_more}
 use Rattle.xt_tree.specs.Place.{Place}
+use Rattle.std.proofs.lemmas.Bool.{and_parts}
+use Rattle.xt_syntax.specs.declared.exprs.Expr.{Expr}
+use Rattle.quiet_meaning.specs.Quietly.{quietly_of, is_pattern_form}
+use Rattle.quiet_meaning.specs.Paths.{are_allowed}
 use Rattle.xt_syntax.specs.declared.patterns.PatternStep.{PatternStep}
 use Rattle.match_patterns.specs.Patterns.{is_root_document, step_matches, steps_match, is_led}
 
@@ -32,3 +36,8 @@ last_fails b rooted steps k s d n z h e t f = ap (λ (x : Bool). x && is_led roo
 pub last_matches : (b rooted : Bool) (steps : List PatternStep) (k : ℕ) (s d : PatternStep) (n : Place) → (k ≡ 0 → ⊥) → k ≤ length steps → s ≡ get_or steps (k - 1) d
     → b ≡ step_matches s n → b ≡ true → is_led rooted s.deep (reverse (take (k - 1) steps)) n ≡ steps_match rooted (reverse (take k steps)) n
 last_matches b rooted steps k s d n z h e t f = ap (λ (x : Bool). x && is_led rooted s.deep (reverse (take (k - 1) steps)) n) (sym f ∙ t) ∙ last_step rooted steps k s d n z h e
+
+pub each_allowed : (all : List Expr) (i : ℕ) (x d : Expr) → i < length all → x ≡ get_or all i d → are_allowed all ≡ true → is_pattern_form (quietly_of x) ≡ true
+each_allowed [] i x d h e g = absurd (omega arith)
+each_allowed (y ∷ ys) zero x d h e g = subst (λ (z : Expr). is_pattern_form (quietly_of z) ≡ true) (sym e) (and_parts (is_pattern_form (quietly_of y)) (are_allowed ys) g).0
+each_allowed (y ∷ ys) (suc i) x d h e g = each_allowed ys i x d (omega arith) e (and_parts (is_pattern_form (quietly_of y)) (are_allowed ys) g).1

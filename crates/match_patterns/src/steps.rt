@@ -1,16 +1,19 @@
 // One step of a pattern, without what stands before it.
-ghost use Rattle.std.specs.Prelude.{◌≡◌, IfOk, true, ◌∷◌, []};
-ghost use Rattle.std.specs.List.{list_any};
+ghost use Rattle.std.specs.Prelude.{◌≡◌, IfOk, true, ◌∷◌, [], map};
+ghost use Rattle.std.specs.List.{list_all, list_any};
 ghost use Rattle.node_tests.specs.Tests.{passes_at};
 ghost use Rattle.step_walks.specs.Nodes.{kept_by_all};
+ghost use Rattle.quiet_meaning.specs.Quietly.{quietly_of, holds_at};
+ghost use Rattle.quiet_places.specs.Free.{focus, is_place_free_expr};
 ghost use Rattle.quiet_meaning.specs.Paths.{keeps, are_allowed};
 ghost use Rattle.match_patterns.specs.Patterns.{is_child_kind, is_attribute_kind, is_document_kind, kind_at, is_parentless, is_root_document, is_same, stands_for, candidates, step_matches, has_allowed};
 ghost use Rattle.node_axes.specs.Axes.{same_path, same_attribute};
 
 use node_tests::node_passes;
-use quiet_eval::{hits, kept_in_turn};
+use quiet_eval::{hits, holds, kept_in_turn};
+use quiet_places::is_place_free;
 use std::alloc::{AllocError, Global};
-use xt_syntax::PatternStep;
+use xt_syntax::{Expr, PatternStep};
 use xt_tree::{Kind, Node};
 use xt_types::Axis;
 
@@ -30,17 +33,36 @@ pub(crate) fn step_matches(
     is_kept(alloc, step, node)
 }
 
-/// Whether the predicates keep the node among those beside it.
+/// Whether the predicates keep the node among those beside it. Where none of them looks at positions, they are not looked for.
 fn is_kept(alloc: Global, step: &PatternStep, node: &Node) -> Result<bool, AllocError>
     requires quiet { has_allowed step.now ≡ true }
     requires stands { stands_for step.now.axis node.now ≡ true }
     requires passes { passes_at step.now.axis step.now.test node.now ≡ true }
     ensures { IfOk result (λ truth. truth ≡ list_any (is_same node.now) (kept_by_all (keeps step.now.quiet) (candidates step.now node.now))) }
 {
-    if step.quiet.is_empty() {
-        return Ok(true);
+    if are_place_free(step.quiet.as_slice()) {
+        return all_hold(alloc, step.quiet.as_slice(), node);
     }
     is_kept_among(alloc, step, node)
+}
+
+fn are_place_free(tests: &[Expr]) -> bool
+    ensures { result ≡ list_all is_place_free_expr tests.now }
+{
+    tests.iter().all(|e| is_place_free(e))
+}
+
+/// Whether all predicates hold for the node as one of one.
+fn all_hold(alloc: Global, tests: &[Expr], node: &Node) -> Result<bool, AllocError>
+    requires { are_allowed tests.now ≡ true }
+    ensures { IfOk result (λ truth. truth ≡ list_all (λ q. holds_at q (focus node.now 1 1)) (map quietly_of tests.now)) }
+{
+    for test in tests {
+        if !holds(alloc, test, node, 1, 1)? {
+            return Ok(false);
+        }
+    }
+    Ok(true)
 }
 
 fn is_kept_among(alloc: Global, step: &PatternStep, node: &Node) -> Result<bool, AllocError>

@@ -1,0 +1,65 @@
+// Predicates and their operands, form by form.
+ghost use Rattle.std.specs.Prelude.{◌≡◌, map, true, false};
+ghost use Rattle.std.specs.List.{list_all};
+ghost use Rattle.xt_syntax.specs.declared.exprs.Expr.{Expr as AnExpr};
+ghost use Rattle.quiet_meaning.specs.Quietly.{quietly_of};
+ghost use Rattle.quiet_places.specs.Free.{IsSame, called_free, free_of, is_place_free_expr};
+
+use xt_forms::{QuietCall, quiet_call};
+use xt_syntax::Expr;
+
+/// A predicate that is free of its place keeps a node at one position among so many exactly where it keeps it at any other.
+pub fn place_free_predicates_keep_a_node_anywhere()
+    ensures { (e : AnExpr) → is_place_free_expr e ≡ true → IsSame (quietly_of e) }
+{}
+
+/// Whether the predicate looks at no position, by its form.
+pub fn is_place_free(e: &Expr) -> bool
+    ensures { result ≡ is_place_free_expr e.now }
+{
+    is_free(e, false)
+}
+
+/// The same of a predicate, or of an operand of a comparison, where an integer is a value.
+#[cycle(free)]
+fn is_free(e: &Expr, operand: bool) -> bool
+    ensures { result ≡ free_of e.now operand }
+{
+    match e {
+        Expr::Int(_) => operand,
+        Expr::Or(all) => are_free(all.get().as_slice()),
+        Expr::And(all) => are_free(all.get().as_slice()),
+        Expr::General(_, a, b) => is_free(a.get(), true) && is_free(b.get(), true),
+        Expr::Call(name, args) => called_free(quiet_call(name), args.get().as_slice()),
+        _ => true,
+    }
+}
+
+#[cycle(free)]
+fn are_free(all: &[Expr]) -> bool
+    ensures { result ≡ list_all (λ f. f false) (map free_of all.now) }
+{
+    for e in all {
+        if !is_free(e, false) {
+            return false;
+        }
+    }
+    true
+}
+
+#[cycle(free)]
+#[tactic(auto, unfolding(crate::specs::Free::called_free))]
+fn called_free(f: QuietCall, args: &[Expr]) -> bool
+    ensures { result ≡ called_free f (map free_of args.now) }
+{
+    match f {
+        QuietCall::Position => false,
+        QuietCall::Last => false,
+        QuietCall::Not => are_free(args),
+        QuietCall::Constant => true,
+        QuietCall::Exists => true,
+        QuietCall::Count => true,
+        QuietCall::NameOf => true,
+        QuietCall::Other => true,
+    }
+}
