@@ -1,0 +1,122 @@
+// An expression as a text: its form, and its parts in parentheses.
+use crate::kids::kids_of;
+use crate::labels::{put, put_label, put_type};
+use crate::words::tokens_of;
+use expr_names::ResolveFault;
+use expr_reader::{parse, parse_type};
+use expr_resolve::{Setting, resolve, resolve_type};
+use expr_terms::{Language, Raw};
+use std::alloc::AllocGlobal;
+use std::process::Abort;
+use xt_names::{Binding, List, Text};
+use xt_syntax::{Expr, Prefixes, SeqType};
+
+fn show(rt: &(impl Abort + AllocGlobal), out: &mut String, e: &Expr, depth: u8) {
+    if depth == 0 {
+        return;
+    }
+    put_label(rt, out, e);
+    let kids = kids_of(rt, e);
+    if kids.is_empty() {
+        return;
+    }
+    put(rt, out, "(");
+    for (place, kid) in kids.as_slice().iter().enumerate() {
+        if place > 0 {
+            put(rt, out, " ");
+        }
+        show(rt, out, kid.get(), depth - 1);
+    }
+    put(rt, out, ")");
+    drop(kids);
+}
+
+fn put_fault(rt: &(impl Abort + AllocGlobal), out: &mut String, fault: ResolveFault) {
+    match fault {
+        ResolveFault::Static(code) => put(rt, out, code.text()),
+        ResolveFault::Memory(_) => put(rt, out, "memory"),
+    }
+}
+
+fn text(rt: &(impl Abort + AllocGlobal), s: &str) -> Text {
+    Text::make(rt.alloc(), s).expect(rt, "memory")
+}
+
+fn bind(rt: &(impl Abort + AllocGlobal), bound: &mut List<Binding>, prefix: &str, uri: &str) {
+    let binding = Binding {
+        prefix: text(rt, prefix),
+        uri: text(rt, uri),
+    };
+    bound.push(binding).expect(rt, "memory");
+}
+
+// `p` is bound to `u`, `none` to no uri; elements are in `e` and functions in `f`.
+fn setting(rt: &(impl Abort + AllocGlobal), strip: bool) -> Setting {
+    let mut bound = List::new(rt.alloc());
+    bind(rt, &mut bound, "p", "u");
+    bind(rt, &mut bound, "none", "");
+    bind(rt, &mut bound, "xs", "http://www.w3.org/2001/XMLSchema");
+    Setting {
+        prefixes: Prefixes {
+            bound,
+            element_default: text(rt, "e"),
+            function_default: text(rt, "f"),
+        },
+        strip,
+    }
+}
+
+fn put_meant(rt: &(impl Abort + AllocGlobal), out: &mut String, strip: bool, raw: &Raw) {
+    let s = setting(rt, strip);
+    let meant = resolve(rt.alloc(), &s, raw);
+    drop(s);
+    match meant {
+        Err(fault) => put_fault(rt, out, fault),
+        Ok(e) => {
+            show(rt, out, &e, 100);
+            drop(e);
+        }
+    }
+}
+
+// What the words of a query mean, with or without boundary white space, or the code.
+pub(crate) fn meant(rt: &(impl Abort + AllocGlobal), strip: bool, words: &str) -> String {
+    let tokens = tokens_of(rt, words);
+    let value = parse(rt.alloc(), Language::Xquery, tokens.as_slice()).expect(rt, "memory");
+    drop(tokens);
+    let mut out = String::new(rt.alloc());
+    match value {
+        None => put(rt, &mut out, "none"),
+        Some(raw) => {
+            put_meant(rt, &mut out, strip, &raw);
+            drop(raw);
+        }
+    }
+    out
+}
+
+fn put_type_meant(rt: &(impl Abort + AllocGlobal), out: &mut String, raw: &Raw) {
+    let s = setting(rt, true);
+    let meant: Result<SeqType, ResolveFault> = resolve_type(rt.alloc(), &s, raw);
+    drop(s);
+    match meant {
+        Err(fault) => put_fault(rt, out, fault),
+        Ok(kind) => put_type(rt, out, &kind),
+    }
+}
+
+// What the words of a type mean, or the code.
+pub(crate) fn type_meant(rt: &(impl Abort + AllocGlobal), words: &str) -> String {
+    let tokens = tokens_of(rt, words);
+    let value = parse_type(rt.alloc(), Language::Xquery, tokens.as_slice()).expect(rt, "memory");
+    drop(tokens);
+    let mut out = String::new(rt.alloc());
+    match value {
+        None => put(rt, &mut out, "none"),
+        Some(raw) => {
+            put_type_meant(rt, &mut out, &raw);
+            drop(raw);
+        }
+    }
+    out
+}
