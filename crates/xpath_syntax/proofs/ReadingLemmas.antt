@@ -1,5 +1,5 @@
 -- What the reading says of the tokens.
-use Rattle.std.proofs.Common.{◌≡◌, ◌↔◌, ◌≤◌, ◌<◌, ℕ, Bool, true, false, cond, nat_le, List, [], ◌∷◌, ◌++◌, Option, Some, None, Result, Ok, Err, refl, sym, subst, ap, ◌∙◌}
+use Rattle.std.proofs.Common.{◌≡◌, ◌↔◌, ◌≤◌, ◌<◌, ℕ, Bool, true, false, cond, nat_le, List, [], ◌∷◌, ◌++◌, Option, Some, None, Result, Ok, Err, refl, sym, subst, ap, ◌∙◌, ◌+◌, length, option_map, option_and_then, arith}
 use Rattle.std.proofs.lemmas.Bool.{le-leb, lt-leb, leb-true, leb-false}
 use Rattle.std.proofs.lemmas.Option.{none-some, same_Some}
 use Rattle.xt_names.specs.declared.codes.Code.{Code}
@@ -10,7 +10,8 @@ use Rattle.expr_terms.specs.declared.tokens.Token.{Token}
 use Rattle.expr_terms.specs.declared.raws.Raw.{Raw}
 use Rattle.expr_terms.specs.declared.productions.Language.TheVariants.{Xpath as xpath}
 use Rattle.expr_terms.specs.Nest.{raw_nest_of}
-use Rattle.expr_tokens.specs.Terms.{Written, terms_of}
+use Rattle.expr_tokens.specs.Terms.{Written, term_of, terms_of}
+use Rattle.expr_length.proofs.Within.{spelled_within}
 use Rattle.expr_grammar.specs.Grammar as grammar
 use Rattle.expr_grammar.specs.Machine.{read_whole}
 use Rattle.expr_grammar.proofs.Run.{runs_spells, refused, spells_runs}
@@ -48,6 +49,30 @@ not_written ts e raw w = none-some _ (sym e ∙ w.are)
 
 not_read : (ts : List Written) (us : List Token) → terms_of ts ≡ Some us → read_whole xpath us ≡ None → (raw : Raw) → IsWritten ts raw → ⊥
 not_read ts us e f raw w = none-some _ (sym f ∙ only_one ts us raw e w)
+
+-- each token of a text is one of the grammar
+one_longer : {A : Type 0} (x : A) (o : Option (List A)) (us : List A) → option_map (λ xs. x ∷ xs) o ≡ Some us → (xs : List A) × ((o ≡ Some xs) × (length us ≡ 1 + length xs))
+one_longer x None us e = absurd (none-some _ e)
+one_longer x (Some xs) us e = let l : length us ≡ length (x ∷ xs) = ap length (sym (same_Some _ _ e)) in (xs, (refl, omega arith))
+
+terms_length : (ts : List Written) (us : List Token) → terms_of ts ≡ Some us → length us ≡ length ts
+unfolding terms_of
+terms_length [] us e = ap length (sym (same_Some _ _ e))
+terms_length (t ∷ ts) us e = let g : length us ≡ 1 + length ts = go (term_of t.kind t.characters) e (λ xs f. terms_length ts xs f) in omega arith
+  where
+    go : (o : Option Token) → option_and_then (λ u. option_map (λ us. u ∷ us) (terms_of ts)) o ≡ Some us → ((xs : List Token) → terms_of ts ≡ Some xs → length xs ≡ length ts) → length us ≡ 1 + length ts
+    go None e rec = absurd (none-some _ e)
+    go (Some u) e rec =
+        let m = one_longer u (terms_of ts) us e in
+        let a : length us ≡ 1 + length m.0 = m.1.1 in
+        let b : length m.0 ≡ length ts = rec m.0 m.1.0 in
+        omega arith
+
+too_deep_text : (k : ℕ) (ts : List Written) (raw : Raw) → IsWritten ts raw → k < raw_nest_of raw → IsTooDeep k ts
+too_deep_text k ts raw w n =
+    let a : raw_nest_of raw ≤ 1 + length w.terms = spelled_within w.spelled in
+    let b : length w.terms ≡ length ts = terms_length ts w.terms w.are in
+    record { raw = raw; is_written = w; nests = n; long = omega arith }
 
 -- an answer by the case that it is
 parsed_syntax : (s : Setting) (k : ℕ) (ts : List Written) (r : Result Expr ParseFault) → ((raw : Raw) → IsWritten ts raw → ⊥) → Gives r syntax → Parsed r s k ts
@@ -90,7 +115,7 @@ parsed_resolved s k ts raw r w n (Some c) b g = parsed_static s k ts raw c r w n
 
 parsed_within : (s : Setting) (k : ℕ) (ts : List Written) (raw : Raw) (r : Result Expr ParseFault) → IsWritten ts raw → (b : Bool) → nat_le (raw_nest_of raw) k ≡ b → Gives r (answer_of s (cond b (read.Value raw) read.TooDeep)) → Parsed r s k ts
 parsed_within s k ts raw r w true e g = parsed_resolved s k ts raw r w (leb-true _ _ e) (first (broken_of s raw)) refl g
-parsed_within s k ts raw r w false e g = parsed_deep s k ts r (record { raw = raw; is_written = w; nests = leb-false _ _ e }) g
+parsed_within s k ts raw r w false e g = parsed_deep s k ts r (too_deep_text k ts raw w (leb-false _ _ e)) g
 
 parsed_read : (s : Setting) (k : ℕ) (ts : List Written) (us : List Token) (r : Result Expr ParseFault) → terms_of ts ≡ Some us → (o : Option Raw) → read_whole xpath us ≡ o → Gives r (answer_of s (within k o)) → Parsed r s k ts
 parsed_read s k ts us r e None f g = parsed_syntax s k ts r (not_read ts us e f) g

@@ -1,5 +1,5 @@
 -- Which expressions the tokens of a text spell (XPath 2.0, A.1).
-use Rattle.std.specs.Prelude.{◌≡◌, ◌≤◌, ◌<◌, ℕ, List, [], ◌∷◌, ◌++◌, Option, Some, Result, Ok, Err}
+use Rattle.std.specs.Prelude.{◌≡◌, ◌≤◌, ◌<◌, ℕ, List, [], ◌∷◌, ◌++◌, length, Option, Some, Result, Ok, Err}
 use Rattle.xt_names.specs.declared.codes.Code.{Code}
 use Rattle.xt_syntax.specs.declared.exprs.Expr.{Expr}
 use Rattle.xt_syntax.specs.declared.prefixes.ParseFault.{ParseFault}
@@ -50,11 +50,12 @@ pub record BreaksFirst (s : Setting) (k : ℕ) (ts : List Written) (c : Code) : 
   pub nests : raw_nest_of raw ≤ k
   pub broken : first (broken_of s raw) ≡ Some c
 
--- what they spell nests deeper
+-- what they spell nests deeper, and so there are as many tokens as the limit at least
 pub record IsTooDeep (k : ℕ) (ts : List Written) : Type 0 where
   pub raw : Raw
   pub is_written : IsWritten ts raw
   pub nests : k < raw_nest_of raw
+  pub long : k ≤ length ts
 
 -- what the answer of the parser says of the tokens
 abbrev pub Parsed : Result Expr ParseFault → Setting → ℕ → List Written → Type 0

@@ -44,8 +44,8 @@ fn read(alloc: Global, setting: &Setting, terms: Vec<Term>, limit: u16) -> Resul
 
 /// The expression that the tokens spell, as prefixes and names without prefix are resolved here
 /// (XPath 2.0, A.1). `Syntax` comes exactly where they spell nothing, `TooDeep` exactly where what
-/// they spell nests deeper than the limit, and `Static` with the code of the first static rule that
-/// it breaks otherwise.
+/// they spell nests deeper than the limit (and then there are as many tokens as the limit at least),
+/// and `Static` with the code of the first static rule that it breaks otherwise.
 #[tactic(auto, using(crate::proofs::ReadingLemmas::answers))]
 pub fn parse_expr(
     alloc: Global,
