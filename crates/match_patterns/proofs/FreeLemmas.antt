@@ -1,5 +1,5 @@
 -- Predicates that are free of their place, at a node among those beside it.
-use Rattle.std.proofs.Common.{◌≡◌, ℕ, ◌+◌, List, [], ◌∷◌, map, refl, ap, ap₂, sym, ◌∙◌, Bool, true, false, cond, inl, inr, subst}
+use Rattle.std.proofs.Common.{◌≡◌, ℕ, ◌+◌, List, [], ◌∷◌, map, refl, ap, ap₂, sym, ◌∙◌, Bool, true, false, inl, inr}
 use Rattle.std.specs.Prelude.{◌&&◌, ◌||◌, if◌then◌else◌, Option, Some, None}
 use Rattle.std.specs.List.{filter, list_all, list_any}
 use Rattle.std.proofs.lemmas.Bool.{and_parts}
@@ -7,10 +7,9 @@ use Rattle.xt_tree.specs.Place.{Place, parent_of}
 use Rattle.xt_syntax.specs.declared.exprs.Expr.{Expr}
 use Rattle.xt_syntax.specs.declared.patterns.PatternStep.{PatternStep}
 use Rattle.node_tests.specs.Tests.{passes_at}
-use Rattle.node_axes.specs.Axes.{is_itself, spot_of, axis_nodes}
+use Rattle.node_axes.specs.Axes.{axis_nodes}
 use Rattle.node_axes.proofs.FilterLemmas.{In}
 use Rattle.step_walks.specs.Nodes.{Focus, kept_from, kept_by, kept_by_all}
-use Rattle.step_walks.specs.Within.{AreWithin}
 use Rattle.step_walks.proofs.NodeLemmas.{axis_within, filter_within}
 use Rattle.step_walks.proofs.OrderLemmas.{itself, itself_is, within_of, some_in}
 use Rattle.quiet_meaning.specs.Quietly.{Quietly, quietly_of, holds_at}

@@ -1,11 +1,10 @@
 -- A node is among the children or attributes of its parent.
-use Rattle.std.proofs.Common.{◌≡◌, ℕ, zero, suc, ◌+◌, ◌<◌, ◌≤◌, List, [], ◌∷◌, ◌++◌, length, get_or, take, map, refl, ap, ap₂, sym, ◌∙◌, Bool, true, false, cond, inl, inr, arith, subst, eq-eqb, nat_eq}
-use Rattle.std.specs.Prelude.{◌&&◌, ◌||◌, ◌==◌, if◌then◌else◌, Option, Some, None, is_some, option_map, slice_get, nat_lt, IsTrue}
-use Rattle.std.specs.List.{filter, list_any, Contains}
+use Rattle.std.proofs.Common.{◌≡◌, ℕ, ◌+◌, ◌<◌, List, [], ◌∷◌, ◌++◌, length, get_or, take, map, refl, ap, sym, ◌∙◌, Bool, true, false, cond, inl, inr, arith, eq-eqb, nat_eq}
+use Rattle.std.specs.Prelude.{◌&&◌, Option, Some, None, option_map, slice_get, nat_lt}
+use Rattle.std.specs.List.{filter}
 use Rattle.std.specs.Str.{bytes_eq}
 use Rattle.std.proofs.lemmas.List.{take_more}
 use Rattle.std.proofs.lemmas.Option.{slice_get_within}
-use Rattle.std.proofs.lemmas.Bool.{eqb-true}
 use Rattle.std.proofs.lemmas.Bool.Decides.{nat_tests}
 use Rattle.xt_types.specs.declared.axes.Axis.{Axis}
 use Rattle.xt_types.specs.declared.axes.Axis.TheVariants as axis
@@ -14,19 +13,16 @@ use Rattle.xt_tree.specs.declared.attributes.Attribute.{Attribute}
 use Rattle.xt_tree.specs.declared.trees.Tree.{Tree}
 use Rattle.xt_tree.specs.Kinds.{kind_of}
 use Rattle.xt_tree.specs.TreeView.{attributes_of}
-use Rattle.xt_tree.specs.Place.{Place, subtree_at, subtree_of, subtree_below, subtree_attributes, attribute_tree, has_attribute, parent_of, parent_of_path, above_place}
+use Rattle.xt_tree.specs.Place.{Place, subtree_at, subtree_below, subtree_attributes, attribute_tree, has_attribute}
 use Rattle.xt_tree.specs.Walk.{Spot, spots_of}
 use Rattle.xt_tree.proofs.WalkPlaces.{walk_is_exact}
-use Rattle.xt_syntax.specs.declared.exprs.Expr.{Expr}
 use Rattle.xt_syntax.specs.declared.patterns.PatternStep.{PatternStep}
 use Rattle.node_tests.specs.Tests.{passes_at, tree_passes}
-use Rattle.node_axes.specs.Axes.{is_itself, same_path, spot_of, place_at, axis_nodes, in_axis_order, is_reverse, on_axis, is_child, is_own_attribute, is_attribute}
+use Rattle.node_axes.specs.Axes.{same_path, spot_of, place_at, axis_nodes, in_axis_order, is_reverse, on_axis, is_child, is_own_attribute, is_attribute}
 use Rattle.node_axes.proofs.FilterLemmas.{In, In-from_Contains}
 use Rattle.node_axes.proofs.AxisLemmas.{child_on}
-use Rattle.step_walks.specs.Nodes.{kept_by_all}
-use Rattle.step_walks.proofs.OrderLemmas.{itself, some_in, in_filter}
-use Rattle.quiet_meaning.specs.Paths.{keeps}
-use Rattle.match_patterns.specs.Patterns.{is_child_kind, kind_at, is_parentless, stands_for, beside, candidates, is_same}
+use Rattle.step_walks.proofs.OrderLemmas.{in_filter}
+use Rattle.match_patterns.specs.Patterns.{is_child_kind, stands_for, candidates}
 
 pub path_eq : (p q : List ℕ) → bytes_eq p q ≡ same_path p q
 unfolding same_path

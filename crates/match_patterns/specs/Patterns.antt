@@ -1,5 +1,5 @@
 -- Which nodes a pattern matches (XSLT 2.0, 5.5.3).
-use Rattle.std.specs.Prelude.{ℕ, List, [], ◌∷◌, filter, reverse, map, Bool, true, false, not, ◌&&◌, ◌||◌, if◌then◌else◌, Option, Some, None, is_some, option_map}
+use Rattle.std.specs.Prelude.{ℕ, List, [], ◌∷◌, filter, reverse, Bool, true, false, not, ◌&&◌, ◌||◌, if◌then◌else◌, Option, Some, None, is_some, option_map}
 use Rattle.std.specs.List.{list_all, list_any}
 use Rattle.std.specs.Option.{option_to_list}
 use Rattle.xt_types.specs.declared.axes.Axis.{Axis}
@@ -9,7 +9,6 @@ use Rattle.xt_tree.specs.declared.kinds.Kind.{Kind}
 use Rattle.xt_tree.specs.declared.kinds.Kind.TheVariants as kind
 use Rattle.xt_tree.specs.Kinds.{kind_of}
 use Rattle.xt_tree.specs.Place.{Place, subtree_of, parent_of}
-use Rattle.xt_syntax.specs.declared.exprs.Expr.{Expr}
 use Rattle.xt_syntax.specs.declared.patterns.Pattern.{Pattern}
 use Rattle.xt_syntax.specs.declared.patterns.PatternStep.{PatternStep}
 use Rattle.node_tests.specs.Tests.{passes_at}

@@ -1,5 +1,5 @@
 -- Predicates that look at no position.
-use Rattle.std.specs.Prelude.{◌≡◌, ℕ, List, [], ◌∷◌, Bool, true, false, ◌&&◌}
+use Rattle.std.specs.Prelude.{◌≡◌, ℕ, List, Bool, true, false, ◌&&◌}
 use Rattle.std.specs.List.{list_all}
 use Rattle.xt_tree.specs.Place.{Place}
 use Rattle.xt_syntax.specs.declared.exprs.Expr.{Expr}

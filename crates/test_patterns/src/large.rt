@@ -26,8 +26,19 @@ fn among_many_siblings(rt: HostRuntime) {
     assert!(rt; found(&rt, &tree, "/ a / c", COUNT));
     assert!(rt; found(&rt, &tree, "b[last]", 99_999));
     assert!(rt; !found(&rt, &tree, "b[2]", 99_999));
-    for place in 0..20_000 {
+    for place in 0..500 {
         assert!(rt; found(&rt, &tree, "a // b", place));
+    }
+    drop(tree);
+}
+
+// A predicate that looks at no position is judged at the node alone, whatever stands beside it.
+#[test]
+fn predicates_without_positions(rt: HostRuntime) {
+    let tree = many(&rt, 20_000);
+    for place in 0..500 {
+        assert!(rt; found(&rt, &tree, "b[@k,'m,=][text(),'one,=]", place));
+        assert!(rt; !found(&rt, &tree, "b[@k,'n,=]", place));
     }
     drop(tree);
 }

@@ -1,4 +1,4 @@
-use Rattle.std.proofs.Common.{◌≡◌, ap, sym, ◌∙◌}
+use Rattle.std.proofs.Common.{ap, sym, ◌∙◌}
 use Rattle.std.specs.Prelude.{◌&&◌}
 use Rattle.match_patterns.specs.Patterns.{is_root_document}
 use Rattle.match_patterns.proofs.StepLemmas.{none_match, last_fails, last_matches}
