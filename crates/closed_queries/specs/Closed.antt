@@ -1,5 +1,5 @@
 -- Queries that name nothing but what they declare (XQuery 1.0, 2.2.4 and 4).
-use Rattle.std.specs.Prelude.{List, [], ◌∷◌, map, length, Bool, true, false, not, ◌&&◌, Option, Some, None, is_none}
+use Rattle.std.specs.Prelude.{List, [], ◌∷◌, map, length, Bool, true, not, ◌&&◌, Option, Some, None, is_none}
 use Rattle.std.specs.List.{list_all}
 use Rattle.xt_names.specs.declared.names.ExprName.{ExprName}
 use Rattle.xt_types.specs.Regular.{is_regular_type}

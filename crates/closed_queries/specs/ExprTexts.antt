@@ -1,5 +1,5 @@
 -- Expressions whose texts and names are those that XML allows, and in which no `for` has one name for item and position.
-use Rattle.std.specs.Prelude.{List, Bool, true, false, not, ◌&&◌, Option, Some, None}
+use Rattle.std.specs.Prelude.{List, Bool, true, not, ◌&&◌, Option, Some, None}
 use Rattle.std.specs.List.{list_all}
 use Rattle.xt_names.specs.Classes.{is_xml_text}
 use Rattle.xt_names.specs.declared.names.ExprName.{ExprName}

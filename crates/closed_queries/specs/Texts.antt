@@ -1,5 +1,5 @@
 -- Texts of characters that XML allows, and names that XML and its namespaces allow.
-use Rattle.std.specs.Prelude.{ℕ, List, Bool, true, false, not, ◌&&◌, Option, Some, None, codes}
+use Rattle.std.specs.Prelude.{ℕ, List, Bool, true, not, ◌&&◌, Option, Some, None, codes}
 use Rattle.std.specs.Str.{bytes_eq}
 use Rattle.xt_names.specs.Allowed.{is_allowed_name, is_empty_text, xml_uri, xmlns_uri}
 use Rattle.xt_names.specs.Classes.{is_ncname_text, is_xml_text}

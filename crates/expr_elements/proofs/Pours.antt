@@ -1,6 +1,6 @@
 -- The pieces of a content, one by one.
 use Rattle.std.specs.Prelude.{Bool, true}
-use Rattle.std.proofs.Common.{◌≡◌, ℕ, List, [], ◌∷◌, ◌++◌, ◌+◌, ◌<◌, ◌≤◌, suc, length, map, drop, get_or, drop-cons, add-one, refl, ap, sym, ◌∙◌}
+use Rattle.std.proofs.Common.{◌≡◌, ℕ, List, [], ◌∷◌, ◌+◌, ◌<◌, ◌≤◌, suc, length, map, drop, get_or, drop-cons, add-one, refl, ap, sym, ◌∙◌}
 use Rattle.std.proofs.lemmas.List.{drop_all}
 use Rattle.xt_syntax.specs.declared.exprs.Part.{Part}
 use Rattle.expr_meant.specs.declared.meant.Meant.{Meant}

@@ -1,5 +1,5 @@
 -- What direct elements mean (XQuery 1.0, 3.7.1).
-use Rattle.std.specs.Prelude.{ℕ, List, [], ◌∷◌, Bool, false}
+use Rattle.std.specs.Prelude.{ℕ, List, [], ◌∷◌, false}
 use Rattle.xt_names.specs.declared.names.Binding.{Binding}
 use Rattle.xt_syntax.specs.declared.exprs.Expr.{Expr}
 use Rattle.xt_syntax.specs.declared.exprs.Expr.TheVariants as expr

@@ -1,5 +1,5 @@
 -- What the productions of constructors mean, from what their parts mean (XQuery 1.0, 3.7).
-use Rattle.std.specs.Prelude.{List, [], ◌∷◌, Bool}
+use Rattle.std.specs.Prelude.{List, [], Bool}
 use Rattle.xt_syntax.specs.declared.prefixes.Prefixes.{Prefixes}
 use Rattle.expr_terms.specs.declared.productions.Production.{Production}
 use Rattle.expr_terms.specs.declared.productions.Production.TheVariants as production

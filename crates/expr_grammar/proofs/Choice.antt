@@ -5,7 +5,7 @@ use Rattle.expr_grammar.specs.Keys.{Key, open_paren, open_brace, colons, dollar,
 use Rattle.expr_terms.specs.Keys.{is_worded, is_reserved, place, is_axis}
 use Rattle.expr_terms.specs.Tokens.{force, fits_key, fits_name, fits_word, fits_function, fits_wild, fits_axis}
 use Rattle.expr_grammar.specs.TokenNames.{Token}
-use Rattle.expr_grammar.specs.Terms.{Language, Level, ors, casts, Nonterminal, Class, key, name_test, Symbol, tok, one, maybe, many, longest, Production}
+use Rattle.expr_grammar.specs.Terms.{Language, Level, ors, casts, Nonterminal, key, Symbol, tok, one, Production}
 use Rattle.expr_grammar.specs.RawNames.{Raw}
 use Rattle.expr_terms.specs.Raws.{build}
 use Rattle.expr_terms.specs.Productions.{speaks, fits, fits_any, body, head}

@@ -4,7 +4,7 @@ use Rattle.std.proofs.lemmas.Bool.{leb-true, ltb-true, and_parts, or_cases, and_
 use Rattle.expr_grammar.specs.Keys.{open_brace}
 use Rattle.expr_grammar.specs.TokenNames.{Token}
 use Rattle.expr_terms.specs.Tokens.{force, fits_key, fits_name}
-use Rattle.expr_grammar.specs.Terms.{Language, Nonterminal, Class, Symbol, tok, one, maybe, many, longest, Production}
+use Rattle.expr_grammar.specs.Terms.{Language, Nonterminal, Class, Symbol, tok, maybe, many, Production}
 use Rattle.expr_terms.specs.Productions.{body, head, fits}
 use Rattle.expr_grammar.specs.RawNames.{Raw}
 use Rattle.expr_terms.specs.Raws.{build}

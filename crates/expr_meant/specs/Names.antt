@@ -1,5 +1,5 @@
 -- The names and name tests that tokens write (XPath 2.0, A.2.1 and 3.2.1.2).
-use Rattle.std.specs.Prelude.{ℕ, List, [], ◌∷◌, if◌then◌else◌}
+use Rattle.std.specs.Prelude.{ℕ, List, [], if◌then◌else◌}
 use Rattle.std.specs.Str.{chars}
 use Rattle.expr_names.specs.declared.written.Written.{Written}
 use Rattle.expr_names.specs.declared.written.WrittenTest.{WrittenTest}

@@ -1,16 +1,16 @@
 -- The nest of a value is that of its parts, and of one level more where it is a form of its own.
-use Rattle.std.proofs.Common.{◌≡◌, ℕ, zero, suc, ◌+◌, ◌-◌, ◌≤◌, ◌<◌, max, map, Bool, true, false, cond, ◌&&◌, List, [], ◌∷◌, ◌++◌, Option, Some, None, is_some, refl, sym, ◌∙◌, ap, subst, arith}
+use Rattle.std.proofs.Common.{◌≡◌, ℕ, ◌+◌, ◌-◌, ◌≤◌, max, map, Bool, true, false, cond, ◌&&◌, List, [], ◌∷◌, ◌++◌, Option, Some, None, is_some, refl, sym, ◌∙◌, ap, arith}
 use Rattle.std.proofs.lemmas.Option.{none-some, same_Some}
 use Rattle.expr_terms.specs.declared.raws.Raw.TheViews.{out-Raw}
 use Rattle.expr_terms.specs.declared.raws.Raw.TheFolds.{map-Raw}
 use Rattle.expr_terms.specs.declared.raws.Raw.TheOpen.{Raw-F, Leaf, Node}
-use Rattle.expr_nest.specs.Terms.{Level, ors, Production, top, type_top, listing, item_after, plain as plainly, following_clause, bind_after, let_after, quant_after, spec_after, chain, unsigned, rooted, unrooted, steps, filter_step, predicated, name_tested, kind_tested, pi_named, kind_named, directly, items_type, marked, kind_item, atomic_item, part_chars, item_chars, directed, parens, otherwise, conditional}
-use Rattle.expr_nest.specs.RawNames.{Raw, leaf, node}
+use Rattle.expr_nest.specs.Terms.{Production, top, type_top, listing, item_after, plain as plainly, following_clause, bind_after, let_after, quant_after, spec_after, chain, unsigned, rooted, unrooted, steps, filter_step, predicated, name_tested, kind_tested, pi_named, kind_named, directly, items_type, marked, kind_item, atomic_item, part_chars, item_chars, directed, parens, otherwise, conditional}
+use Rattle.expr_nest.specs.RawNames.{Raw, node}
 use Rattle.expr_terms.specs.Productions.{passes}
-use Rattle.expr_terms.specs.Raws.{is_parens, is_otherwise, is_conditional, as_parens, as_chain, only_chain, as_inner_chain, only_inner, chain_or, as_else, in_chain, build_parens, build_else, build_chain, build_plain, build}
-use Rattle.expr_terms.specs.Nest.{Mark, plain, deep, last, Levels, levels_step, levels_of, raw_nest_of, mark_of, before_parts, is_left, is_left_level, is_arms, left_part, arm_part, with_part, with_parts, whole_nest}
+use Rattle.expr_terms.specs.Raws.{is_parens, is_otherwise, is_conditional, as_parens, as_chain, only_chain, as_inner_chain, only_inner, chain_or, as_else, build_parens, build_else, build_chain, build_plain, build}
+use Rattle.expr_terms.specs.Nest.{Mark, plain, deep, last, Levels, levels_step, levels_of, raw_nest_of, is_left_level, is_arms, arm_part, with_parts, whole_nest}
 use Rattle.expr_nest.specs.Held.{held, is_alone, built_nest}
-use Rattle.expr_nest.proofs.Levels.{levels-out, nest-node, held-append, held-grows, part-held, slack, whole-grows}
+use Rattle.expr_nest.proofs.Levels.{levels-out, nest-node, held-append, held-grows, part-held, whole-grows}
 
 never : {P : Type 0} → false ≡ true → P
 never e = cc

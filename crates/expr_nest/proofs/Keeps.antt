@@ -1,8 +1,8 @@
 -- What an open production has so far nests no deeper than what is read in the end.
-use Rattle.std.proofs.Common.{◌≡◌, ◌⊎◌, inl, inr, ℕ, zero, suc, ◌+◌, ◌≤◌, Bool, true, false, cond, List, [], ◌∷◌, ◌++◌, append_assoc, append-nil, Option, Some, None, option_and_then, refl, sym, ◌∙◌, ap, subst, arith}
+use Rattle.std.proofs.Common.{◌≡◌, ◌⊎◌, inl, inr, ℕ, zero, suc, ◌+◌, ◌≤◌, Bool, true, false, cond, List, [], ◌∷◌, ◌++◌, append_assoc, append-nil, Option, Some, None, option_and_then, refl, sym, subst, arith}
 use Rattle.std.proofs.lemmas.Option.{none-some, same_Some}
 use Rattle.expr_nest.specs.TokenNames.{Token}
-use Rattle.expr_nest.specs.Terms.{Language, Nonterminal, Class, Symbol, tok, one, maybe, many, longest, Production}
+use Rattle.expr_nest.specs.Terms.{Language, Nonterminal, Symbol, tok, one, maybe, many, longest, Production}
 use Rattle.expr_nest.specs.RawNames.{Raw}
 use Rattle.expr_terms.specs.declared.choices.Second.{Second}
 use Rattle.expr_terms.specs.Choices.{second_of, choose}

@@ -1,13 +1,12 @@
 -- The nest of nodes, and of lists of parts.
-use Rattle.std.proofs.Common.{◌≡◌, ℕ, zero, suc, ◌+◌, ◌-◌, ◌≤◌, ◌<◌, max, map, Bool, true, false, cond, List, [], ◌∷◌, ◌++◌, refl, sym, ◌∙◌, ap, subst, arith}
+use Rattle.std.proofs.Common.{◌≡◌, ℕ, ◌+◌, ◌-◌, ◌≤◌, max, map, Bool, true, false, cond, List, [], ◌∷◌, ◌++◌, refl, ◌∙◌, ap, arith}
 use Rattle.std.specs.Prelude.{◌==◌}
 use Rattle.std.proofs.lemmas.Bool.{eqb-true}
 use Rattle.expr_terms.specs.declared.raws.Raw.TheViews.{out-Raw}
 use Rattle.expr_terms.specs.declared.raws.Raw.TheVariants.{outs-Node}
 use Rattle.expr_terms.specs.declared.raws.Raw.TheFolds.{map-Raw, fold_out-Raw}
-use Rattle.expr_terms.specs.declared.raws.Raw.TheOpen.{Raw-F, Leaf, Node}
-use Rattle.expr_nest.specs.Terms.{Level, ors, Production, top, chain}
-use Rattle.expr_nest.specs.RawNames.{Raw, leaf, node}
+use Rattle.expr_nest.specs.Terms.{Production, top, chain}
+use Rattle.expr_nest.specs.RawNames.{Raw, node}
 use Rattle.expr_terms.specs.Nest.{Mark, plain, deep, last, Levels, levels_step, levels_of, raw_nest_of, mark_of, before_parts, is_left, is_left_level, is_arms, left_part, arm_part, with_part, with_parts, whole_nest}
 use Rattle.expr_nest.specs.Held.{held}
 

@@ -1,5 +1,5 @@
 -- What the productions of paths and primary expressions mean, from what their parts mean (XPath 2.0, 3.1 and 3.2).
-use Rattle.std.specs.Prelude.{List, [], ◌∷◌}
+use Rattle.std.specs.Prelude.{List}
 use Rattle.xt_syntax.specs.declared.prefixes.Prefixes.{Prefixes}
 use Rattle.xt_syntax.specs.declared.exprs.Expr.TheVariants as expr
 use Rattle.expr_terms.specs.declared.productions.Production.{Production}

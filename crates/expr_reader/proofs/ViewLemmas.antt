@@ -1,5 +1,5 @@
 -- The frames of the code, as the machine has them.
-use Rattle.std.proofs.Common.{◌≡◌, ◌≢◌, ℕ, suc, ◌<◌, ◌≤◌, ◌+◌, ◌-◌, List, [], ◌∷◌, ◌++◌, refl, ap, drop, length, get_or, arith, append-nil, zero}
+use Rattle.std.proofs.Common.{◌≡◌, ◌≢◌, ℕ, suc, ◌<◌, ◌+◌, ◌-◌, List, [], ◌∷◌, ◌++◌, refl, arith, append-nil, zero}
 use Rattle.expr_reader.specs.declared.frames.Frame.{Frame}
 use Rattle.expr_reader.specs.TokenNames.{Token}
 use Rattle.expr_reader.specs.Terms.{Language, Nonterminal}

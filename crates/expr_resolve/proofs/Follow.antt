@@ -1,5 +1,5 @@
 -- How answers follow one another.
-use Rattle.std.specs.Prelude.{Bool, true, false, Result, Ok, Err, reverse, if◌then◌else◌}
+use Rattle.std.specs.Prelude.{Bool, Result, reverse}
 use Rattle.std.proofs.Common.{◌≡◌, ℕ, List, [], ◌∷◌, ◌++◌, ◌+◌, ◌==◌, ◌<◌, ◌≤◌, suc, length, ◌-◌, map, drop, take, get_or, add-one, drop-cons, append_assoc, length-append, length-drop, refl, ap, sym, subst, ◌∙◌, rules, arith}
 use Rattle.std.proofs.Math.Dec.{eqb-suc-zero}
 use Rattle.std.proofs.lemmas.List.{drop_all, append-nil, take_all, take_more, map-append, reverse-append, length-map}
@@ -7,7 +7,7 @@ use Rattle.xt_names.specs.declared.codes.Code.{Code}
 use Rattle.expr_terms.specs.declared.productions.Production.{Production}
 use Rattle.expr_terms.specs.declared.raws.Raw.{Raw}
 use Rattle.expr_terms.specs.declared.raws.Raw.TheVariants.{Node as node, outs-Node}
-use Rattle.expr_terms.specs.declared.raws.Raw.TheOpen.{Raw-F, Node}
+use Rattle.expr_terms.specs.declared.raws.Raw.TheOpen.{Node}
 use Rattle.expr_terms.specs.declared.raws.Raw.TheFolds.{map-Raw, fold_out-Raw}
 use Rattle.expr_terms.specs.declared.raws.Raw.TheViews.{out-Raw}
 use Rattle.expr_meant.specs.declared.meant.Meant.{Meant}

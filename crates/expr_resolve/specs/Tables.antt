@@ -1,5 +1,5 @@
 -- Which family a production is of, and what it means from what its parts mean.
-use Rattle.std.specs.Prelude.{List, [], ◌∷◌, Bool, true, false}
+use Rattle.std.specs.Prelude.{List, [], Bool, true, false}
 use Rattle.xt_names.specs.declared.codes.Code.{Code}
 use Rattle.expr_terms.specs.declared.productions.Production.{Production}
 use Rattle.expr_terms.specs.declared.productions.Production.TheVariants as production

@@ -1,5 +1,5 @@
 -- The names and types that parts mean; a prefix that is not declared has no uri here (XPath 2.0, 2.1.1).
-use Rattle.std.specs.Prelude.{ℕ, List, [], ◌∷◌, Option}
+use Rattle.std.specs.Prelude.{ℕ, List, [], Option}
 use Rattle.xt_names.specs.declared.names.Binding.{Binding}
 use Rattle.xt_names.specs.declared.names.ExprName.{ExprName}
 use Rattle.xt_names.specs.declared.names.Name.{Name}

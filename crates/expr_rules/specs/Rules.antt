@@ -1,11 +1,10 @@
 -- The static rules that a part of a production can break (XPath 2.0, 2.1.1, 2.5 and 3.2.1.1; XQuery 1.0, 3.7.1.1).
-use Rattle.std.specs.Prelude.{ℕ, List, [], ◌∷◌, ◌++◌, Bool, true, false, Option, Some, None, if◌then◌else◌}
+use Rattle.std.specs.Prelude.{ℕ, List, [], ◌∷◌, ◌++◌, Bool, if◌then◌else◌}
 use Rattle.xt_names.specs.declared.names.Binding.{Binding}
 use Rattle.xt_names.specs.declared.names.Name.{Name}
-use Rattle.xt_names.specs.declared.kinds.AtomType.{AtomType}
 use Rattle.xt_names.specs.declared.codes.Code.{Code}
 use Rattle.xt_names.specs.declared.codes.Code.TheVariants.{QueryStatic}
-use Rattle.xt_names.specs.declared.codes.QueryStaticCode.TheVariants.{XPST0010, XPST0017, XQST0040}
+use Rattle.xt_names.specs.declared.codes.QueryStaticCode.TheVariants.{XPST0010, XQST0040}
 use Rattle.xt_syntax.specs.declared.exprs.Expr.{Expr}
 use Rattle.expr_names.specs.Names.{undeclared_in, test_broken}
 use Rattle.expr_names.specs.Types.{type_named, call_type, known_broken, cast_broken, arity_broken}

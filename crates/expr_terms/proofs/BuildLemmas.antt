@@ -1,9 +1,9 @@
 -- Values of productions whose parts stand in a Vec.
-use Rattle.std.proofs.Common.{Bool, true, false, ◌++◌, ◌≡◌, ◌≢◌, ℕ, ◌+◌, List, [], ◌∷◌, Option, Some, None, is_some, refl, sym, ◌∙◌, ap, length, arith, length-append}
+use Rattle.std.proofs.Common.{true, false, ◌++◌, ◌≡◌, ◌≢◌, ◌+◌, List, [], ◌∷◌, Option, Some, None, is_some, refl, sym, ◌∙◌, ap, length, arith, length-append}
 use Rattle.expr_terms.specs.declared.raws.Raw.TheViews.{out-Raw}
 use Rattle.expr_terms.specs.declared.raws.Raw.TheOpen.{Raw-F, Leaf, Node}
 use Rattle.expr_terms.specs.Productions.{Production, parens, otherwise, conditional, passes}
-use Rattle.expr_terms.specs.Raws.{Raw, node, as_parens, only_parens, as_chain, only_chain, as_inner_chain, only_inner, as_last, as_parts, as_else, chain_or, in_chain, build_parens, build_else, build_chain, build_plain}
+use Rattle.expr_terms.specs.Raws.{Raw, node, only_parens, as_chain, only_chain, as_inner_chain, only_inner, as_last, as_parts, as_else, chain_or, in_chain, build_parens, build_else, build_chain, build_plain}
 
 longer : (xs : List Raw) (x v : Raw) → length ((x ∷ xs) ++ v ∷ []) ≡ 1 → ⊥
 longer xs x v e = omega (arith, length-append (x ∷ xs) (v ∷ []))

@@ -1,7 +1,6 @@
 -- How deep a raw value nests: as the expression that it means does.
-use Rattle.std.specs.Prelude.{ℕ, ◌+◌, ◌-◌, ◌==◌, max, Bool, true, false, ◌||◌, List, [], ◌∷◌, if◌then◌else◌}
+use Rattle.std.specs.Prelude.{ℕ, ◌+◌, ◌-◌, ◌==◌, max, Bool, true, false, List, [], ◌∷◌, if◌then◌else◌}
 use Rattle.expr_terms.specs.Productions.{Level, ors, ands, Production, listing, conditional, otherwise, flwor, quantified, chain, signed, rooted, root_steps, rooted_deep, steps, deep_after, axis_step, attribute_step, test_step, parent_step, filter_step, number, literal, variable, parens, context, call, computed, constructed, pi_constructed, enclosing, element, child}
-use Rattle.expr_terms.specs.Tokens.{Token}
 use Rattle.expr_terms.specs.declared.raws.Raw.{Raw}
 use Rattle.expr_terms.specs.declared.raws.Raw.TheFolds.{fold-Raw}
 use Rattle.expr_terms.specs.declared.raws.Raw.TheOpen.{Raw-F, Leaf, Node}

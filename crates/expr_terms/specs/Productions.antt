@@ -1,6 +1,6 @@
 -- The grammar of XPath expressions and of the expressions of queries as a table of productions (XPath 2.0, A.1; XQuery 1.0, A.1).
 use Rattle.std.specs.Prelude.{ℕ, pos, int_le, nat_eq, Bool, true, false, ◌||◌, if◌then◌else◌, List, [], ◌∷◌}
-use Rattle.expr_terms.specs.Keys.{Key, open_paren, close_paren, open_bracket, close_bracket, open_brace, close_brace, comma, dot, dots, slash, slashes, at_sign, colons, bar, plus, minus, star, equal, not_equal, less, less_equal, greater, greater_equal, before, after, dollar, question, semicolon, assign, if_word, then_word, else_word, for_word, in_word, return_word, some_word, every_word, satisfies_word, let_word, at_word, where_word, order_word, by_word, stable_word, ascending_word, descending_word, empty_word, least_word, as_word, of_word, instance_word, treat_word, castable_word, cast_word, to_word, union_word, intersect_word, except_word, idiv_word, mod_word, and_word, or_word, is_word, eq_word, ne_word, lt_word, le_word, gt_word, ge_word, document_word, ancestor_word, ancestor_or_self_word, child_word, descendant_word, descendant_or_self_word, following_word, following_sibling_word, namespace_word, parent_word, preceding_word, preceding_sibling_word, self_word, attribute_word, comment_word, document_node_word, element_word, empty_sequence_word, item_word, node_word, pi_word, schema_attribute_word, schema_element_word, text_word, typeswitch_word}
+use Rattle.expr_terms.specs.Keys.{Key, open_paren, close_paren, open_bracket, close_bracket, open_brace, close_brace, comma, dot, dots, slash, slashes, at_sign, colons, plus, minus, star, dollar, question, assign, if_word, then_word, else_word, for_word, in_word, return_word, some_word, every_word, satisfies_word, let_word, at_word, where_word, order_word, by_word, stable_word, ascending_word, descending_word, empty_word, least_word, as_word, of_word, instance_word, treat_word, castable_word, cast_word, document_word, attribute_word, comment_word, document_node_word, element_word, empty_sequence_word, item_word, node_word, pi_word, text_word}
 use Rattle.expr_terms.specs.TokenNames as token
 use Rattle.expr_terms.specs.Tokens.{Token, force, fits_name, fits_word, fits_axis, fits_function, fits_wild, fits_key}
 pub use Rattle.expr_terms.specs.declared.productions.Language.{Language}

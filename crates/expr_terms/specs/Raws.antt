@@ -1,6 +1,5 @@
 -- The values: what was read, by its productions.
 use Rattle.std.specs.Prelude.{Bool, true, false, List, [], ◌∷◌, ◌++◌, Option, Some, None, is_some, if◌then◌else◌}
-use Rattle.expr_terms.specs.TokenNames as token
 use Rattle.expr_terms.specs.Tokens.{Token}
 use Rattle.expr_terms.specs.Productions.{Class, Production, parens, conditional, otherwise, keeps, passes}
 pub use Rattle.expr_terms.specs.declared.raws.Raw.{Raw}

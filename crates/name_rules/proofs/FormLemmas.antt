@@ -1,5 +1,5 @@
 -- The rules of a form are those of its parts.
-use Rattle.std.proofs.Common.{◌≡◌, ℕ, List, ◌++◌, Bool, Option, Some, None, ◌⊎◌, inl, inr, length, map, refl, ap, sym, ◌∙◌}
+use Rattle.std.proofs.Common.{◌≡◌, List, ◌++◌, Bool, Option, Some, None, ◌⊎◌, inl, inr, length, map, refl, ap, sym, ◌∙◌}
 use Rattle.std.proofs.lemmas.List.{length-map}
 use Rattle.std.specs.Prelude.{option_map}
 use Rattle.xt_names.specs.declared.codes.Code.{Code}

@@ -1,6 +1,6 @@
 -- The forms of an expression, and what it is where it has none of them.
-use Rattle.std.proofs.Common.{◌≡◌, ℕ, ℤ, pos, List, [], ◌∷◌, map, refl, ap, ap₂, sym, ◌∙◌, Bool, true, false, cond, subst, codes, length, ◌<◌, ◌≤◌, arith, rules}
-use Rattle.std.specs.Prelude.{if◌then◌else◌, not, Option, Some, None, nat_eq, ◌==◌}
+use Rattle.std.proofs.Common.{◌≡◌, ℕ, ℤ, pos, List, [], ◌∷◌, map, refl, ap, sym, ◌∙◌, Bool, true, false, subst, codes, length, ◌<◌, ◌≤◌, arith, rules}
+use Rattle.std.specs.Prelude.{if◌then◌else◌, not, None, ◌==◌}
 use Rattle.xt_names.specs.declared.kinds.CompareOp.{CompareOp}
 use Rattle.xt_names.specs.declared.kinds.CompareOp.TheVariants.{Eq}
 use Rattle.xt_names.specs.declared.names.ExprName.{ExprName}
@@ -9,7 +9,7 @@ use Rattle.xt_syntax.specs.declared.exprs.Expr.{Expr}
 use Rattle.xt_syntax.specs.declared.exprs.Expr.TheVariants as expr
 use Rattle.xt_syntax.specs.declared.exprs.Expr.TheVariants.{rolls-Int, rolls-Str, rolls-General, rolls-Call}
 use Rattle.xt_syntax.specs.declared.exprs.Clause.TheViews.{out-Expr, roll-Expr, roll-out-Expr}
-use Rattle.xt_syntax.specs.declared.exprs.Clause.TheOpen.{Expr-F, Int, Str, Or, And, General, Slash, Step, Call}
+use Rattle.xt_syntax.specs.declared.exprs.Clause.TheOpen.{Int, Str, Or, And, General, Slash, Step, Call}
 use Rattle.xt_atoms.specs.declared.atoms.Atom.TheVariants as atom
 use Rattle.std.specs.List.{list_all, list_any}
 use Rattle.std.specs.Str.{bytes_eq}
@@ -17,13 +17,13 @@ use Rattle.xt_forms.specs.Quiet.{quiet_call}
 use Rattle.xt_forms.specs.declared.quiet_calls.QuietCall.{QuietCall}
 use Rattle.xt_forms.specs.declared.quiet_calls.QuietCall.TheVariants as call
 use Rattle.step_walks.specs.Nodes.{Focus, Nodes, step_nodes}
-use Rattle.quiet_meaning.specs.Values.{compares, some_compares, name_text}
-use Rattle.quiet_meaning.specs.Quietly.{Quietly, integer, literal, position, last, text_of, count_of, attribute, step, path, condition, numeric, conjunction, other, quietly_of, holds_at, has_some, is_pattern_form, is_truth, is_predicate, is_conjunction, is_attribute_name, holds_all, any_of, all_of, stepped, slashed, with_step, compared, compared_with_integer, compared_with_literal, compared_with_last, some_in, counted, called, called_with, call_gives}
-use Rattle.quiet_meaning.specs.Paths.{is_path_form, nodes_of_form}
+use Rattle.quiet_meaning.specs.Values.{compares, some_compares}
+use Rattle.quiet_meaning.specs.Quietly.{Quietly, integer, literal, position, last, attribute, step, path, condition, conjunction, other, quietly_of, holds_at, has_some, is_pattern_form, is_truth, is_predicate, is_conjunction, is_attribute_name, holds_all, stepped, slashed, with_step, compared, compared_with_integer, compared_with_literal, compared_with_last, some_in, counted, called, called_with, call_gives}
+use Rattle.quiet_meaning.specs.Paths.{nodes_of_form}
 use Rattle.quiet_meaning.proofs.FormLemmas.{gives_quietly, rolled_quietly}
 use Rattle.quiet_meaning.proofs.HoldLemmas.{path_holds, slashed_form, stepped_form, text_compares}
-use Rattle.quiet_eval.specs.Subjects.{Layer, is_not, only, subject_of, subject_part, decided_by, path_part, nodes_at, is_junction_in, is_junction, focus}
-use Rattle.quiet_eval.proofs.SubjectLemmas.{quietly_out, literal_operand, operand, slash_path, step_path}
+use Rattle.quiet_eval.specs.Subjects.{Layer, is_not, only, subject_of, subject_part, decided_by, path_part, nodes_at, is_junction_in, is_junction}
+use Rattle.quiet_eval.proofs.SubjectLemmas.{quietly_out, literal_operand, slash_path, step_path}
 use Rattle.quiet_eval.proofs.JudgeLemmas.{exists_holds, any_operand, all_operand, compared_result, not_operand}
 
 pub integer_is : (n : ℤ) → quietly_of (expr.Int n) ≡ integer n

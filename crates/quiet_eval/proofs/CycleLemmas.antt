@@ -1,8 +1,8 @@
 -- The loops of predicates and paths.
-use Rattle.std.proofs.Common.{◌≡◌, ℕ, zero, suc, ◌+◌, ◌<◌, ◌≤◌, List, [], ◌∷◌, ◌++◌, map, drop, length, get_or, refl, ap, ap₂, sym, ◌∙◌, subst, Bool, true, false, arith, rules, append_assoc}
-use Rattle.std.specs.Prelude.{Option, Some, None, if◌then◌else◌, Result, Ok, Err, not}
+use Rattle.std.proofs.Common.{◌≡◌, ℕ, zero, suc, ◌+◌, ◌<◌, ◌≤◌, List, [], ◌∷◌, ◌++◌, map, drop, length, get_or, refl, ap, sym, ◌∙◌, subst, Bool, true, false, arith}
+use Rattle.std.specs.Prelude.{if◌then◌else◌, Result, Ok, Err}
 use Rattle.std.specs.Result.{IfOk}
-use Rattle.std.specs.List.{list_all, list_any, filter}
+use Rattle.std.specs.List.{list_all, filter}
 use Rattle.std.proofs.lemmas.Bool.{and_parts}
 use Rattle.xt_types.specs.declared.axes.Axis.{Axis}
 use Rattle.xt_types.specs.declared.node_tests.Test.{Test}
@@ -11,7 +11,7 @@ use Rattle.xt_syntax.specs.declared.exprs.Expr.{Expr}
 use Rattle.xt_syntax.specs.declared.exprs.Expr.TheVariants as expr
 use Rattle.xt_syntax.specs.declared.exprs.Expr.TheVariants.{rolls-Or, rolls-And, rolls-Slash, rolls-Step}
 use Rattle.xt_syntax.specs.declared.exprs.Clause.TheViews.{out-Expr, roll-Expr, roll-out-Expr}
-use Rattle.xt_syntax.specs.declared.exprs.Clause.TheOpen.{Expr-F, Or, And, General, Slash, Step, Call}
+use Rattle.xt_syntax.specs.declared.exprs.Clause.TheOpen.{Or, And, General, Slash, Step, Call}
 use Rattle.xt_forms.specs.Quiet.{quiet_call}
 use Rattle.node_tests.specs.Tests.{passes_at}
 use Rattle.node_axes.specs.Axes.{axis_nodes}

@@ -1,28 +1,26 @@
 -- What decides a predicate that stands alone.
-use Rattle.std.proofs.Common.{◌≡◌, ℕ, ℤ, pos, List, [], ◌∷◌, map, refl, ap, sym, ◌∙◌, Bool, true, false, cond, subst, codes, length}
-use Rattle.std.specs.Prelude.{if◌then◌else◌, not, Option, Some, None, nat_eq}
+use Rattle.std.proofs.Common.{◌≡◌, ℕ, ℤ, List, [], ◌∷◌, map, refl, ap, sym, ◌∙◌, Bool, true, false, subst, codes, length}
+use Rattle.std.specs.Prelude.{if◌then◌else◌, not, Option, Some, None}
 use Rattle.std.specs.List.{list_all, list_any}
 use Rattle.std.specs.Str.{bytes_eq}
 use Rattle.xt_names.specs.declared.kinds.CompareOp.{CompareOp}
-use Rattle.xt_types.specs.declared.axes.Axis.{Axis}
-use Rattle.xt_types.specs.declared.node_tests.Test.{Test}
 use Rattle.xt_tree.specs.Place.{Place}
 use Rattle.xt_syntax.specs.declared.exprs.Expr.{Expr}
 use Rattle.xt_syntax.specs.declared.exprs.Clause.TheViews.{out-Expr}
-use Rattle.xt_syntax.specs.declared.exprs.Clause.TheOpen.{Expr-F, Int, Str, Or, And, General, Slash, Step, Call}
+use Rattle.xt_syntax.specs.declared.exprs.Clause.TheOpen.{Int, Str, Or, And, General, Slash, Step, Call}
 use Rattle.xt_atoms.specs.declared.atoms.Atom.TheVariants as atom
 use Rattle.xt_forms.specs.Quiet.{quiet_call}
 use Rattle.xt_forms.specs.declared.quiet_calls.QuietCall.{QuietCall}
 use Rattle.xt_forms.specs.declared.quiet_calls.QuietCall.TheVariants as call
-use Rattle.step_walks.specs.Nodes.{Focus, Nodes}
+use Rattle.step_walks.specs.Nodes.{Focus}
 use Rattle.quiet_meaning.specs.Values.{compares, some_compares, name_text}
-use Rattle.quiet_meaning.specs.Quietly.{Quietly, integer, literal, position, last, text_of, count_of, attribute, step, path, condition, numeric, conjunction, other, quietly_of, holds_at, has_some, is_pattern_form, is_truth, is_predicate, any_of, all_of, holds_all, is_conjunction, is_attribute_name, stepped, slashed, with_step, compared, compared_with_integer, compared_with_literal, compared_with_last, negated, some_in, counted, called, called_with, call_gives}
+use Rattle.quiet_meaning.specs.Quietly.{Quietly, integer, literal, position, last, text_of, count_of, attribute, step, path, condition, conjunction, other, quietly_of, holds_at, has_some, is_pattern_form, is_truth, any_of, all_of, holds_all, is_conjunction, stepped, slashed, compared, compared_with_integer, compared_with_literal, compared_with_last, negated, some_in, counted, called, called_with, call_gives}
 use Rattle.quiet_meaning.specs.Paths.{is_path_form, nodes_of_form, number_in}
 use Rattle.quiet_meaning.proofs.FormLemmas.{gives_quietly}
 use Rattle.quiet_meaning.proofs.PathLemmas.{any_no_path, all_no_path, compared_no_path}
-use Rattle.quiet_meaning.proofs.HoldLemmas.{exists_is, path_holds, slashed_form, stepped_form, counted_is, number_compares, node_compares, text_compares}
-use Rattle.quiet_eval.specs.Subjects.{Layer, is_not, is_last, only, negated_in, negated_part, subject_of, subject_part, decided_by, path_part, nodes_at, is_junction_in, is_junction, number_at, call_number, subject_number}
-use Rattle.quiet_eval.proofs.SubjectLemmas.{quietly_out, is_operand, integer_operand, literal_operand, last_operand, operand, if_operand, some_operand, counted_path, call_path, slash_path, step_path, counted_not, no_truth}
+use Rattle.quiet_meaning.proofs.HoldLemmas.{exists_is, counted_is, node_compares}
+use Rattle.quiet_eval.specs.Subjects.{Layer, is_not, is_last, only, subject_of, subject_part, nodes_at, number_at, call_number, subject_number}
+use Rattle.quiet_eval.proofs.SubjectLemmas.{quietly_out, is_operand, integer_operand, literal_operand, if_operand, some_operand, counted_path, slash_path, step_path, counted_not, no_truth}
 
 -- calls
 

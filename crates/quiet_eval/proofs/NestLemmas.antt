@@ -1,9 +1,6 @@
 -- The parts of a predicate nest less than it does.
-use Rattle.std.proofs.Common.{◌≡◌, ℕ, zero, suc, ◌+◌, ◌*◌, ◌<◌, ◌≤◌, max, List, [], ◌∷◌, map, length, get_or, refl, ap, ap₂, sym, ◌∙◌, subst, Bool, true, false, arith}
-use Rattle.std.specs.Prelude.{Option, Some, None, if◌then◌else◌}
-use Rattle.xt_names.specs.declared.names.ExprName.{ExprName}
-use Rattle.xt_types.specs.declared.axes.Axis.{Axis}
-use Rattle.xt_types.specs.declared.node_tests.Test.{Test}
+use Rattle.std.proofs.Common.{◌≡◌, ℕ, zero, suc, ◌+◌, ◌<◌, ◌≤◌, max, List, [], ◌∷◌, map, length, get_or, ap, sym, ◌∙◌, Bool, true, false, arith}
+use Rattle.std.specs.Prelude.{Some, None, if◌then◌else◌}
 use Rattle.xt_syntax.specs.declared.exprs.Expr.{Expr}
 use Rattle.xt_syntax.specs.declared.exprs.Arm.{Arm}
 use Rattle.xt_syntax.specs.declared.exprs.Clause.{Clause}
@@ -17,7 +14,7 @@ use Rattle.xt_syntax.specs.declared.exprs.Expr.TheVariants as expr
 use Rattle.xt_syntax.specs.declared.exprs.Expr.TheVariants.{rolls-Or, rolls-And}
 use Rattle.xt_syntax.specs.declared.exprs.Clause.TheViews.{out-Expr}
 use Rattle.xt_syntax.specs.declared.exprs.Clause.TheFolds.{map-Expr, fold_out-Expr, fold-roll-Expr}
-use Rattle.xt_syntax.specs.declared.exprs.Clause.TheOpen.{Expr-F, Or, And, General, Slash, Step, Call}
+use Rattle.xt_syntax.specs.declared.exprs.Clause.TheOpen.{Or, And, General, Slash, Step, Call}
 use Rattle.xt_syntax.specs.Layers.{ExprLayer}
 use Rattle.xt_forms.specs.Nest.{greatest, nests, expr_nest, nest_of, arm_nest_of, bind_nest_of, clause_nest_of, order_nest_of, name_nest_of, part_nest_of, attr_nest_of, flwor_nest_of}
 use Rattle.xt_forms.specs.Quiet.{quiet_call}

@@ -1,25 +1,24 @@
 -- By which path a predicate is decided, and that it is one.
-use Rattle.std.proofs.Common.{◌≡◌, ℕ, ℤ, List, [], ◌∷◌, map, refl, ap, sym, ◌∙◌, Bool, true, false, cond, subst, codes}
-use Rattle.std.specs.Prelude.{if◌then◌else◌, not, Option, Some, None}
+use Rattle.std.proofs.Common.{◌≡◌, ℕ, ℤ, List, [], ◌∷◌, map, refl, sym, Bool, true, false, subst, codes}
+use Rattle.std.specs.Prelude.{if◌then◌else◌, not, Some, None}
 use Rattle.std.specs.List.{list_all}
 use Rattle.std.specs.Str.{bytes_eq}
 use Rattle.xt_names.specs.declared.kinds.CompareOp.{CompareOp}
 use Rattle.xt_types.specs.declared.axes.Axis.{Axis}
 use Rattle.xt_types.specs.declared.node_tests.Test.{Test}
-use Rattle.xt_tree.specs.Place.{Place}
 use Rattle.xt_syntax.specs.declared.exprs.Expr.{Expr}
 use Rattle.xt_syntax.specs.declared.exprs.Clause.TheViews.{out-Expr}
 use Rattle.xt_syntax.specs.declared.exprs.Clause.TheFolds.{fold_out-Expr}
-use Rattle.xt_syntax.specs.declared.exprs.Clause.TheOpen.{Expr-F, Int, Str, Or, And, General, Slash, Step, Call}
+use Rattle.xt_syntax.specs.declared.exprs.Clause.TheOpen.{General, Slash, Step, Call}
 use Rattle.xt_forms.specs.Quiet.{quiet_call}
 use Rattle.xt_forms.specs.declared.quiet_calls.QuietCall.{QuietCall}
 use Rattle.xt_forms.specs.declared.quiet_calls.QuietCall.TheVariants as call
 use Rattle.step_walks.specs.Nodes.{Focus, Nodes}
-use Rattle.quiet_meaning.specs.Quietly.{Quietly, integer, literal, position, last, text_of, count_of, attribute, step, path, condition, numeric, conjunction, other, quietly_of, holds_at, has_some, is_pattern_form, is_truth, is_predicate, any_of, all_of, is_attribute_name, stepped, slashed, with_step, compared, compared_with_integer, compared_with_literal, compared_with_last, negated, some_in, counted, called, called_with, call_gives}
-use Rattle.quiet_meaning.specs.Paths.{is_path_form, nodes_of_form}
+use Rattle.quiet_meaning.specs.Quietly.{Quietly, integer, literal, position, last, text_of, count_of, attribute, step, path, condition, other, quietly_of, holds_at, is_pattern_form, is_truth, is_predicate, is_attribute_name, stepped, slashed, with_step, compared, compared_with_integer, compared_with_literal, compared_with_last, negated, some_in, counted, called_with, call_gives}
+use Rattle.quiet_meaning.specs.Paths.{is_path_form}
 use Rattle.quiet_meaning.proofs.FormLemmas.{gives_quietly}
-use Rattle.quiet_meaning.proofs.HoldLemmas.{negated_is, exists_is, path_holds, slashed_form, stepped_form}
-use Rattle.quiet_eval.specs.Subjects.{Layer, is_not, only, negated_in, negated_part, subject_of, subject_part, decided_by, path_part, nodes_at, is_junction_in, is_junction}
+use Rattle.quiet_meaning.proofs.HoldLemmas.{negated_is, exists_is, slashed_form, stepped_form}
+use Rattle.quiet_eval.specs.Subjects.{Layer, is_not, only, negated_in, negated_part, subject_of, subject_part, decided_by, path_part, is_junction_in, is_junction}
 
 pub quietly_out : (e : Expr) → quietly_of e ≡ gives_quietly (out-Expr e)
 quietly_out e = fold_out-Expr _ _ _ _ _ _ _ _ _ _ _ _ _ _ _ _ _ _ e

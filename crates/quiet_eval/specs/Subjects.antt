@@ -12,7 +12,7 @@ use Rattle.xt_syntax.specs.declared.exprs.NameSource.{NameSource}
 use Rattle.xt_syntax.specs.declared.exprs.DirectAttr.{DirectAttr}
 use Rattle.xt_syntax.specs.declared.exprs.Part.{Part}
 use Rattle.xt_syntax.specs.declared.exprs.Clause.TheViews.{out-Expr}
-use Rattle.xt_syntax.specs.declared.exprs.Clause.TheOpen.{Expr-F, Int, Str, Or, And, General, Slash, Step, Call}
+use Rattle.xt_syntax.specs.declared.exprs.Clause.TheOpen.{Expr-F, Or, And, General, Slash, Step, Call}
 use Rattle.xt_forms.specs.Quiet.{quiet_call}
 use Rattle.xt_forms.specs.declared.quiet_calls.QuietCall.{QuietCall}
 use Rattle.xt_forms.specs.declared.quiet_calls.QuietCall.TheVariants as call

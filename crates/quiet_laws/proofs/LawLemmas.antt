@@ -25,7 +25,7 @@ use Rattle.xt_forms.specs.Quiet.{quiet_call}
 use Rattle.xt_forms.specs.declared.quiet_calls.QuietCall.TheVariants as call
 use Rattle.node_axes.proofs.FilterLemmas.{In}
 use Rattle.step_walks.specs.Nodes.{Focus, Nodes, step_nodes, slash_nodes, nodes_of_each, in_tree_order}
-use Rattle.step_walks.proofs.OrderLemmas.{Found, found, some_in as passing_in, in_tree_order_from, in_tree_order_to}
+use Rattle.step_walks.proofs.OrderLemmas.{found, some_in as passing_in, in_tree_order_from, in_tree_order_to}
 use Rattle.step_walks.proofs.NodeLemmas.{step_found_within, each_within}
 use Rattle.quiet_meaning.specs.Values.{is_true, compares, some_compares, name_text}
 use Rattle.quiet_meaning.specs.Quietly.{Quietly, integer, position, last, text_of, attribute, step, path, quietly_of, holds_at, holds_quietly, has_some, is_truth, any_of, all_of, stepped, slashed, negated, some_in, counted, compared, compared_with_integer, compared_with_literal, call_gives, called, called_with}

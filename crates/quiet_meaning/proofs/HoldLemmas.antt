@@ -1,20 +1,16 @@
 -- What a predicate keeps, form by form, where it has a meaning as a predicate.
-use Rattle.std.proofs.Common.{◌≡◌, ℕ, ℤ, pos, List, [], ◌∷◌, map, refl, ap, ap₂, sym, ◌∙◌, Bool, true, false, cond, subst, codes}
-use Rattle.std.specs.Prelude.{if◌then◌else◌, ◌&&◌, ◌||◌, not, Option, Some, None, length}
+use Rattle.std.proofs.Common.{◌≡◌, ℕ, ℤ, pos, List, [], ◌∷◌, map, refl, sym, ◌∙◌, Bool, true, false}
+use Rattle.std.specs.Prelude.{if◌then◌else◌, ◌&&◌, ◌||◌, not, Some, None, length}
 use Rattle.std.specs.List.{list_all, list_any}
-use Rattle.std.specs.Str.{bytes_eq}
 use Rattle.std.proofs.lemmas.Bool.{and_parts}
 use Rattle.xt_names.specs.declared.kinds.CompareOp.{CompareOp}
 use Rattle.xt_types.specs.declared.axes.Axis.{Axis}
 use Rattle.xt_types.specs.declared.node_tests.Test.{Test}
 use Rattle.xt_tree.specs.Place.{Place}
-use Rattle.xt_atoms.specs.declared.atoms.Atom.{Atom}
 use Rattle.xt_atoms.specs.declared.atoms.Atom.TheVariants as atom
-use Rattle.xt_forms.specs.declared.quiet_calls.QuietCall.{QuietCall}
-use Rattle.xt_forms.specs.declared.quiet_calls.QuietCall.TheVariants as call
 use Rattle.step_walks.specs.Nodes.{Focus, Nodes, step_nodes, slash_nodes}
-use Rattle.quiet_meaning.specs.Values.{compares, some_compares, name_text}
-use Rattle.quiet_meaning.specs.Quietly.{Quietly, integer, literal, position, last, text_of, count_of, attribute, step, path, condition, numeric, conjunction, other, holds_at, has_some, is_truth, is_numeric, is_predicate, is_pattern_form, any_of, all_of, holds_all, is_conjunction, is_attribute_name, is_attribute_axis, is_named, is_bare, stepped, slashed, with_step, compared, compared_with_integer, compared_with_literal, compared_with_last, negated, some_in, counted, called, called_with, call_gives}
+use Rattle.quiet_meaning.specs.Values.{compares, some_compares}
+use Rattle.quiet_meaning.specs.Quietly.{Quietly, integer, position, last, count_of, attribute, step, path, condition, numeric, conjunction, other, holds_at, has_some, is_truth, is_numeric, is_predicate, is_pattern_form, any_of, all_of, holds_all, is_conjunction, is_attribute_name, is_attribute_axis, is_named, stepped, slashed, with_step, compared_with_integer, compared_with_literal, negated, some_in, counted}
 use Rattle.quiet_meaning.specs.Paths.{is_path_form, nodes_of_form}
 use Rattle.quiet_meaning.specs.Paths.{number_in}
 

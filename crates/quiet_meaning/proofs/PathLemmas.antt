@@ -1,12 +1,10 @@
 -- What expressions give in quiet predicates, form by form.
-use Rattle.std.proofs.Common.{◌≡◌, ℕ, ℤ, List, [], ◌∷◌, map, refl, ap, ap₂, sym, ◌∙◌, Bool, true, false, cond, subst}
-use Rattle.std.specs.Prelude.{if◌then◌else◌, ◌&&◌, ◌||◌, not, Option, Some, None, length}
-use Rattle.std.specs.List.{list_all, list_any}
-use Rattle.std.proofs.lemmas.Bool.{and_parts}
+use Rattle.std.proofs.Common.{◌≡◌, ℕ, ℤ, List, [], ◌∷◌, map, refl, sym, Bool, true, false, subst}
+use Rattle.std.specs.Prelude.{if◌then◌else◌, not}
+use Rattle.std.specs.List.{list_all}
 use Rattle.xt_names.specs.declared.kinds.CompareOp.{CompareOp}
 use Rattle.xt_types.specs.declared.axes.Axis.{Axis}
 use Rattle.xt_types.specs.declared.node_tests.Test.{Test}
-use Rattle.xt_tree.specs.Place.{Place}
 use Rattle.xt_syntax.specs.declared.exprs.Expr.{Expr}
 use Rattle.xt_syntax.specs.declared.exprs.Arm.{Arm}
 use Rattle.xt_syntax.specs.declared.exprs.Clause.{Clause}
@@ -16,20 +14,15 @@ use Rattle.xt_syntax.specs.declared.exprs.Bind.{Bind}
 use Rattle.xt_syntax.specs.declared.exprs.NameSource.{NameSource}
 use Rattle.xt_syntax.specs.declared.exprs.DirectAttr.{DirectAttr}
 use Rattle.xt_syntax.specs.declared.exprs.Part.{Part}
-use Rattle.xt_syntax.specs.declared.exprs.Clause.TheViews.{roll-Expr}
-use Rattle.xt_syntax.specs.declared.exprs.Clause.TheOpen.{Expr-F, Int, Str, Or, And, General, Slash, Step, Call}
-use Rattle.xt_forms.specs.Quiet as forms
+use Rattle.xt_syntax.specs.declared.exprs.Clause.TheOpen.{Expr-F, Or, And, General, Slash, Step, Call}
 use Rattle.xt_forms.specs.Quiet.{quiet_call}
 use Rattle.xt_forms.specs.declared.quiet_calls.QuietCall.{QuietCall}
 use Rattle.xt_forms.specs.declared.quiet_calls.QuietCall.TheVariants as call
-use Rattle.step_walks.specs.Nodes.{Focus, Nodes, step_nodes, slash_nodes}
-use Rattle.step_walks.specs.Sifted.{IsSizeFree, AreSizeFree}
-use Rattle.step_walks.specs.Within.{AreWithin}
+use Rattle.step_walks.specs.Nodes.{Nodes, step_nodes}
 use Rattle.step_walks.proofs.NodeLemmas.{Stays, slash_within, step_within}
-use Rattle.quiet_meaning.specs.Quietly.{Quietly, integer, literal, position, last, text_of, count_of, attribute, step, path, condition, numeric, conjunction, other, quietly_of, holds_at, has_some, is_truth, is_numeric, is_predicate, is_pattern_form, any_of, all_of, holds_all, is_conjunction, is_attribute_name, stepped, slashed, with_step, compared, compared_with_integer, compared_with_literal, compared_with_last, negated, some_in, counted, called, called_with, call_gives}
+use Rattle.quiet_meaning.specs.Quietly.{Quietly, integer, literal, position, last, attribute, step, path, condition, conjunction, other, quietly_of, holds_at, is_truth, is_predicate, any_of, all_of, holds_all, is_conjunction, is_attribute_name, stepped, slashed, with_step, compared, compared_with_integer, compared_with_literal, compared_with_last, negated, some_in, counted, called, called_with, call_gives}
 use Rattle.quiet_meaning.proofs.FormLemmas.{gives_quietly, rolled_quietly, each_expr}
-use Rattle.quiet_meaning.specs.Paths.{is_path_form, nodes_of_form, keeps, are_allowed}
-use Rattle.quiet_meaning.specs.Paths.{number_in}
+use Rattle.quiet_meaning.specs.Paths.{is_path_form, nodes_of_form}
 
 abbrev pub Layer : Type 0
 Layer = Expr-F Clause Expr NameSource Part Arm Bind DirectAttr FlworOf Order

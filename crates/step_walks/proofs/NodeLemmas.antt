@@ -1,13 +1,10 @@
 -- The nodes that steps and paths lead to, in whatever order and however often.
-use Rattle.std.proofs.Common.{◌≡◌, ℕ, ◌+◌, List, [], ◌∷◌, ◌++◌, map, reverse, length, Bool, true, false, cond, ◌⊎◌, inl, inr, refl, sym, ap, ap₂, subst, ◌∙◌}
+use Rattle.std.proofs.Common.{◌≡◌, ℕ, ◌+◌, List, [], ◌∷◌, ◌++◌, map, reverse, length, Bool, true, false, cond, inl, inr, refl, sym, ap, ap₂, subst, ◌∙◌}
 use Rattle.std.specs.Prelude.{if◌then◌else◌, ◌||◌}
 use Rattle.std.specs.List.{filter, list_any, Contains}
-use Rattle.std.proofs.lemmas.Bool.{both_ways}
 use Rattle.std.proofs.lemmas.List.Folds.{list_any-append}
-use Rattle.std.proofs.lemmas.List.Elements.{filter_agree}
 use Rattle.std.proofs.lemmas.List.Sorted.{IsPermutation-reverse, IsPermutation-sym, Contains-permutation}
-use Rattle.xt_tree.specs.declared.trees.Tree.{Tree}
-use Rattle.xt_tree.specs.Place.{Place, has_place}
+use Rattle.xt_tree.specs.Place.{Place}
 use Rattle.xt_tree.specs.Walk.{Spot, spots_of}
 use Rattle.xt_types.specs.declared.axes.Axis.{Axis}
 use Rattle.xt_types.specs.declared.node_tests.Test.{Test}
@@ -16,7 +13,7 @@ use Rattle.node_axes.specs.Axes.{is_itself, is_reverse, in_axis_order, on_axis, 
 use Rattle.node_axes.proofs.FilterLemmas.{In, In-from_Contains, Contains-from_In}
 use Rattle.step_walks.specs.Nodes.{Focus, Nodes, kept_from, kept_by, kept_by_all, in_tree_order, step_nodes, nodes_of_each, slash_nodes}
 use Rattle.step_walks.specs.Within.{IsWithin, AreWithin, SameNodes}
-use Rattle.step_walks.proofs.OrderLemmas.{Found, found, some_in, within_of, spot_within, at_spot, from_filter, in_tree_order_from, in_tree_order_to, is_one_of_nodes}
+use Rattle.step_walks.proofs.OrderLemmas.{found, some_in, spot_within, from_filter, in_tree_order_from, in_tree_order_to, is_one_of_nodes}
 
 pub are_within : (n : Place) (ms : List Place) → ((m : Place) → In m ms → IsWithin n m) → AreWithin n ms
 are_within n [] h = tt

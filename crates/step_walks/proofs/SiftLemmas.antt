@@ -1,5 +1,5 @@
 -- Predicates in turn, where the nodes come one by one.
-use Rattle.std.proofs.Common.{◌≡◌, ℕ, zero, suc, ◌+◌, ◌<◌, ◌≤◌, List, [], ◌∷◌, length, get_or, set, Bool, true, false, cond, refl, sym, ap, ap₂, ◌∙◌, arith, rules}
+use Rattle.std.proofs.Common.{◌≡◌, ℕ, zero, suc, ◌+◌, ◌<◌, ◌≤◌, List, [], ◌∷◌, length, get_or, set, Bool, true, false, refl, ap, ap₂, ◌∙◌, arith, rules}
 use Rattle.std.specs.Prelude.{if◌then◌else◌, replicate, nat_eq}
 use Rattle.xt_tree.specs.Place.{Place}
 use Rattle.step_walks.specs.Nodes.{Focus, kept_from, kept_by, kept_by_all}

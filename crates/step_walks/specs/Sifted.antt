@@ -1,5 +1,5 @@
 -- Predicates that filter in turn, where the nodes come one by one (XPath 2.0, 3.2.2).
-use Rattle.std.specs.Prelude.{◌≡◌, ℕ, zero, suc, ◌+◌, List, [], ◌∷◌, Bool, if◌then◌else◌, length, nat_eq}
+use Rattle.std.specs.Prelude.{◌≡◌, ℕ, zero, suc, ◌+◌, List, [], ◌∷◌, Bool, if◌then◌else◌}
 use Rattle.xt_tree.specs.Place.{Place}
 use Rattle.step_walks.specs.Nodes.{Focus, kept_from}
 

@@ -1,5 +1,5 @@
 -- What is quiet has a meaning as a predicate.
-use Rattle.std.proofs.Common.{◌≡◌, List, [], ◌∷◌, map, refl, Bool, true}
+use Rattle.std.proofs.Common.{◌≡◌, List, [], ◌∷◌, refl, true}
 use Rattle.std.specs.List.{list_all}
 use Rattle.std.proofs.lemmas.Bool.{and_parts}
 use Rattle.xt_syntax.specs.declared.exprs.Expr.{Expr}

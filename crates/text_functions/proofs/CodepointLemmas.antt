@@ -1,5 +1,5 @@
 -- Integers that are no code point of a character of XML.
-use Rattle.std.proofs.Common.{◌≡◌, ℕ, ◌<◌, ℤ, pos, negsuc, Result, Ok, Err, refl, arith, inr}
+use Rattle.std.proofs.Common.{◌≡◌, ℕ, ◌<◌, ℤ, pos, negsuc, Result, Err, refl, arith, inr}
 use Rattle.std.proofs.lemmas.Int.{ints}
 use Rattle.std.specs.Prelude.{◌<ℤ◌}
 use Rattle.xt_names.specs.declared.codes.Code.{Code}

@@ -1,5 +1,5 @@
 -- A text that no character is replaced in.
-use Rattle.std.proofs.Common.{◌≡◌, ℕ, List, [], ◌∷◌, ◌++◌, true, Result, Ok, Err, IfOk, refl, sym, ap, ◌∙◌}
+use Rattle.std.proofs.Common.{◌≡◌, ℕ, List, [], ◌∷◌, true, Result, Ok, Err, IfOk, refl, sym, ap, ◌∙◌}
 use Rattle.xt_names.specs.Allowed.{is_empty_text}
 use Rattle.text_operations.specs.Translations.{translated, partner}
 

@@ -1,6 +1,6 @@
 -- What the reading says of the tokens.
-use Rattle.std.proofs.Common.{◌≡◌, ◌↔◌, ◌≤◌, ◌<◌, ℕ, Bool, true, false, cond, nat_le, List, [], ◌∷◌, ◌++◌, Option, Some, None, Result, Ok, Err, refl, sym, subst, ap, ◌∙◌, ◌+◌, length, option_map, option_and_then, arith}
-use Rattle.std.proofs.lemmas.Bool.{le-leb, lt-leb, leb-true, leb-false}
+use Rattle.std.proofs.Common.{◌≡◌, ◌≤◌, ◌<◌, ℕ, Bool, true, false, cond, nat_le, List, [], ◌∷◌, ◌++◌, Option, Some, None, Result, Ok, Err, refl, sym, subst, ap, ◌∙◌, ◌+◌, length, option_map, option_and_then, arith}
+use Rattle.std.proofs.lemmas.Bool.{le-leb, leb-true, leb-false}
 use Rattle.std.proofs.lemmas.Option.{none-some, same_Some}
 use Rattle.xt_names.specs.declared.codes.Code.{Code}
 use Rattle.xt_syntax.specs.declared.exprs.Expr.{Expr}
@@ -12,16 +12,15 @@ use Rattle.expr_terms.specs.declared.productions.Language.TheVariants.{Xpath as 
 use Rattle.expr_terms.specs.Nest.{raw_nest_of}
 use Rattle.expr_tokens.specs.Terms.{Written, term_of, terms_of}
 use Rattle.expr_length.proofs.Within.{spelled_within}
-use Rattle.expr_grammar.specs.Grammar as grammar
 use Rattle.expr_grammar.specs.Machine.{read_whole}
-use Rattle.expr_grammar.proofs.Run.{runs_spells, refused, spells_runs}
+use Rattle.expr_grammar.proofs.Run.{runs_spells, spells_runs}
 use Rattle.expr_reader.specs.declared.readings.Reading.TheVariants as read
 use Rattle.expr_reader.specs.Answers.{within}
-use Rattle.expr_names.specs.Answers.{first, Answers}
+use Rattle.expr_names.specs.Answers.{first}
 use Rattle.expr_resolve.specs.declared.setting.Setting.{Setting}
 use Rattle.expr_resolve.specs.Folds.{broken_of, expr_meant}
-use Rattle.xpath_syntax.specs.Readings.{Answer, value, syntax, static, too_deep, value_or, resolved, answer_of, reading_of, reading_in, reading, Gives}
-use Rattle.xpath_syntax.specs.Spelled.{IsWritten, Spells, SpellsWithin, Breaks, BreaksFirst, IsTooDeep, Parsed}
+use Rattle.xpath_syntax.specs.Readings.{value, syntax, static, too_deep, value_or, resolved, answer_of, reading_in, reading, Gives}
+use Rattle.xpath_syntax.specs.Spelled.{IsWritten, Spells, SpellsWithin, Breaks, IsTooDeep, Parsed}
 
 pub resolved-none : (s : Setting) (raw : Raw) (e : Expr) → broken_of s raw ≡ [] → e ≡ expr_meant s raw → resolved s raw ≡ value e
 resolved-none s raw e b m = rw b (ap value (sym m))

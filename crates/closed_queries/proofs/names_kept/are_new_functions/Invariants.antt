@@ -1,5 +1,4 @@
 use Rattle.std.proofs.Common.{◌≡◌, [], drop}
-use Rattle.std.specs.List.{list_all}
 use Rattle.closed_queries.specs.Closed.{are_new_functions}
 use Rattle.closed_queries.proofs.names_kept.are_new_functions.Given as goal
 

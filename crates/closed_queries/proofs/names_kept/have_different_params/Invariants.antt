@@ -1,5 +1,4 @@
-use Rattle.std.proofs.Common.{◌≡◌, ◌++◌, drop}
-use Rattle.std.specs.List.{list_all}
+use Rattle.std.proofs.Common.{◌≡◌, drop}
 use Rattle.closed_queries.specs.Closed.{have_different_params}
 use Rattle.closed_queries.proofs.names_kept.have_different_params.Given as goal
 

@@ -1,4 +1,4 @@
-use Rattle.std.proofs.Common.{◌≡◌, ◌++◌, drop}
+use Rattle.std.proofs.Common.{◌≡◌, drop}
 use Rattle.std.specs.List.{list_all}
 use Rattle.closed_queries.specs.Closed.{value_keeps_names}
 use Rattle.closed_queries.proofs.names_kept.values_keep_names.Given as goal

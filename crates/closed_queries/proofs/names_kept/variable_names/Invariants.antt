@@ -1,5 +1,4 @@
 use Rattle.std.proofs.Common.{◌≡◌, ◌++◌, drop}
-use Rattle.std.specs.List.{list_all}
 use Rattle.closed_queries.specs.Closed.{variable_names}
 use Rattle.closed_queries.proofs.names_kept.variable_names.Given as goal
 

@@ -1,4 +1,4 @@
-use Rattle.std.proofs.Common.{◌≡◌, ◌++◌, drop}
+use Rattle.std.proofs.Common.{◌≡◌, drop}
 use Rattle.std.specs.List.{list_all}
 use Rattle.closed_queries.specs.Texts.{is_free_binding}
 use Rattle.closed_queries.proofs.parts.are_free_bindings.Given as goal

@@ -1,4 +1,4 @@
-use Rattle.std.proofs.Common.{◌≡◌, ◌++◌, drop}
+use Rattle.std.proofs.Common.{◌≡◌, drop}
 use Rattle.std.specs.List.{list_all}
 use Rattle.closed_queries.specs.Closed.{is_good_variable}
 use Rattle.closed_queries.proofs.parts.are_good_variables.Given as goal

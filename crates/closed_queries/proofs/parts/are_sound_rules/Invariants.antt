@@ -1,4 +1,4 @@
-use Rattle.std.proofs.Common.{◌≡◌, ◌++◌, drop}
+use Rattle.std.proofs.Common.{◌≡◌, drop}
 use Rattle.std.specs.List.{list_all}
 use Rattle.closed_queries.specs.Texts.{is_sound_name_test}
 use Rattle.closed_queries.proofs.parts.are_sound_rules.Given as goal

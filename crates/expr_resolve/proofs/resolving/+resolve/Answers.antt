@@ -1,4 +1,4 @@
-use Rattle.std.proofs.Common.{◌≡◌, ◌+◌, ◌==◌, ◌<◌, length, ap, arith}
+use Rattle.std.proofs.Common.{◌+◌, ◌==◌, ◌<◌, length, ap, arith}
 use Rattle.std.proofs.lemmas.Result.{err_from_is_err_and}
 use Rattle.expr_resolve.specs.Folds.{value_of, broken_of}
 use Rattle.expr_resolve.proofs.Follow.{made_first, made_step, made_exit}

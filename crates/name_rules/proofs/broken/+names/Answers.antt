@@ -1,4 +1,3 @@
-use Rattle.std.proofs.Common.{rules}
 use Rattle.name_rules.specs.Broken.{names_broken_of, arm_broken, clause_binder, bind_binder, order_broken, attr_broken, part_broken}
 use Rattle.name_rules.proofs.FormLemmas.{of_If, of_Quant, of_Filter, of_Call, of_Direct, of_named, of_two, of_arm, of_flwor}
 use Rattle.name_rules.proofs.LoopLemmas.{two_found, four_found, turn_in, turn_of_binders, turn_of_names}

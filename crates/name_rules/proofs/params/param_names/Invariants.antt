@@ -1,5 +1,4 @@
 use Rattle.std.proofs.Common.{◌≡◌, ◌++◌, drop}
-use Rattle.std.specs.List.{list_all}
 use Rattle.name_rules.specs.Scopes.{param_names}
 use Rattle.name_rules.proofs.params.param_names.Given as goal
 

@@ -1,6 +1,5 @@
-use Rattle.std.proofs.Common.{◌≡◌, ℕ, ◌+◌, ◌<◌, ◌≤◌, map, refl, ap, sym, ◌∙◌, length, arith, true, Some}
+use Rattle.std.proofs.Common.{◌≡◌, ℕ, ◌+◌, ◌<◌, ◌≤◌, map, refl, ap, sym, ◌∙◌, length, arith, Some}
 use Rattle.std.specs.Option.{option_copied}
-use Rattle.xt_forms.specs.Nest.{nest_of, greatest}
 use Rattle.quiet_meaning.specs.Quietly.{quietly_of, holds_at}
 use Rattle.quiet_meaning.specs.Paths.{nodes_of_form}
 use Rattle.step_walks.specs.Nodes.{nodes_of_each}

@@ -1,8 +1,7 @@
-use Rattle.std.proofs.Common.{◌≡◌, ◌+◌, ◌*◌, ◌++◌, map, drop, length, true, max}
-use Rattle.std.specs.List.{list_all}
+use Rattle.std.proofs.Common.{◌≡◌, ◌+◌, ◌*◌, ◌++◌, map, drop, length, max}
 use Rattle.xt_forms.specs.Nest.{nest_of, greatest}
 use Rattle.step_walks.specs.Nodes.{kept_from, kept_by, kept_by_all, nodes_of_each}
-use Rattle.quiet_meaning.specs.Quietly.{quietly_of, holds_at, is_pattern_form}
+use Rattle.quiet_meaning.specs.Quietly.{quietly_of, holds_at}
 use Rattle.quiet_meaning.specs.Paths.{nodes_of_form}
 use Rattle.quiet_eval.specs.Subjects.{decided, focus}
 use Rattle.quiet_eval.proofs.predicates.+holds.Given as goal

@@ -1,4 +1,4 @@
-use Rattle.std.proofs.Common.{◌∙◌, ap, ap₂, refl, Bool}
+use Rattle.std.proofs.Common.{◌∙◌, ap₂, refl, Bool}
 use Rattle.std.specs.Prelude.{if◌then◌else◌, not}
 use Rattle.xt_forms.specs.Quiet.{quiet_call}
 use Rattle.quiet_eval.specs.Subjects.{focus}

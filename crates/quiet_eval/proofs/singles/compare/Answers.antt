@@ -1,7 +1,7 @@
-use Rattle.std.proofs.Common.{◌≡◌, subst, true, ap, ◌∙◌, pos}
-use Rattle.quiet_meaning.specs.Quietly.{Quietly, quietly_of, is_pattern_form, compared}
+use Rattle.std.proofs.Common.{◌≡◌, subst, true, ◌∙◌}
+use Rattle.quiet_meaning.specs.Quietly.{Quietly, quietly_of, is_pattern_form}
 use Rattle.quiet_eval.specs.Subjects.{focus}
-use Rattle.quiet_eval.proofs.CaseLemmas.{integer_is, literal_is, last_compares, integer_right, literal_right}
+use Rattle.quiet_eval.proofs.CaseLemmas.{last_compares, integer_right, literal_right}
 use Rattle.quiet_eval.proofs.singles.compare.Goals as goal
 
 pub with_integer-requires-clause-form : goal.with_integer-requires-clause-form

@@ -1,6 +1,5 @@
-use Rattle.std.proofs.Common.{◌≡◌, ℕ, ◌+◌, ◌<◌, ◌≤◌, List, set, get_or, length, sym, ap, ap₂, ◌∙◌, subst, arith}
-use Rattle.step_walks.specs.Sifted.{raised}
-use Rattle.step_walks.proofs.SiftLemmas.{raised_none, not_raised, raised_length, raised_more, raised_all}
+use Rattle.std.proofs.Common.{ℕ, ◌+◌, ◌<◌, ◌≤◌, List, set, get_or, length, sym, ap, ap₂, ◌∙◌, arith}
+use Rattle.step_walks.proofs.SiftLemmas.{raised_none, not_raised, raised_more, raised_all}
 use Rattle.step_walks.proofs.positions.raise.Goals as goal
 
 pub loop-place-init : goal.loop-place-init

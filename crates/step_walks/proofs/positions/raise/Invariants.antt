@@ -1,4 +1,4 @@
-use Rattle.std.proofs.Common.{◌≡◌, ◌≤◌, ◌-◌, length}
+use Rattle.std.proofs.Common.{◌≡◌, ◌≤◌, ◌-◌}
 use Rattle.step_walks.specs.Sifted.{raised}
 use Rattle.step_walks.proofs.positions.raise.Given as goal
 

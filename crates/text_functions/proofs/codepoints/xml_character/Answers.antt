@@ -1,6 +1,6 @@
 use Rattle.std.proofs.Common.{◌≡◌, true, ℤ, pos, ◌<ℤ◌, FitsSigned, to_z, of_z, w64, rules, arith}
 use lib.Signed.{lt_z}
-use Rattle.std.proofs.lemmas.Int.{ints, to_z-of_z}
+use Rattle.std.proofs.lemmas.Int.{ints}
 use Rattle.text_functions.proofs.CodepointLemmas.{large_code}
 use Rattle.text_functions.proofs.codepoints.xml_character.Goals as goal
 
