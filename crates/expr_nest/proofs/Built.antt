@@ -1,5 +1,5 @@
 -- The nest of a value is that of its parts, and of one level more where it is a form of its own.
-use Rattle.std.proofs.Common.{◌≡◌, ℕ, ◌+◌, ◌-◌, ◌≤◌, max, map, Bool, true, false, cond, ◌&&◌, List, [], ◌∷◌, ◌++◌, Option, Some, None, is_some, refl, sym, ◌∙◌, ap, arith}
+use Rattle.std.proofs.Common.{◌≡◌, ℕ, ◌+◌, ◌≤◌, max, map, Bool, true, false, cond, ◌&&◌, List, [], ◌∷◌, ◌++◌, Option, Some, None, is_some, refl, sym, ◌∙◌, ap, arith}
 use Rattle.std.proofs.lemmas.Option.{none-some, same_Some}
 use Rattle.expr_terms.specs.declared.raws.Raw.TheViews.{out-Raw}
 use Rattle.expr_terms.specs.declared.raws.Raw.TheFolds.{map-Raw}
@@ -191,7 +191,7 @@ nest_of_build otherwise vs = else_nest vs
 nest_of_build conditional vs = chain_nest vs
 nest_of_build p vs = plain_nest p vs
 
-built_grows : (p : Production) (a : ℕ) (vs : List Raw) → a ≤ built_nest p a vs
+pub built_grows : (p : Production) (a : ℕ) (vs : List Raw) → a ≤ built_nest p a vs
 built_grows p a vs = go (is_parens p) (is_otherwise p) (is_conditional p) (only_inner vs) (is_alone vs && passes p)
   where
     go : (b c d e f : Bool) → a ≤ cond b (max 1 a) (cond c (cond e a (1 + a)) (cond d (1 + a) (cond f a (whole_nest p a))))
