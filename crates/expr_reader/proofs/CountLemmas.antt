@@ -7,10 +7,9 @@ use Rattle.expr_terms.specs.declared.tokens.Token.{Token}
 use Rattle.expr_reader.specs.Terms.{Class, key, Symbol, tok, one, maybe, many, tail, step, step_more, Production, chain, steps, root_steps, rooted_deep}
 use Rattle.expr_terms.specs.declared.keys.Key.TheVariants.{Slashes as slashes}
 use Rattle.expr_terms.specs.Productions.{body, keeps, repeats}
-use Rattle.expr_terms.specs.Raws.{keep, build}
-use Rattle.expr_terms.specs.Nest.{Mark, plain, deep, last, Levels, levels_of, raw_nest_of, levels_step, mark_of, is_left, is_arms, with_part, left_part, arm_part}
-use Rattle.expr_nest.specs.Held.{held, built_nest}
-use Rattle.expr_nest.proofs.Built.{nest_of_build}
+use Rattle.expr_terms.specs.Raws.{keep}
+use Rattle.expr_terms.specs.Nest.{Mark, plain, deep, last, Levels, levels_of, levels_step, mark_of, is_left, is_arms, with_part, left_part, arm_part}
+use Rattle.expr_nest.specs.Held.{held}
 use Rattle.expr_nest.proofs.Levels.{levels-out, levels-node, held-append}
 use Rattle.expr_reader.specs.Counts.{is_deep, is_last}
 
@@ -112,15 +111,3 @@ leaf-kept p n c ss t vs e = go (keeps c) refl
     go : (b : Bool) → keeps c ≡ b → held p (vs ++ cond b (leaf t ∷ []) []) ≡ held p vs
     go true k = held-append p vs (leaf t ∷ []) ∙ one_leaf (not_left p n c ss e k)
     go false k = rw append-nil refl
-
-pub ruleset leaves = (leaf-kept)
-
-pub held-part : (p : Production) (vs : List Raw) (v : Raw) → held p (vs ++ v ∷ []) ≡ with_part p (held p vs) (levels_of v)
-held-part p vs v = held-append p vs (v ∷ [])
-
-pub ruleset parts = (held-part)
-
-pub closed-nest : (p : Production) (vs : List Raw) (n : ℕ) → n ≡ held p vs → raw_nest_of (build p vs) ≡ built_nest p n vs
-closed-nest p vs n e = rw e (nest_of_build p vs)
-
-pub ruleset closes = (closed-nest)

@@ -1,5 +1,6 @@
 pub mod ViewLemmas
 pub mod CountLemmas
+pub mod CapLemmas
 pub mod Outline
 pub mod PassingLemmas
 pub mod PartLemmas

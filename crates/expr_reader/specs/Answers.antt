@@ -5,6 +5,8 @@ use Rattle.expr_terms.specs.declared.raws.Raw.{Raw}
 use Rattle.expr_terms.specs.declared.choices.Second.{Second}
 use Rattle.expr_terms.specs.declared.productions.Language.{Language}
 use Rattle.expr_terms.specs.Nest.{raw_nest_of}
+use Rattle.expr_nest.specs.declared.measures.Measure.{Measure}
+use Rattle.expr_nest.specs.Measures.{nest_by, predicate_nest_of}
 use Rattle.expr_grammar.specs.Grammar.{Spells, SpellsType}
 use Rattle.expr_grammar.specs.Machine.{Frame, advance, finish}
 use Rattle.expr_reader.specs.declared.readings.Reading.{Reading}
@@ -16,11 +18,22 @@ abbrev pub within : ℕ → Option Raw → Reading
 within k None = Nothing
 within k (Some v) = if nat_le (raw_nest_of v) k then Value v else TooDeep
 
+-- .. by what counts
+abbrev pub within_by : Measure → ℕ → Option Raw → Reading
+within_by m k None = Nothing
+within_by m k (Some v) = if nat_le (nest_by m v) k then Value v else TooDeep
+
 -- the value is spelled within the limit, nothing is spelled, or something past the limit is
 abbrev pub Parsed : Language → List Token → ℕ → Reading → Type 0
 Parsed l ts k Nothing = (v : Raw) → Spells l ts v → ⊥
 Parsed l ts k (Value v) = Spells l ts v × (raw_nest_of v ≤ k)
 Parsed l ts k TooDeep = (v : Raw) × (Spells l ts v × (k < raw_nest_of v))
+
+-- .. where levels outside of predicates do not count
+abbrev pub ParsedAsPattern : Language → List Token → ℕ → Reading → Type 0
+ParsedAsPattern l ts k Nothing = (v : Raw) → Spells l ts v → ⊥
+ParsedAsPattern l ts k (Value v) = Spells l ts v × (predicate_nest_of v ≤ k)
+ParsedAsPattern l ts k TooDeep = (v : Raw) × (Spells l ts v × (k < predicate_nest_of v))
 
 abbrev pub ParsedType : Language → List Token → ℕ → Reading → Type 0
 ParsedType l ts k Nothing = (v : Raw) → SpellsType l ts v → ⊥
@@ -38,19 +51,19 @@ Stepped false o new = o ≡ None
 
 -- A token has been led into the productions that are open. As long as no part was too deep, they are as the machine has them; from then
 -- on only where they stand is, and what is read will nest deeper than the limit.
-pub record Advanced (went : Bool) (k : ℕ) (was deep : Bool) (l : Language) (t : Token) (s : Second) (old new : List Frame) : Type 0 where
+pub record Advanced (went : Bool) (m : Measure) (k : ℕ) (was deep : Bool) (l : Language) (t : Token) (s : Second) (old new : List Frame) : Type 0 where
   pub outlined : Outlined went (advance l t s old) new
   pub exact : deep ≡ false → Stepped went (advance l t s old) new
-  pub sinks : was ≡ false → deep ≡ true → Sinks k l t s old
+  pub sinks : was ≡ false → deep ≡ true → Sinks m k l t s old
   pub stays : was ≡ true → deep ≡ true
 
-abbrev pub Judged : Reading → Raw → ℕ → Bool → Type 0
-Judged Nothing v k deep = ⊥
-Judged (Value w) v k deep = (deep ≡ false) × (w ≡ v) × (raw_nest_of v ≤ k)
-Judged TooDeep v k deep = deep ≡ false → k < raw_nest_of v
+abbrev pub Judged : Reading → Raw → Measure → ℕ → Bool → Type 0
+Judged Nothing v m k deep = ⊥
+Judged (Value w) v m k deep = (deep ≡ false) × (w ≡ v) × (nest_by m v ≤ k)
+Judged TooDeep v m k deep = deep ≡ false → k < nest_by m v
 
 -- the tokens have come to their end
-abbrev pub Finished : Reading → ℕ → Bool → List Frame → Type 0
-Finished Nothing k deep fs = finish fs ≡ None
-Finished (Value v) k deep fs = (deep ≡ false) × (finish fs ≡ Some v) × (raw_nest_of v ≤ k)
-Finished TooDeep k deep fs = (is_some (finish fs) ≡ true) × (deep ≡ false → (w : Raw) → finish fs ≡ Some w → k < raw_nest_of w)
+abbrev pub Finished : Reading → Measure → ℕ → Bool → List Frame → Type 0
+Finished Nothing m k deep fs = finish fs ≡ None
+Finished (Value v) m k deep fs = (deep ≡ false) × (finish fs ≡ Some v) × (nest_by m v ≤ k)
+Finished TooDeep m k deep fs = (is_some (finish fs) ≡ true) × (deep ≡ false → (w : Raw) → finish fs ≡ Some w → k < nest_by m w)

@@ -4,10 +4,10 @@ use Rattle.expr_terms.specs.declared.tokens.Token.{Token}
 use Rattle.expr_terms.specs.declared.raws.Raw.{Raw}
 use Rattle.expr_terms.specs.declared.choices.Second.{Second}
 use Rattle.expr_terms.specs.declared.productions.Language.{Language}
-use Rattle.expr_terms.specs.Nest.{raw_nest_of}
 use Rattle.expr_grammar.specs.Machine.{Frame, doing, run}
 use Rattle.expr_terms.specs.Choices.{second_of}
-use Rattle.expr_nest.specs.Held.{held}
+use Rattle.expr_nest.specs.declared.measures.Measure.{Measure}
+use Rattle.expr_nest.specs.Measures.{held_by, nest_by}
 use Rattle.std.specs.Prelude.{◌≡◌}
 
 abbrev pub outline : List Frame → List Frame
@@ -19,10 +19,10 @@ outlines None = None
 outlines (Some fs) = Some (outline fs)
 
 -- how deep the parts nest that the topmost production has
-abbrev pub topmost_held : List Frame → ℕ
-topmost_held [] = 0
-topmost_held (doing p vs ss ∷ fs) = held p vs
+abbrev pub topmost_held : Measure → List Frame → ℕ
+topmost_held m [] = 0
+topmost_held m (doing p vs ss ∷ fs) = held_by m p vs
 
 -- whatever is read from here on nests deeper than the limit
-abbrev pub Sinks : ℕ → Language → Token → Second → List Frame → Type 0
-Sinks k l t s fs = (ts : List Token) (w : Raw) → second_of ts ≡ s → run l (t ∷ ts) fs ≡ Some w → k < raw_nest_of w
+abbrev pub Sinks : Measure → ℕ → Language → Token → Second → List Frame → Type 0
+Sinks m k l t s fs = (ts : List Token) (w : Raw) → second_of ts ≡ s → run l (t ∷ ts) fs ≡ Some w → k < nest_by m w

@@ -15,7 +15,8 @@ use Rattle.expr_terms.specs.Productions.{body}
 use Rattle.expr_terms.specs.Choices.{choose}
 use Rattle.expr_reader.specs.declared.parts.Gift.{Gift}
 use Rattle.expr_reader.specs.declared.parts.Gift.TheVariants.{Refused, Kept, Dropped}
-use Rattle.expr_nest.specs.Held.{held}
+use Rattle.expr_nest.specs.declared.measures.Measure.{Measure}
+use Rattle.expr_nest.specs.Measures.{held_by}
 use Rattle.expr_reader.specs.Outline.{topmost_held}
 use Rattle.expr_grammar.specs.Machine as machine
 
@@ -60,12 +61,12 @@ with_value v [] = []
 with_value v (machine.doing q us rs ∷ fs) = machine.doing q (us ++ v ∷ []) rs ∷ fs
 
 -- a production with one more part, or without it where it nests too deep with it
-abbrev pub Taken : Frame × Gift → Frame → Raw → ℕ → Type 0
-Taken (g, Refused) f v k = ⊥
-Taken (g, Kept) f v k = frame_of g ≡ machine.doing f.production (f.kids.items ++ v ∷ []) (drop f.place (body f.production))
-Taken (g, Dropped) f v k = (frame_of g ≡ frame_of f) × (k < held f.production (f.kids.items ++ v ∷ []))
+abbrev pub Taken : Frame × Gift → Frame → Raw → Measure → ℕ → Type 0
+Taken (g, Refused) f v m k = ⊥
+Taken (g, Kept) f v m k = frame_of g ≡ machine.doing f.production (f.kids.items ++ v ∷ []) (drop f.place (body f.production))
+Taken (g, Dropped) f v m k = (frame_of g ≡ frame_of f) × (k < held_by m f.production (f.kids.items ++ v ∷ []))
 
-abbrev pub Given : Gift → Raw → ℕ → Bool → List machine.Frame → List machine.Frame → List Frame → List Frame → Type 0
-Given Refused v k deep old new xs ys = (old ≡ []) × (xs ≡ [])
-Given Kept v k deep old new xs ys = (new ≡ with_value v old) × (length ys ≡ length xs) × (xs ≢ []) × (old ≢ []) × (deep ≡ false)
-Given Dropped v k deep old new xs ys = (new ≡ old) × (length ys ≡ length xs) × (xs ≢ []) × (old ≢ []) × (deep ≡ false → k < topmost_held (with_value v old))
+abbrev pub Given : Gift → Raw → Measure → ℕ → Bool → List machine.Frame → List machine.Frame → List Frame → List Frame → Type 0
+Given Refused v m k deep old new xs ys = (old ≡ []) × (xs ≡ [])
+Given Kept v m k deep old new xs ys = (new ≡ with_value v old) × (length ys ≡ length xs) × (xs ≢ []) × (old ≢ []) × (deep ≡ false)
+Given Dropped v m k deep old new xs ys = (new ≡ old) × (length ys ≡ length xs) × (xs ≢ []) × (old ≢ []) × (deep ≡ false → k < topmost_held m (with_value v old))

@@ -1,11 +1,13 @@
 // How deep a production nests, counted part by part (what `levels_of` says of the whole).
 ghost use Rattle.std.specs.Prelude.{◌≡◌, ◌≤◌, is_some};
 ghost use Rattle.expr_terms.specs.declared.raws.Raw.TheViews.{out-Raw};
-ghost use Rattle.expr_terms.specs.Nest.{levels_of, raw_nest_of, before_parts, is_left_level, is_left, is_arms, left_part, arm_part, with_part, whole_nest};
+ghost use Rattle.expr_terms.specs.Nest.{levels_of, before_parts, is_left_level, is_left, is_arms, left_part, arm_part, with_part, whole_nest};
 ghost use Rattle.expr_terms.specs.Raws.{as_chain, only_chain, as_inner_chain, only_inner};
 ghost use Rattle.expr_nest.specs.Held.{is_alone, built_nest};
-ghost use Rattle.expr_reader.specs.Counts.{is_deep, is_last};
+ghost use Rattle.expr_nest.specs.Measures.{is_step, is_unions, is_outside, counted, built_within};
+ghost use Rattle.expr_reader.specs.Counts.{is_deep, is_last, chosen};
 
+use expr_nest::Measure;
 use expr_terms::{Level, Production, Raw, passes};
 
 /// The levels before any part: behind the root stands a step, behind `//` at the front one more.
@@ -108,7 +110,8 @@ fn arm_part(nest: u32, part: &Raw, levels: u32) -> u32
 /// The levels of the parts with one more, which has these levels.
 pub fn with_part(production: Production, nest: u32, part: &Raw, levels: u32) -> u32
     requires small { (nest ≤ 70010) × (levels ≤ 70010) }
-    ensures count { levels ≡ raw_nest_of part.now → result ≡ with_part production nest (levels_of part.now) }
+    ensures count { result
+        ≡ with_part production nest (record { nest = levels; mark = (levels_of part.now).mark }) }
     ensures small { result ≤ 70020 }
 {
     if is_left(production) {
@@ -206,7 +209,8 @@ fn is_only_inner(parts: &[Raw]) -> bool
     }
 }
 
-fn is_alone(parts: &[Raw]) -> bool
+/// Whether there is one part.
+pub fn is_alone(parts: &[Raw]) -> bool
     ensures { result ≡ is_alone parts.now }
 {
     match parts {
@@ -233,5 +237,77 @@ pub fn built_nest(production: Production, nest: u32, parts: &[Raw]) -> u32
                 whole_nest(production, nest)
             }
         }
+    }
+}
+
+fn is_step(production: Production) -> bool
+    ensures { result ≡ is_step production }
+{
+    match production {
+        Production::AxisStep => true,
+        Production::AttributeStep => true,
+        Production::TestStep => true,
+        _ => false,
+    }
+}
+
+fn is_unions(level: Level) -> bool
+    ensures { result ≡ is_unions level }
+{
+    match level {
+        Level::Unions => true,
+        _ => false,
+    }
+}
+
+/// Whether the production stands outside of predicates in a pattern.
+fn is_outside(production: Production) -> bool
+    ensures { result ≡ is_outside production }
+{
+    match production {
+        Production::Chain(level) => is_unions(level),
+        Production::Operated(_) => true,
+        Production::Rooted => true,
+        Production::RootedDeep => true,
+        Production::RootSteps => true,
+        Production::Steps => true,
+        Production::StepAfter => true,
+        Production::DeepAfter => true,
+        _ => false,
+    }
+}
+
+/// What counts of a production whose parts have these levels, and these within predicates.
+pub fn counted(measure: Measure, production: Production, nest: u32, within: u32, alone: bool) -> u32
+    ensures { result ≡ counted measure production nest within alone }
+{
+    match measure {
+        Measure::Whole => nest,
+        Measure::Predicates => built_within(production, nest, within, nest, alone),
+    }
+}
+
+/// The levels within predicates of the value of the production, which has so many levels.
+pub fn built_within(production: Production, nest: u32, within: u32, levels: u32, alone: bool) -> u32
+    ensures { result ≡ built_within production nest within levels alone }
+{
+    if is_step(production) {
+        nest
+    } else if is_outside(production) {
+        within
+    } else if alone && passes(production) {
+        within
+    } else {
+        levels
+    }
+}
+
+/// What counts of a value with these levels, and these within predicates.
+pub fn chosen(measure: Measure, levels: u32, within: u32) -> u32
+    ensures { result ≡ chosen measure levels within }
+{
+    match measure {
+        Measure::Whole => levels,
+        Measure::Predicates => within,
     }
 }

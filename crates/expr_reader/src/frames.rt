@@ -1,7 +1,9 @@
 // The productions that are open, as the reader holds them, and what has been read.
-ghost use Rattle.std.specs.Prelude.{◌≡◌, ◌≤◌};
+ghost use Rattle.std.specs.Prelude.{◌≤◌};
 ghost use Rattle.expr_nest.specs.Held.{held};
+ghost use Rattle.expr_nest.specs.Measures.{widest, predicate_nest_of};
 ghost use Rattle.expr_terms.specs.Nest.{raw_nest_of};
+ghost use Rattle.expr_reader.specs.Counts.{SameCount};
 
 use expr_terms::{Production, Raw};
 
@@ -13,15 +15,22 @@ pub struct Frame {
     pub kids: Vec<Raw>,
     /// The levels of the parts so far.
     pub nest: u32,
-    ghost counted: { nest ≡ held production kids.items },
+    /// The greatest of their levels within predicates.
+    pub within: u32,
+    ghost counted: { SameCount nest (held production kids.items) },
+    ghost counted_within: { SameCount within (widest kids.items) },
     ghost small: { nest ≤ 70000 },
+    ghost small_within: { within ≤ 70000 },
 }
 
-/// A value with its levels.
+/// A value with its levels, and those within predicates.
 #[derive(Drop)]
 pub struct Value {
     pub raw: Raw,
     pub levels: u32,
-    ghost counted: { levels ≡ raw_nest_of raw },
+    pub within: u32,
+    ghost counted: { SameCount levels (raw_nest_of raw) },
+    ghost counted_within: { SameCount within (predicate_nest_of raw) },
     ghost small: { levels ≤ 70002 },
+    ghost small_within: { within ≤ 70002 },
 }

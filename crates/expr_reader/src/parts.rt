@@ -6,10 +6,14 @@ ghost use Rattle.expr_terms.specs.Raws.{keep, build};
 ghost use Rattle.expr_grammar.specs.Machine.{start, doing};
 ghost use Rattle.expr_reader.specs.View.{frame_of, frames_of, Wanted, Given, Taken};
 
-use crate::counts::{before_parts, built_nest, with_part};
+use crate::counts::{before_parts, built_nest, built_within, counted, is_alone, with_part};
 use crate::frames::{Frame, Value};
+use expr_nest::Measure;
 use expr_terms::{Class, Production, Raw, Symbol, Token, body, build, keeps};
 use std::alloc::{AllocError, Global};
+
+/// A count past every limit, where counting ends.
+const PAST: u32 = 70000;
 
 /// What became of a value.
 #[derive(Clone, Copy)]
@@ -48,6 +52,7 @@ pub fn opened(alloc: Global, production: Production, place: usize) -> Frame
         place,
         kids: Vec::new(alloc),
         nest: before_parts(production),
+        within: 0,
     }
 }
 
@@ -63,7 +68,7 @@ fn keep(kids: &mut Vec<Raw>, class: Class, token: &Token) -> Result<(), AllocErr
 }
 
 /// Takes a token that is wanted. It adds no level.
-#[tactic(auto, using(crate::proofs::ViewLemmas::views, crate::proofs::CountLemmas::leaves))]
+#[tactic(auto, using(crate::proofs::ViewLemmas::views, crate::proofs::CapLemmas::kept))]
 pub fn with_token(frame: Frame, class: Class, token: &Token) -> Result<Frame, AllocError>
     requires wanted { drop frame.place (body frame.production) ≡ tok class ∷ drop (frame.place + 1) (body frame.production) }
     requires small { frame.place < 18446744073709551615 }
@@ -74,6 +79,7 @@ pub fn with_token(frame: Frame, class: Class, token: &Token) -> Result<Frame, Al
         place,
         kids,
         nest,
+        within,
     } = frame;
     let mut kids = kids;
     keep(&mut kids, class, token)?;
@@ -82,11 +88,12 @@ pub fn with_token(frame: Frame, class: Class, token: &Token) -> Result<Frame, Al
         place: place + 1,
         kids,
         nest,
+        within,
     })
 }
 
 /// The value of a production that wants nothing more.
-#[tactic(auto, using(crate::proofs::CountLemmas::closes))]
+#[tactic(auto, using(crate::proofs::CapLemmas::closings))]
 pub fn closed(frame: Frame) -> Result<Value, AllocError>
     ensures { IfOk result (λ value. value.raw ≡ build frame.production frame.kids.items) }
 {
@@ -95,26 +102,44 @@ pub fn closed(frame: Frame) -> Result<Value, AllocError>
         place: _,
         kids,
         nest,
+        within,
     } = frame;
     let levels = built_nest(production, nest, kids.as_slice());
+    let alone = is_alone(kids.as_slice());
+    let within = built_within(production, nest, within, levels, alone);
     let raw = build(production, kids)?;
-    Ok(Value { raw, levels })
+    Ok(Value {
+        raw,
+        levels,
+        within,
+    })
 }
 
 /// Whether the production nests deeper than the limit with the value.
-#[tactic(auto, using(crate::proofs::CountLemmas::parts))]
-fn with_value(frame: Frame, value: Value, limit: u16) -> Result<(Frame, Gift), AllocError>
-    ensures { IfOk result (λ more. Taken more frame value.raw limit) }
+fn with_value(
+    frame: Frame,
+    value: Value,
+    measure: Measure,
+    limit: u16,
+) -> Result<(Frame, Gift), AllocError>
+    ensures { IfOk result (λ more. Taken more frame value.raw measure limit) }
 {
     let Frame {
         production,
         place,
         kids,
         nest,
+        within,
     } = frame;
-    let Value { raw, levels } = value;
-    let more = with_part(production, nest, &raw, levels);
-    if more > u32::from(limit) {
+    let Value {
+        raw,
+        levels,
+        within: inner,
+    } = value;
+    let more = with_part(production, nest, &raw, levels).min(PAST);
+    let widest = within.max(inner).min(PAST);
+    let alone = kids.as_slice().is_empty();
+    if counted(measure, production, more, widest, alone) > u32::from(limit) {
         drop(raw);
         return Ok((
             Frame {
@@ -122,6 +147,7 @@ fn with_value(frame: Frame, value: Value, limit: u16) -> Result<(Frame, Gift), A
                 place,
                 kids,
                 nest,
+                within,
             },
             Gift::Dropped,
         ));
@@ -134,6 +160,7 @@ fn with_value(frame: Frame, value: Value, limit: u16) -> Result<(Frame, Gift), A
             place,
             kids,
             nest: more,
+            within: widest,
         },
         Gift::Kept,
     ))
@@ -144,10 +171,11 @@ fn with_value(frame: Frame, value: Value, limit: u16) -> Result<(Frame, Gift), A
 pub fn give(
     frames: &mut Vec<Frame>,
     value: Value,
+    measure: Measure,
     limit: u16,
     is_deep: bool,
 ) -> Result<Gift, AllocError>
-    ensures { IfOk result (λ gift. Given gift value.raw limit is_deep (frames_of frames.old.items) (frames_of frames.new.items) frames.old.items frames.new.items) }
+    ensures { IfOk result (λ gift. Given gift value.raw measure limit is_deep (frames_of frames.old.items) (frames_of frames.new.items) frames.old.items frames.new.items) }
 {
     if is_deep {
         drop(value);
@@ -163,7 +191,7 @@ pub fn give(
             Ok(Gift::Refused)
         }
         Some(frame) => {
-            let (frame, gift) = with_value(frame, value, limit)?;
+            let (frame, gift) = with_value(frame, value, measure, limit)?;
             frames.push(frame)?;
             Ok(gift)
         }

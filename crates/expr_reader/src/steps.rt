@@ -5,11 +5,13 @@ ghost use Rattle.expr_grammar.specs.Machine.{doing, along, skips};
 ghost use Rattle.expr_reader.specs.View.{frame_of, frames_of, Went};
 ghost use Rattle.expr_reader.specs.Answers.{Advanced, Judged, Finished};
 
+use crate::counts::chosen;
 use crate::frames::{Frame, Value};
 use crate::fronts::try_below;
 use crate::parts::{Gift, closed, give, symbol, with_token};
 use crate::passing::pass_up;
 use crate::readings::Reading;
+use expr_nest::Measure;
 use expr_terms::{Language, Production, Raw, Second, Symbol, Token, begins, fits};
 use std::alloc::{AllocError, Global};
 
@@ -34,12 +36,14 @@ fn past(frame: Frame) -> Frame
         place,
         kids,
         nest,
+        within,
     } = frame;
     Frame {
         production,
         place: place + 1,
         kids,
         nest,
+        within,
     }
 }
 
@@ -109,12 +113,13 @@ pub fn advance(
     alloc: Global,
     frames: &mut Vec<Frame>,
     is_deep: &mut bool,
+    measure: Measure,
     limit: u16,
     language: Language,
     token: &Token,
     second: Second,
 ) -> Result<bool, AllocError>
-    ensures { IfOk result (λ went. Advanced went limit is_deep.old is_deep.new language token.now second (frames_of frames.old.items) (frames_of frames.new.items)) }
+    ensures { IfOk result (λ went. Advanced went measure limit is_deep.old is_deep.new language token.now second (frames_of frames.old.items) (frames_of frames.new.items)) }
 {
     while let Some(frame) = frames.pop() {
         match along(alloc, frames, frame, language, token, second)? {
@@ -123,7 +128,7 @@ pub fn advance(
             Way::Through(done) => {
                 let value = closed(done)?;
                 pass_up(frames, token);
-                match give(frames, value, limit, *is_deep)? {
+                match give(frames, value, measure, limit, *is_deep)? {
                     Gift::Refused => return Ok(false),
                     Gift::Kept => {}
                     Gift::Dropped => *is_deep = true,
@@ -149,11 +154,16 @@ fn skips(production: Production, place: usize) -> bool
 }
 
 /// The value, unless it nests too deep or a part of it was dropped.
-fn judged(value: Value, limit: u16, is_deep: bool) -> Reading
-    ensures { Judged result value.raw limit is_deep }
+#[tactic(auto, using(crate::proofs::CapLemmas::choosing))]
+fn judged(value: Value, measure: Measure, limit: u16, is_deep: bool) -> Reading
+    ensures { Judged result value.raw measure limit is_deep }
 {
-    let Value { raw, levels } = value;
-    if is_deep || levels > u32::from(limit) {
+    let Value {
+        raw,
+        levels,
+        within,
+    } = value;
+    if is_deep || chosen(measure, levels, within) > u32::from(limit) {
         drop(raw);
         Reading::TooDeep
     } else {
@@ -163,8 +173,13 @@ fn judged(value: Value, limit: u16, is_deep: bool) -> Reading
 
 /// What has been read at the end of the tokens.
 #[tactic(auto, using(crate::proofs::ClimbLemmas::finishing))]
-pub fn finish(frames: Vec<Frame>, limit: u16, is_deep: bool) -> Result<Reading, AllocError>
-    ensures { IfOk result (λ reading. Finished reading limit is_deep (frames_of frames.items)) }
+pub fn finish(
+    frames: Vec<Frame>,
+    measure: Measure,
+    limit: u16,
+    is_deep: bool,
+) -> Result<Reading, AllocError>
+    ensures { IfOk result (λ reading. Finished reading measure limit is_deep (frames_of frames.items)) }
 {
     let mut frames = frames;
     let mut deep = is_deep;
@@ -175,9 +190,9 @@ pub fn finish(frames: Vec<Frame>, limit: u16, is_deep: bool) -> Result<Reading, 
         }
         let value = closed(frame)?;
         if frames.is_empty() {
-            return Ok(judged(value, limit, deep));
+            return Ok(judged(value, measure, limit, deep));
         }
-        match give(&mut frames, value, limit, deep)? {
+        match give(&mut frames, value, measure, limit, deep)? {
             Gift::Refused => return Ok(Reading::Nothing),
             Gift::Kept => {}
             Gift::Dropped => deep = true,

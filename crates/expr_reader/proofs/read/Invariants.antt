@@ -5,4 +5,4 @@ use Rattle.expr_reader.proofs.ClimbLemmas.{Reads}
 use Rattle.expr_reader.proofs.read.Given as goal
 
 abbrev pub invariant-loop-i : goal.invariant-loop-i
-invariant-loop-i l = Reads l.limit l.language l.is_deep l.tokens (drop l.i l.tokens) (start l.fn.production) (frames_of l.frames.items)
+invariant-loop-i l = Reads l.measure l.limit l.language l.is_deep l.tokens (drop l.i l.tokens) (start l.fn.production) (frames_of l.frames.items)
