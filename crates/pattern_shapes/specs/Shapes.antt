@@ -104,9 +104,13 @@ has_bar (v ∷ []) = false
 has_bar (v ∷ w ∷ []) = is_bar (out-Raw v) && is_alternative w
 has_bar (v ∷ w ∷ x ∷ vs) = false
 
+abbrev pub is_unions : Level → Bool
+is_unions levels.Unions = true
+is_unions l = false
+
 -- `|` and an alternative
 abbrev pub is_barred_of : Production → List Raw → Bool
-is_barred_of (production.Operated l) vs = has_bar vs
+is_barred_of (production.Operated l) vs = is_unions l && has_bar vs
 is_barred_of p vs = false
 
 abbrev pub is_barred_in : Raw-F Raw → Bool
@@ -119,10 +123,6 @@ is_barred v = is_barred_in (out-Raw v)
 abbrev pub are_alternatives : List Raw → Bool
 are_alternatives [] = false
 are_alternatives (v ∷ vs) = is_alternative v && list_all is_barred vs
-
-abbrev pub is_unions : Level → Bool
-is_unions levels.Unions = true
-is_unions l = false
 
 -- a pattern: alternatives joined by `|`
 abbrev pub is_pattern_of : Production → List Raw → Bool

@@ -139,6 +139,15 @@ fn has_bar(parts: &[Raw]) -> bool
     }
 }
 
+fn is_unions(level: Level) -> bool
+    ensures { result ≡ is_unions level }
+{
+    match level {
+        Level::Unions => true,
+        _ => false,
+    }
+}
+
 /// Whether the raw value is a `|` with an alternative behind it.
 pub fn is_barred(raw: &Raw) -> bool
     ensures { result ≡ is_barred raw.now }
@@ -146,7 +155,7 @@ pub fn is_barred(raw: &Raw) -> bool
     match raw {
         Raw::Leaf(_) => false,
         Raw::Node(production, parts) => match production {
-            Production::Operated(_) => has_bar(parts.as_slice()),
+            Production::Operated(level) => is_unions(*level) && has_bar(parts.as_slice()),
             _ => false,
         },
     }
@@ -164,15 +173,6 @@ fn are_alternatives(parts: &[Raw]) -> bool
     match parts {
         [] => false,
         [first, more @ ..] => is_alternative(first) && are_barred(more),
-    }
-}
-
-fn is_unions(level: Level) -> bool
-    ensures { result ≡ is_unions level }
-{
-    match level {
-        Level::Unions => true,
-        _ => false,
     }
 }
 
