@@ -54,7 +54,7 @@ one_longer : {A : Type 0} (x : A) (o : Option (List A)) (us : List A) → option
 one_longer x None us e = absurd (none-some _ e)
 one_longer x (Some xs) us e = let l : length us ≡ length (x ∷ xs) = ap length (sym (same_Some _ _ e)) in (xs, (refl, omega arith))
 
-terms_length : (ts : List Written) (us : List Token) → terms_of ts ≡ Some us → length us ≡ length ts
+pub terms_length : (ts : List Written) (us : List Token) → terms_of ts ≡ Some us → length us ≡ length ts
 unfolding terms_of
 terms_length [] us e = ap length (sym (same_Some _ _ e))
 terms_length (t ∷ ts) us e = let g : length us ≡ 1 + length ts = go (term_of t.kind t.characters) e (λ xs f. terms_length ts xs f) in omega arith
