@@ -1,5 +1,7 @@
--- What counts of a production so far is no more than what counts of its value, and a part's no more than the whole's.
-use Rattle.std.proofs.Common.{◌≡◌, ℕ, ◌+◌, ◌≤◌, Bool, true, false, cond, ◌&&◌, List, [], ◌∷◌, ◌++◌, refl, sym, arith}
+-- What counts of a production so far is no more than what counts of its value, and a part's no
+-- more than the whole's.
+use Rattle.std.proofs.Common.{◌≡◌, ℕ, ◌+◌, ◌≤◌, Bool, true, false, cond, ◌&&◌, List, [], ◌∷◌, ◌++◌}
+use Rattle.std.proofs.Common.{refl, sym, arith}
 use Rattle.expr_terms.specs.Productions.{passes}
 use Rattle.expr_terms.specs.Raws.{build}
 use Rattle.expr_terms.specs.Nest.{raw_nest_of, before_parts, is_arms}
@@ -8,7 +10,8 @@ use Rattle.expr_nest.specs.RawNames.{Raw}
 use Rattle.expr_nest.specs.Held.{held, is_alone, built_nest}
 use Rattle.expr_nest.specs.declared.measures.Measure.{Measure}
 use Rattle.expr_nest.specs.declared.measures.Measure.TheVariants.{Whole, Predicates}
-use Rattle.expr_nest.specs.Measures.{is_step, is_outside, predicate_nest_of, widest, held_by, built_within, nest_by}
+use Rattle.expr_nest.specs.Measures.{is_step, is_outside, predicate_nest_of, widest, held_by}
+use Rattle.expr_nest.specs.Measures.{built_within, nest_by}
 use Rattle.expr_nest.proofs.Levels.{held-grows, slack, part-held}
 use Rattle.expr_nest.proofs.Built.{nest_of_build, built_grows, held_less, part_less}
 use Rattle.expr_nest.proofs.Within.{within-less, widest-grows, widest-part, within_of_build}
@@ -36,7 +39,8 @@ module _ (p : Production) (passing : passes p ≡ true) (inside : is_outside p �
   abbrev value : List Raw → ℕ
   value vs = cond (is_alone vs && true) (widest vs) (built_nest p (held p vs) vs)
 
-  more_than : (u w : Raw) (ws : List Raw) → widest (u ∷ []) ≤ built_nest p (held p (u ∷ w ∷ ws)) (u ∷ w ∷ ws)
+  more_than : (u w : Raw) (ws : List Raw)
+      → widest (u ∷ []) ≤ built_nest p (held p (u ∷ w ∷ ws)) (u ∷ w ∷ ws)
   more_than u w ws =
       let z : slack p ≡ 0 = rw (pass_no_arms p passing) refl in
       let h : raw_nest_of u ≤ slack p + held p (u ∷ w ∷ ws) = part-held p [] (w ∷ ws) u in
@@ -44,7 +48,8 @@ module _ (p : Production) (passing : passes p ≡ true) (inside : is_outside p �
       let l = within-less u in
       omega arith
 
-  passing_less : (us ws : List Raw) → cond (is_alone us && true) (widest us) (held p us) ≤ value (us ++ ws)
+  passing_less : (us ws : List Raw) → cond (is_alone us && true) (widest us) (held p us) ≤ value
+      (us ++ ws)
   passing_less [] ws = let z = nothing_before p inside in omega arith
   passing_less (u ∷ []) [] = omega arith
   passing_less (u ∷ []) (w ∷ ws) = more_than u w ws
@@ -53,32 +58,43 @@ module _ (p : Production) (passing : passes p ≡ true) (inside : is_outside p �
       let h = held-grows p (u ∷ x ∷ us) ws in
       omega arith
 
-held_within : (p : Production) (us ws : List Raw) → held_by Predicates p us ≤ built_within p (held p (us ++ ws)) (widest (us ++ ws)) (built_nest p (held p (us ++ ws)) (us ++ ws)) (is_alone (us ++ ws))
+held_within : (p : Production) (us ws : List Raw)
+    → held_by Predicates p us ≤ built_within p (held p (us ++ ws)) (widest (us ++ ws)) (built_nest
+    p (held p (us ++ ws)) (us ++ ws)) (is_alone (us ++ ws))
 held_within p us ws = go (is_step p) (is_outside p) (passes p) refl refl
   where
-    go : (b c d : Bool) → is_outside p ≡ c → passes p ≡ d → cond b (held p us) (cond c (widest us) (cond (is_alone us && d) (widest us) (held p us))) ≤ cond b (held p (us ++ ws)) (cond c (widest (us ++ ws)) (cond (is_alone (us ++ ws) && d) (widest (us ++ ws)) (built_nest p (held p (us ++ ws)) (us ++ ws))))
+    go : (b c d : Bool) → is_outside p ≡ c → passes p ≡ d
+        → cond b (held p us) (cond c (widest us) (cond (is_alone us && d) (widest us) (held p
+        us))) ≤ cond b (held p (us ++ ws)) (cond c (widest (us ++ ws)) (cond (is_alone (us ++ ws)
+        && d) (widest (us ++ ws)) (built_nest p (held p (us ++ ws)) (us ++ ws))))
     go true c d e f = held-grows p us ws
     go false true d e f = widest-grows us ws
     go false false true e f = passing_less p f e us ws
     go false false false e f = at (is_alone us) (is_alone (us ++ ws))
       where
-        at : (a z : Bool) → cond (a && false) (widest us) (held p us) ≤ cond (z && false) (widest (us ++ ws)) (built_nest p (held p (us ++ ws)) (us ++ ws))
+        at : (a z : Bool) → cond (a && false) (widest us) (held p us) ≤ cond (z && false) (widest
+            (us ++ ws)) (built_nest p (held p (us ++ ws)) (us ++ ws))
         at a z =
             let g = built_grows p (held p (us ++ ws)) (us ++ ws) in
             let h = held-grows p us ws in
             both a z (omega arith)
           where
-            both : (a z : Bool) → held p us ≤ built_nest p (held p (us ++ ws)) (us ++ ws) → cond (a && false) (widest us) (held p us) ≤ cond (z && false) (widest (us ++ ws)) (built_nest p (held p (us ++ ws)) (us ++ ws))
+            both : (a z : Bool) → held p us ≤ built_nest p (held p (us ++ ws)) (us ++ ws)
+                → cond (a && false) (widest us) (held p us) ≤ cond (z && false) (widest (us ++
+                ws)) (built_nest p (held p (us ++ ws)) (us ++ ws))
             both true true h = h
             both true false h = h
             both false true h = h
             both false false h = h
 
-pub held_less_by : (m : Measure) (p : Production) (us ws : List Raw) → held_by m p us ≤ nest_by m (build p (us ++ ws))
+pub held_less_by : (m : Measure) (p : Production) (us ws : List Raw)
+    → held_by m p us ≤ nest_by m (build p (us ++ ws))
 held_less_by Whole p us ws = held_less p us ws
 held_less_by Predicates p us ws = rw (within_of_build p (us ++ ws)) (held_within p us ws)
 
-part_within : (p : Production) (us ws : List Raw) (v : Raw) → predicate_nest_of v ≤ built_within p (held p (us ++ v ∷ ws)) (widest (us ++ v ∷ ws)) (built_nest p (held p (us ++ v ∷ ws)) (us ++ v ∷ ws)) (is_alone (us ++ v ∷ ws))
+part_within : (p : Production) (us ws : List Raw) (v : Raw)
+    → predicate_nest_of v ≤ built_within p (held p (us ++ v ∷ ws)) (widest (us ++ v ∷ ws))
+    (built_nest p (held p (us ++ v ∷ ws)) (us ++ v ∷ ws)) (is_alone (us ++ v ∷ ws))
 part_within p us ws v = go (is_step p) (is_outside p) (is_alone (us ++ v ∷ ws) && passes p) refl
   where
     less : predicate_nest_of v ≤ raw_nest_of v
@@ -87,7 +103,9 @@ part_within p us ws v = go (is_step p) (is_outside p) (is_alone (us ++ v ∷ ws)
     part : predicate_nest_of v ≤ widest (us ++ v ∷ ws)
     part = widest-part us ws v
 
-    go : (b c d : Bool) → is_step p ≡ b → predicate_nest_of v ≤ cond b (held p (us ++ v ∷ ws)) (cond c (widest (us ++ v ∷ ws)) (cond d (widest (us ++ v ∷ ws)) (built_nest p (held p (us ++ v ∷ ws)) (us ++ v ∷ ws))))
+    go : (b c d : Bool) → is_step p ≡ b → predicate_nest_of v ≤ cond b (held p (us ++ v ∷ ws))
+        (cond c (widest (us ++ v ∷ ws)) (cond d (widest (us ++ v ∷ ws)) (built_nest p (held p (us
+        ++ v ∷ ws)) (us ++ v ∷ ws))))
     go true c d e =
         let z : slack p ≡ 0 = rw (step_no_arms p e) refl in
         let h : raw_nest_of v ≤ slack p + held p (us ++ v ∷ ws) = part-held p us ws v in
@@ -101,6 +119,7 @@ part_within p us ws v = go (is_step p) (is_outside p) (is_alone (us ++ v ∷ ws)
         let l = less in
         omega arith
 
-pub part_less_by : (m : Measure) (p : Production) (us ws : List Raw) (v : Raw) → nest_by m v ≤ nest_by m (build p (us ++ v ∷ ws))
+pub part_less_by : (m : Measure) (p : Production) (us ws : List Raw) (v : Raw)
+    → nest_by m v ≤ nest_by m (build p (us ++ v ∷ ws))
 part_less_by Whole p us ws v = part_less p us ws v
 part_less_by Predicates p us ws v = rw (within_of_build p (us ++ v ∷ ws)) (part_within p us ws v)

@@ -3,9 +3,11 @@ use Rattle.std.specs.Prelude.{ℕ, max, map, Bool, true, false, ◌&&◌, List, 
 use Rattle.expr_terms.specs.declared.raws.Raw.TheFolds.{fold-Raw}
 use Rattle.expr_terms.specs.declared.raws.Raw.TheOpen.{Raw-F, Leaf, Node}
 use Rattle.expr_terms.specs.Productions.{passes}
-use Rattle.expr_terms.specs.Nest.{Levels, levels_step, raw_nest_of, before_parts, with_parts, whole_nest}
+use Rattle.expr_terms.specs.Nest.{Levels, levels_step, raw_nest_of, before_parts, with_parts}
+use Rattle.expr_terms.specs.Nest.{whole_nest}
 use Rattle.expr_nest.specs.Terms.{Level, unions, Production, chain, operated, rooted, rooted_deep}
-use Rattle.expr_nest.specs.Terms.{root_steps, steps, step_after, deep_after, axis_step, attribute_step, test_step}
+use Rattle.expr_nest.specs.Terms.{root_steps, steps, step_after, deep_after, axis_step}
+use Rattle.expr_nest.specs.Terms.{attribute_step, test_step}
 use Rattle.expr_nest.specs.RawNames.{Raw}
 use Rattle.expr_nest.specs.Held.{held, is_alone}
 use Rattle.expr_nest.specs.declared.measures.Measure.{Measure}
@@ -49,14 +51,17 @@ wholes ds = map (λ d. d.whole) ds
 abbrev pub withins : List Depths → List ℕ
 withins ds = map (λ d. d.within) ds
 
--- of a production whose parts have `a` levels together, and at most `b` within predicates; any other form than steps and
--- what they stand in counts as a whole
+-- of a production whose parts have `a` levels together, and at most `b` within predicates; any
+-- other form than steps and what they stand in counts as a whole
 abbrev pub within_of : Production → ℕ → ℕ → ℕ
 within_of p a b = if is_step p then a else if is_outside p then b else whole_nest p a
 
 abbrev pub depths_step : Raw-F Depths → Depths
 depths_step (Leaf t) = record { whole = levels_step (Leaf t); within = 0 }
-depths_step (Node p ds) = record { whole = levels_step (Node p (wholes ds)); within = within_of p (with_parts p (before_parts p) (wholes ds)) (greatest (withins ds)) }
+depths_step (Node p ds) = record {
+  whole = levels_step (Node p (wholes ds));
+  within = within_of p (with_parts p (before_parts p) (wholes ds)) (greatest (withins ds));
+}
 
 unfoldable pub depths_of : Raw → Depths
 depths_of = fold-Raw Depths depths_step
@@ -72,14 +77,16 @@ widest vs = greatest (map predicate_nest_of vs)
 -- what counts of a production that has parts of `a` levels, with at most `b` within predicates
 abbrev pub counted : Measure → Production → ℕ → ℕ → Bool → ℕ
 counted Whole p a b alone = a
-counted Predicates p a b alone = if is_step p then a else if is_outside p then b else if alone && passes p then b else a
+counted Predicates p a b alone =
+    if is_step p then a else if is_outside p then b else if alone && passes p then b else a
 
 abbrev pub held_by : Measure → Production → List Raw → ℕ
 held_by m p vs = counted m p (held p vs) (widest vs) (is_alone vs)
 
 -- .. and of its value, which has `n` levels
 abbrev pub built_within : Production → ℕ → ℕ → ℕ → Bool → ℕ
-built_within p a b n alone = if is_step p then a else if is_outside p then b else if alone && passes p then b else n
+built_within p a b n alone =
+    if is_step p then a else if is_outside p then b else if alone && passes p then b else n
 
 abbrev pub nest_by : Measure → Raw → ℕ
 nest_by Whole v = raw_nest_of v

@@ -16,7 +16,8 @@ ghost use Rattle.expr_terms.specs.Nest.{raw_nest_of};
 ghost use Rattle.expr_grammar.specs.Machine.{Frame, doing, run};
 ghost use Rattle.expr_nest.specs.Held.{held, is_alone, built_nest};
 ghost use Rattle.expr_nest.specs.declared.measures.Measure.{Measure};
-ghost use Rattle.expr_nest.specs.Measures.{widest, held_by, built_within, nest_by, predicate_nest_of};
+ghost use Rattle.expr_nest.specs.Measures.{widest, held_by, built_within, nest_by};
+ghost use Rattle.expr_nest.specs.Measures.{predicate_nest_of};
 
 mod measures;
 
@@ -24,7 +25,8 @@ pub use measures::Measure;
 
 /// The nest of a value from that of its parts.
 pub fn nest_of_build()
-    ensures { (p : Production) (vs : List Raw) → raw_nest_of (build p vs) ≡ built_nest p (held p vs) vs }
+    ensures { (p : Production) (vs : List Raw)
+        → raw_nest_of (build p vs) ≡ built_nest p (held p vs) vs }
 {}
 
 /// The same of the levels within predicates, of which there are no more than of all.
