@@ -1,0 +1,11 @@
+pub mod AheadLemmas
+pub mod AnswerLemmas
+pub mod ElementLemmas
+pub mod FrontLemmas
+pub mod LiteralLemmas
+pub mod NameLemmas
+pub mod NumberLemmas
+pub mod PlainLemmas
+pub mod ReadingLemmas
+pub mod SecondLemmas
+pub mod SpellingLemmas
