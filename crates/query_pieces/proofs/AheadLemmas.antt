@@ -1,12 +1,12 @@
 -- What is left behind the tokens of a text.
-use Rattle.std.proofs.Common.{◌≡◌, ℕ, ◌+◌, List, [], ◌∷◌, ◌++◌, length, length-append, take, drop, Bool, true, false, ◌&&◌, refl, sym, ap, ◌∙◌, append_assoc, arith}
+use Rattle.std.proofs.Common.{◌≡◌, ℕ, ◌+◌, List, [], ◌∷◌, ◌++◌, length, length-append, take, drop, Bool, true, false, refl, sym, ap, ◌∙◌, append_assoc, arith}
 use Rattle.std.proofs.Math.Seq.{drop-append_seam}
 use Rattle.std.proofs.lemmas.Bool.{and_parts}
 use Rattle.std.proofs.lemmas.Str.{chars-nil, chars-encodes, encodes-chars, encodes-append, IsCharBoundary-at_seam}
 use Rattle.std.specs.Prelude.{encode_utf8_all}
 use Rattle.std.specs.Str.{chars, IsUtf8, IsCharBoundary, all_scalars}
 use Rattle.xpath_lex.specs.Gaps.{Comment, over, nested, passes, Gap, none, space, comment}
-use Rattle.xpath_lex.specs.Readings.{Placed, size, IsPlace, ends_in_digit, TokenAt, IsOver, FaultAt}
+use Rattle.xpath_lex.specs.Readings.{Placed, size, ends_in_digit, TokenAt, IsOver, FaultAt}
 
 scalars_behind : (front rest : List ℕ) → all_scalars (front ++ rest) ≡ true → all_scalars rest ≡ true
 scalars_behind [] rest h = h

@@ -1,8 +1,8 @@
 -- What the reader tells of the point where it stands.
-use Rattle.std.proofs.Common.{◌≡◌, ℕ, List, [], ◌∷◌, Bool, true, false, ◌==◌, Option, Some, None, Result, Ok, Err, IfOk, refl, sym, ap, ◌∙◌}
+use Rattle.std.proofs.Common.{◌≡◌, ℕ, List, [], ◌∷◌, Bool, true, false, ◌==◌, Some, None, Result, Ok, Err, IfOk, refl, sym, ap, ◌∙◌}
 use Rattle.xpath_lex.specs.Classes.{is_space, starts_name}
 use Rattle.xt_names.specs.Classes.{is_in_ranges}
-use Rattle.xpath_lex.specs.Gaps.{Gap, none, space, comment}
+use Rattle.xpath_lex.specs.Gaps.{Gap, space, comment}
 use Rattle.xpath_lex.specs.Readings.{Placed, size, TokenAt, IsOver, FaultAt}
 use Rattle.xpath_lex.proofs.CharacterFacts.{no, open_name}
 use Rattle.xpath_lex.proofs.ReadingLemmas.{token_not_over, fault_no_token, fault_not_over}
@@ -10,10 +10,10 @@ use Rattle.xpath_lex.specs.declared.lexing.TokenKind.{TokenKind}
 use Rattle.expr_terms.specs.declared.tokens.Token.{Token}
 use Rattle.expr_terms.specs.declared.tokens.Token.TheVariants as token
 use Rattle.query_pieces.specs.Points.{Context, tag, Before, integer, slash_key, other, Change, enters, Point, is_enclosed, in_expression, change_of, moved}
-use Rattle.query_pieces.specs.Fronts.{begins, NameAt, name_at}
+use Rattle.query_pieces.specs.Fronts.{name_at}
 use Rattle.query_pieces.specs.Spellings.{Spells}
-use Rattle.query_pieces.specs.Elements.{Piece, piece_at}
-use Rattle.query_pieces.specs.Readings.{touches, opens, IsNext, Reads, spelled, opened, parted, IsEnd}
+use Rattle.query_pieces.specs.Elements.{piece_at}
+use Rattle.query_pieces.specs.Readings.{touches, opens, IsNext, Reads, spelled, opened, parted}
 use Rattle.query_pieces.specs.Answers.{IsStuck, Answers}
 use Rattle.query_pieces.specs.declared.pieces.Found.{Found}
 use Rattle.query_pieces.specs.declared.pieces.Found.TheVariants as found

@@ -1,5 +1,5 @@
 -- Runs of characters that stand for themselves, and what stands where there is none.
-use Rattle.std.proofs.Common.{◌≡◌, ℕ, List, [], ◌∷◌, Bool, true, false, Option, Some, None, Result, Ok, Err, IfOk, slice_get, refl, sym, subst, ap, ◌∙◌}
+use Rattle.std.proofs.Common.{◌≡◌, ℕ, List, [], ◌∷◌, Bool, true, false, Option, Some, None, Result, Ok, Err, IfOk, slice_get, refl, sym, subst}
 use Rattle.expr_terms.specs.declared.tokens.Token.{Token}
 use Rattle.query_pieces.specs.Points.{Change}
 use Rattle.query_pieces.specs.Fronts.{run_of, rest_of}

@@ -1,14 +1,13 @@
 -- What is taken from the front of a text.
-use Rattle.std.proofs.Common.{◌≡◌, ℕ, List, [], ◌∷◌, ◌++◌, Bool, true, false, ◌==◌, Option, Some, None, slice_get, MatchBool, refl, sym, ap, ◌∙◌}
+use Rattle.std.proofs.Common.{◌≡◌, ℕ, List, [], ◌∷◌, ◌++◌, Bool, true, false, ◌==◌, Option, Some, None, slice_get, MatchBool, refl, sym, ◌∙◌}
 use Rattle.std.proofs.lemmas.Bool.{and_parts, eqb-true, false_from_ne_true}
 use Rattle.std.proofs.lemmas.List.{append_cancel_right}
 use Rattle.std.specs.List.{list_all}
 use Rattle.std.specs.Str.{chars}
 use Rattle.xpath_lex.specs.Gaps.{Ends}
-use Rattle.xpath_lex.specs.Runs.{NotNext}
 use Rattle.xpath_lex.proofs.CharacterFacts.{itself}
 use Rattle.xpath_lex.proofs.ScanLemmas.{Taken}
-use Rattle.query_pieces.specs.Fronts.{run_of, rest_of, begins, eaten}
+use Rattle.query_pieces.specs.Fronts.{run_of, rest_of, eaten}
 
 pub eats : (c : ℕ) (old new : List ℕ) → old ≡ c ∷ new → eaten c old ≡ Some new
 eats c old new e = rw (e, itself c) refl

@@ -8,4 +8,5 @@ pub mod NumberLemmas
 pub mod PlainLemmas
 pub mod ReadingLemmas
 pub mod SecondLemmas
+pub mod ShortLemmas
 pub mod SpellingLemmas

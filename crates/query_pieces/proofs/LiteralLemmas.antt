@@ -1,9 +1,9 @@
 -- What a literal says, as far as it was read.
-use Rattle.std.proofs.Common.{◌≡◌, ◌≤◌, ◌<◌, ℕ, List, [], ◌∷◌, ◌++◌, length, Bool, true, false, ◌==◌, Option, Some, None, MatchOption, OnSome, refl, sym, ap, ◌∙◌, append_assoc, append-nil, subst, arith}
+use Rattle.std.proofs.Common.{◌≡◌, ◌≤◌, ◌<◌, ℕ, List, [], ◌∷◌, ◌++◌, length, Bool, true, false, ◌==◌, Option, Some, None, MatchOption, OnSome, refl, sym, ap, ◌∙◌, append_assoc, append-nil, arith}
 use Rattle.std.proofs.lemmas.Bool.{eqb-true, false_from_ne_true}
 use Rattle.xpath_lex.specs.Classes.{is_name_char}
 use Rattle.query_pieces.specs.Fronts.{run_of, rest_of, eaten}
-use Rattle.query_pieces.specs.References.{Base, decimal, hexadecimal, is_digit_of, closed, number_from, reference_from, reference_at}
+use Rattle.query_pieces.specs.References.{decimal, hexadecimal, is_digit_of, closed, number_from, reference_from, reference_at}
 use Rattle.query_pieces.specs.Literals.{is_said, Says, over, itself, reference, line, return, Turns}
 use Rattle.query_pieces.specs.Elements.{line_end}
 use Rattle.xpath_lex.proofs.CharacterFacts.{no}
@@ -112,13 +112,13 @@ is_return c h n =
 
 -- how much is left
 
-eaten_length : (c : ℕ) (ts rest : List ℕ) → eaten c ts ≡ Some rest → length rest ≤ length ts
+pub eaten_length : (c : ℕ) (ts rest : List ℕ) → eaten c ts ≡ Some rest → length rest ≤ length ts
 eaten_length c [] rest e = cc
 eaten_length c (d ∷ ds) rest e =
     either (d == c) (λ h. (let same : Some ds ≡ Some rest = rw h at e in let one : ds ≡ rest = cc in omega (arith, ap length one)))
     (λ h. (let none : None ≡ Some rest = rw h at e in cc))
 
-line_length : (c : ℕ) (ts : List ℕ) → length (line_end c ts) ≤ length ts
+pub line_length : (c : ℕ) (ts : List ℕ) → length (line_end c ts) ≤ length ts
 line_length c [] = either (c == 13) (λ h. rw h (omega arith)) (λ h. rw h (omega arith))
 line_length c (d ∷ ds) =
     either (c == 13) (λ h. either (d == 10) (λ g. rw (h, g) (omega arith)) (λ g. rw (h, g) (omega arith))) (λ h. rw h (omega arith))

@@ -1,6 +1,6 @@
 -- Numbers of references, digit by digit.
-use Rattle.std.proofs.Common.{zero, suc, ◌≡◌, ◌≤◌, ◌<◌, ℕ, ◌+◌, ◌*◌, List, [], ◌∷◌, ◌++◌, Bool, true, false, ◌&&◌, nat_le, Option, Some, None, refl, sym, subst, ap, ◌∙◌, arith, inl, inr, slice_get}
-use Rattle.std.proofs.lemmas.Bool.{le-leb, lt-leb}
+use Rattle.std.proofs.Common.{◌≡◌, ◌≤◌, ◌<◌, ℕ, ◌+◌, ◌*◌, List, [], ◌∷◌, ◌++◌, Bool, true, false, ◌&&◌, nat_le, Option, Some, None, refl, sym, ap, arith, inl, inr, slice_get}
+use Rattle.std.proofs.lemmas.Bool.{lt-leb}
 use Rattle.std.specs.Char.{OutOfScalarRange}
 use Rattle.xt_names.specs.Classes.{is_in_ranges}
 use Rattle.xpath_lex.specs.Classes.{is_char}

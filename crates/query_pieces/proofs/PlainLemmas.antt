@@ -1,5 +1,5 @@
 -- A piece of a direct element tells nothing of a word before it.
-use Rattle.std.proofs.Common.{◌≡◌, ℕ, List, [], ◌∷◌, Bool, true, false, ◌==◌, Option, Some, None, if◌then◌else◌, refl, sym, ap, ◌∙◌}
+use Rattle.std.proofs.Common.{◌≡◌, ℕ, List, [], ◌∷◌, Bool, true, false, ◌==◌, Option, Some, None, if◌then◌else◌, refl, sym}
 use Rattle.xpath_lex.specs.Classes.{is_space}
 use Rattle.xpath_lex.specs.Readings.{IsOver, FaultAt, TokenAt, Placed, size}
 use Rattle.xpath_lex.specs.declared.lexing.TokenKind.{TokenKind}
@@ -9,11 +9,11 @@ use Rattle.expr_terms.specs.declared.choices.Second.{Second}
 use Rattle.expr_terms.specs.declared.choices.Second.TheVariants.{Alone as alone}
 use Rattle.expr_terms.specs.declared.tokens.Token.{Token}
 use Rattle.query_pieces.specs.Fronts.{run_of, rest_of, begins, eaten, spaces, NameAt, name_at}
-use Rattle.query_pieces.specs.Points.{Quote, single, double, Context, enclosed, tag, attribute, content, Before, Point, in_expression}
+use Rattle.query_pieces.specs.Points.{Quote, Context, enclosed, tag, attribute, content, Before, Point, in_expression}
 use Rattle.query_pieces.specs.References.{reference_at}
 use Rattle.query_pieces.specs.Elements.{Piece, mark_of, of_reference, closed, marked, run_or, shut, shut_from, inner_from, tag_from, content_mark, content_piece, is_content, is_value, value_mark, value_piece, quote_at, value_from, equals_from, attribute_from, empty_end, full_or, empty_or, tag_mark, tag_piece, piece_at}
 use Rattle.query_pieces.specs.Elements as piece
-use Rattle.query_pieces.specs.Readings.{touches, IsNext, Reads, spelled, opened, parted, IsEnd, Splits, over, reads}
+use Rattle.query_pieces.specs.Readings.{touches, IsNext, Reads, spelled, opened, parted, Splits, over, reads}
 use Rattle.query_pieces.specs.Answers.{IsStuck}
 use Rattle.query_pieces.proofs.AnswerLemmas.{stuck_touch}
 use Rattle.query_pieces.proofs.FrontLemmas.{either}

@@ -1,5 +1,5 @@
 -- At a point one token or piece is read.
-use Rattle.std.proofs.Common.{◌≡◌, ◌⊎◌, inl, inr, ℕ, List, [], ◌∷◌, ◌++◌, Bool, true, false, ◌==◌, ◌&&◌, Option, Some, None, MatchOption, refl, sym, ap, ◌∙◌, subst, arith}
+use Rattle.std.proofs.Common.{◌≡◌, ◌⊎◌, inl, inr, ℕ, List, [], ◌∷◌, Bool, true, false, ◌&&◌, Option, Some, None, refl, sym, ap, ◌∙◌}
 use Rattle.std.proofs.lemmas.Bool.{and_parts}
 use Rattle.std.proofs.lemmas.Slice.Eq.{bytes_eq-Decides}
 use Rattle.std.specs.Prelude.{codes}
@@ -11,19 +11,18 @@ use Rattle.xpath_lex.proofs.KindLemmas.{longest_one}
 use Rattle.xpath_lex.specs.declared.lexing.TokenKind.TheVariants.{Symbol}
 use Rattle.expr_terms.specs.declared.keys.Key.TheVariants as key
 use Rattle.expr_tokens.specs.Terms.{term_of}
-use Rattle.xpath_lex.specs.Readings.{Placed, size, TokenAt, IsOver, FaultAt}
-use Rattle.xpath_lex.proofs.CharacterFacts.{no, open_name}
-use Rattle.xpath_lex.proofs.ReadingLemmas.{token_one, token_not_over, fault_no_token, fault_not_over}
+use Rattle.xpath_lex.specs.Readings.{Placed, size}
+use Rattle.xpath_lex.proofs.CharacterFacts.{no}
+use Rattle.xpath_lex.proofs.ReadingLemmas.{token_one, token_not_over}
 use Rattle.xpath_lex.specs.declared.lexing.TokenKind.{TokenKind}
 use Rattle.expr_terms.specs.declared.tokens.Token.{Token}
 use Rattle.expr_terms.specs.declared.tokens.Token.TheVariants as token
-use Rattle.query_pieces.specs.Points.{Context, enclosed, tag, attribute, content, Before, integer, slash_key, other, Change, enters, Point, is_enclosed, in_expression, change_of, moved}
+use Rattle.query_pieces.specs.Points.{Context, enclosed, tag, attribute, content, Before, integer, slash_key, other, enters, Point, is_enclosed, in_expression, change_of, moved}
 use Rattle.query_pieces.specs.Fronts.{begins, NameAt, name_at}
 use Rattle.query_pieces.specs.Literals.{is_said, Says, over, itself, reference, line, return}
 use Rattle.query_pieces.specs.Spellings.{is_literal, Spells, literal, others}
 use Rattle.query_pieces.specs.Elements.{Piece, piece_at}
-use Rattle.query_pieces.specs.References.{reference_at}
-use Rattle.query_pieces.specs.Readings.{touches, may_open, opens, IsNext, Reads, spelled, opened, parted, IsEnd}
+use Rattle.query_pieces.specs.Readings.{may_open, opens, IsNext, Reads, spelled, opened, parted, IsEnd}
 
 abbrev first_of : Option (ℕ × List ℕ) → ℕ
 first_of None = 0

@@ -1,9 +1,8 @@
 -- What the next tokens tell of the word before them.
-use Rattle.std.proofs.Common.{◌≡◌, ℕ, ℤ, List, [], ◌∷◌, Bool, true, false, ◌&&◌, ◌==◌, Option, Some, None, option_map, refl, sym, ap, ◌∙◌}
-use Rattle.xpath_lex.specs.Classes.{is_space}
+use Rattle.std.proofs.Common.{◌≡◌, ℕ, ℤ, List, [], ◌∷◌, Bool, true, false, Option, Some, None, option_map, refl, sym, ap, ◌∙◌}
 use Rattle.xpath_lex.specs.Readings.{Placed, size, TokenAt, IsOver, FaultAt}
 use Rattle.xpath_lex.proofs.CharacterFacts.{no}
-use Rattle.xpath_lex.proofs.ReadingLemmas.{token_not_over, fault_no_token, fault_not_over}
+use Rattle.xpath_lex.proofs.ReadingLemmas.{token_not_over, fault_no_token}
 use Rattle.xpath_lex.specs.declared.lexing.TokenKind.{TokenKind}
 use Rattle.xpath_lex.specs.declared.lexing.TokenKind.TheVariants.{Integer, Literal, Word, QWord, AnyLocal, AnyPrefix, Symbol}
 use Rattle.expr_terms.specs.Keys.{is_worded}
@@ -17,12 +16,10 @@ use Rattle.expr_terms.specs.declared.tokens.Token.{Token}
 use Rattle.expr_terms.specs.declared.tokens.Token.TheVariants as token
 use Rattle.expr_tokens.specs.Terms.{qname_parts, word_or_name}
 use Rattle.expr_tokens.specs.Words.{key_of_word, key_of_symbol}
-use Rattle.query_pieces.specs.Points.{Context, tag, Before, other, Change, stays, enters, Point, in_expression, change_of_key, change_of, before_of_key, before_of, moved}
-use Rattle.query_pieces.specs.Fronts.{NameAt}
+use Rattle.query_pieces.specs.Points.{Context, other, stays, Point, in_expression, change_of_key, change_of, before_of_key, before_of, moved}
 use Rattle.query_pieces.specs.Spellings.{is_literal, Spells, literal, others}
-use Rattle.query_pieces.specs.Elements.{Piece, piece_at}
 use Rattle.query_pieces.specs.Seconds.{key_of, worded, is_name, second_by, is_brace}
-use Rattle.query_pieces.specs.Readings.{touches, opens, IsNext, Reads, spelled, opened, parted, IsEnd, Splits, over, reads}
+use Rattle.query_pieces.specs.Readings.{IsNext, Reads, spelled, opened, parted, Splits, over, reads}
 use Rattle.query_pieces.proofs.ReadingLemmas.{outside_elements, next_one, opens_less}
 
 -- whether the token is a name, and what it tells alone

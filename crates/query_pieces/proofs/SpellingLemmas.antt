@@ -1,7 +1,6 @@
 -- Literals as tokens.
-use Rattle.std.proofs.Common.{◌≡◌, ℕ, List, true, sym, ◌∙◌, refl}
+use Rattle.std.proofs.Common.{◌≡◌, ℕ, List, true, ◌∙◌, refl}
 use Rattle.xpath_lex.specs.declared.lexing.TokenKind.{TokenKind}
-use Rattle.expr_terms.specs.declared.tokens.Token.{Token}
 use Rattle.expr_terms.specs.declared.tokens.Token.TheVariants as token
 use Rattle.expr_tokens.specs.Literals.{unquoted}
 use Rattle.query_pieces.specs.Literals.{Says}

@@ -1,12 +1,12 @@
 -- How the text of a query is read as tokens of expressions and pieces of direct elements (XQuery 1.0,
 -- 3.7.1 and A.2).
-use Rattle.std.specs.Prelude.{◌≡◌, ℕ, List, [], ◌∷◌, Bool, true, false, ◌&&◌, ◌||◌, Some, codes}
+use Rattle.std.specs.Prelude.{◌≡◌, ℕ, List, [], ◌∷◌, Bool, true, false, ◌&&◌, Some, codes}
 use Rattle.std.specs.Str.{bytes_eq}
 use Rattle.xpath_lex.specs.Classes.{starts_name}
 use Rattle.xpath_lex.specs.Readings.{Placed, size, TokenAt, IsOver}
 use Rattle.expr_terms.specs.declared.tokens.Token.{Token}
 use Rattle.expr_terms.specs.declared.tokens.Token.TheVariants as token
-use Rattle.query_pieces.specs.Points.{Context, tag, Before, integer, slash_key, other, enters, Point, in_expression, change_of, moved}
+use Rattle.query_pieces.specs.Points.{Context, tag, Before, integer, slash_key, enters, Point, in_expression, change_of, moved}
 use Rattle.query_pieces.specs.Fronts.{begins, NameAt, name_at}
 use Rattle.query_pieces.specs.Spellings.{Spells}
 use Rattle.query_pieces.specs.Elements.{Piece, piece_at}

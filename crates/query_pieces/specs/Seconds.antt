@@ -1,15 +1,7 @@
 -- What a token of a text tells of the word before it.
 use Rattle.std.specs.Prelude.{ℕ, List, Bool, true, false, Option, Some, None}
 use Rattle.xpath_lex.specs.declared.lexing.TokenKind.{TokenKind}
-use Rattle.xpath_lex.specs.declared.lexing.TokenKind.TheVariants.{
-  Integer,
-  Literal,
-  Word,
-  QWord,
-  AnyLocal,
-  AnyPrefix,
-  Symbol,
-}
+use Rattle.xpath_lex.specs.declared.lexing.TokenKind.TheVariants.{Word, QWord, Symbol}
 use Rattle.expr_terms.specs.Keys.{is_worded}
 use Rattle.expr_terms.specs.Choices.{second_key}
 use Rattle.expr_terms.specs.declared.keys.Key.{Key}

@@ -1,15 +1,7 @@
 -- The tokens of expressions in queries (XQuery 1.0, A.2).
 use Rattle.std.specs.Prelude.{◌≡◌, ℕ, List, Bool, true, false, Some}
 use Rattle.xpath_lex.specs.declared.lexing.TokenKind.{TokenKind}
-use Rattle.xpath_lex.specs.declared.lexing.TokenKind.TheVariants.{
-  Integer,
-  Literal,
-  Word,
-  QWord,
-  AnyLocal,
-  AnyPrefix,
-  Symbol,
-}
+use Rattle.xpath_lex.specs.declared.lexing.TokenKind.TheVariants.{Literal}
 use Rattle.expr_terms.specs.declared.tokens.Token.{Token}
 use Rattle.expr_terms.specs.declared.tokens.Token.TheVariants as token
 use Rattle.expr_tokens.specs.Literals.{unquoted}

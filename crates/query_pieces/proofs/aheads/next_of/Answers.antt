@@ -1,7 +1,7 @@
 use Rattle.std.proofs.Common.{refl}
 use Rattle.std.proofs.lemmas.Str.{IsCharBoundary-start}
 use Rattle.xpath_lex.specs.Readings.{placed}
-use Rattle.query_pieces.proofs.AheadLemmas.{from_start, over_from_start, fault_from_start, token_parts, token_leads}
+use Rattle.query_pieces.proofs.AheadLemmas.{over_from_start, fault_from_start, token_parts, token_leads}
 use Rattle.query_pieces.proofs.aheads.next_of.Goals as goal
 
 pub token_at-requires : goal.token_at-requires

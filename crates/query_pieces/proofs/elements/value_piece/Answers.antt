@@ -1,4 +1,4 @@
-use Rattle.std.proofs.Common.{ap, ◌∙◌, sym}
+use Rattle.std.proofs.Common.{ap, ◌∙◌}
 use Rattle.query_pieces.specs.Elements.{is_value, mark_of, value_mark}
 use Rattle.query_pieces.proofs.ElementLemmas.{marks, runs, finds_same, finds_run}
 use Rattle.query_pieces.proofs.elements.value_piece.Goals as goal

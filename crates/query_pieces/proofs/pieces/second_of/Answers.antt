@@ -1,5 +1,4 @@
 use Rattle.std.proofs.Common.{sym, ◌∙◌}
-use Rattle.query_pieces.specs.Seconds.{second_by, key_of}
 use Rattle.query_pieces.proofs.SecondLemmas.{named_second, named_plain, other_second}
 use Rattle.query_pieces.proofs.pieces.second_of.Goals.{else-is_name-via-then-is_name+else-opens_brace, else-is_name-via-else-is_name}
 use Rattle.query_pieces.proofs.pieces.second_of.Goals as goal

@@ -1,4 +1,4 @@
-use Rattle.query_pieces.proofs.AnswerLemmas.{open_goes, stuck_name}
+use Rattle.query_pieces.proofs.AnswerLemmas.{open_goes}
 use Rattle.query_pieces.proofs.pieces.Pieces.open.Goals as goal
 
 pub returns-in_ok-local-in-Some : goal.returns-in_ok-local-in-Some

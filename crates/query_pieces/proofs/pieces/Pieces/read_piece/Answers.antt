@@ -1,4 +1,4 @@
-use Rattle.query_pieces.proofs.AnswerLemmas.{piece_found, piece_none}
+use Rattle.query_pieces.proofs.AnswerLemmas.{piece_found}
 use Rattle.query_pieces.proofs.pieces.Pieces.read_piece.Goals as goal
 
 pub returns-in-Some : goal.returns-in-Some

@@ -1,4 +1,4 @@
-use Rattle.std.proofs.Common.{sym, ◌∙◌, ap}
+use Rattle.std.proofs.Common.{sym, ◌∙◌}
 use Rattle.query_pieces.proofs.AnswerLemmas.{touch_found, fault_found, opened_found, spelled_found}
 use Rattle.query_pieces.proofs.pieces.Pieces.read_token.Goals as goal
 

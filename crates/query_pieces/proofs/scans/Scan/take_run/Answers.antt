@@ -1,4 +1,4 @@
-use Rattle.std.proofs.Common.{◌++◌, sym, ◌∙◌, ap, arith, refl}
+use Rattle.std.proofs.Common.{◌++◌, sym, ◌∙◌, ap, refl}
 use Rattle.std.specs.Char.{encode_utf8}
 use Rattle.std.specs.Str.{chars}
 use Rattle.xpath_lex.specs.Gaps.{Ends}

@@ -1,4 +1,3 @@
-use Rattle.std.proofs.Common.{◌∙◌}
 use Rattle.query_pieces.proofs.LiteralLemmas.{turned, turned_length, is_return, turns_line}
 use Rattle.query_pieces.proofs.scans.Scan.turned.Goals as goal
 
