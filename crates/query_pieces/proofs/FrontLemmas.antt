@@ -1,5 +1,6 @@
 -- What is taken from the front of a text.
-use Rattle.std.proofs.Common.{◌≡◌, ℕ, List, [], ◌∷◌, ◌++◌, Bool, true, false, ◌==◌, Option, Some, None, slice_get, MatchBool, refl, sym, ◌∙◌}
+use Rattle.std.proofs.Common.{◌≡◌, ℕ, List, [], ◌∷◌, ◌++◌, Bool, true, false, ◌==◌, Option, Some}
+use Rattle.std.proofs.Common.{None, slice_get, MatchBool, refl, sym, ◌∙◌}
 use Rattle.std.proofs.lemmas.Bool.{and_parts, eqb-true, false_from_ne_true}
 use Rattle.std.proofs.lemmas.List.{append_cancel_right}
 use Rattle.std.specs.List.{list_all}
@@ -12,12 +13,14 @@ use Rattle.query_pieces.specs.Fronts.{run_of, rest_of, eaten}
 pub eats : (c : ℕ) (old new : List ℕ) → old ≡ c ∷ new → eaten c old ≡ Some new
 eats c old new e = rw (e, itself c) refl
 
-pub eats_not : (c : ℕ) (old : List ℕ) (r : Option ℕ) → r ≡ slice_get old 0 → ((d : ℕ) → r ≡ Some d → d ≡ c → ⊥) → eaten c old ≡ None
+pub eats_not : (c : ℕ) (old : List ℕ) (r : Option ℕ) → r ≡ slice_get old 0 → ((d : ℕ)
+    → r ≡ Some d → d ≡ c → ⊥) → eaten c old ≡ None
 eats_not c [] r e f = refl
 eats_not c (d ∷ ds) r e f = rw (false_from_ne_true (d == c) (λ h. f d e (eqb-true d c h))) refl
 
 -- a run and what is left behind it are those of its class
-pub run_is : (p : ℕ → Bool) (run rest old : List ℕ) → old ≡ run ++ rest → list_all p run ≡ true → Ends p rest → (run ≡ run_of p old) × (rest ≡ rest_of p old)
+pub run_is : (p : ℕ → Bool) (run rest old : List ℕ) → old ≡ run ++ rest → list_all p run ≡ true
+    → Ends p rest → (run ≡ run_of p old) × (rest ≡ rest_of p old)
 run_is p [] [] old e a n = rw e (refl, refl)
 run_is p [] (x ∷ rest) old e a n = rw (e, n) (refl, refl)
 run_is p (x ∷ run) rest old e a n =
@@ -26,7 +29,9 @@ run_is p (x ∷ run) rest old e a n =
     rw (e, parts.0, ← more.0, ← more.1) (refl, refl)
 
 -- the character that a look found is taken
-pub skips : (c : ℕ) (old new : List ℕ) (r : Option ℕ) (b : Bool) → r ≡ slice_get old 0 → r ≡ Some c → MatchBool b (eaten c old ≡ Some new) ((eaten c old ≡ None) × (new ≡ old)) → old ≡ c ∷ new
+pub skips : (c : ℕ) (old new : List ℕ) (r : Option ℕ) (b : Bool) → r ≡ slice_get old 0
+    → r ≡ Some c → MatchBool b (eaten c old ≡ Some new) ((eaten c old ≡ None) × (new ≡ old))
+    → old ≡ c ∷ new
 skips c [] new r b e f m = cc
 skips c (d ∷ ds) new r true e f m =
     let same : d ≡ c = cc in
@@ -38,14 +43,18 @@ skips c (d ∷ ds) new r false e f m =
     let taken : eaten c (c ∷ ds) ≡ None = rw same at m.0 in
     let none : Some ds ≡ None = rw itself at taken in cc
 
-pub skips_none : (old new : List ℕ) (r : Option ℕ) → r ≡ slice_get old 0 → r ≡ None → new ≡ old → (old ≡ []) × (new ≡ [])
+pub skips_none : (old new : List ℕ) (r : Option ℕ) → r ≡ slice_get old 0 → r ≡ None → new ≡ old
+    → (old ≡ []) × (new ≡ [])
 skips_none [] new r e f s = (refl, s)
 skips_none (d ∷ ds) new r e f s = cc
 
 -- what the loop of a run took
-pub taken_is : (p : ℕ → Bool) (whole rest front old : List ℕ) → Taken p whole rest → chars whole ≡ chars front ++ chars rest → Ends p (chars rest) → old ≡ chars whole → (chars front ≡ run_of p old) × (chars rest ≡ rest_of p old)
+pub taken_is : (p : ℕ → Bool) (whole rest front old : List ℕ) → Taken p whole rest
+    → chars whole ≡ chars front ++ chars rest → Ends p (chars rest) → old ≡ chars whole
+    → (chars front ≡ run_of p old) × (chars rest ≡ rest_of p old)
 taken_is p whole rest front old t split n e =
-    let same : t.run ≡ chars front = append_cancel_right t.run (chars front) (chars rest) (sym t.characters ∙ split) in
+    let same : t.run ≡ chars front = append_cancel_right t.run (chars front) (chars rest)
+    (sym t.characters ∙ split) in
     run_is p (chars front) (chars rest) old (e ∙ split) (rw same at t.passes) n
 
 -- by cases on a test

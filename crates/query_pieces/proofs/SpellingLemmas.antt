@@ -6,5 +6,8 @@ use Rattle.expr_tokens.specs.Literals.{unquoted}
 use Rattle.query_pieces.specs.Literals.{Says}
 use Rattle.query_pieces.specs.Spellings.{is_literal, Spells, literal}
 
-pub literal_says : (cs inside text said : List ℕ) → inside ≡ unquoted cs → text ≡ inside → Says text said → (kind : TokenKind) → is_literal kind ≡ true → Spells kind cs (token.Quoted said)
-literal_says cs inside text said e f s kind h = let here : Says (unquoted cs) said = rw (f ∙ e) at s in literal h here refl
+pub literal_says : (cs inside text said : List ℕ) → inside ≡ unquoted cs → text ≡ inside
+    → Says text said → (kind : TokenKind) → is_literal kind ≡ true
+    → Spells kind cs (token.Quoted said)
+literal_says cs inside text said e f s kind h = let here : Says (unquoted cs) said = rw (f
+    ∙ e) at s in literal h here refl

@@ -1,12 +1,16 @@
--- The pieces of direct elements (XQuery 1.0, 3.7.1). Characters are parted so that there is one way to
--- read them: as many as stand for themselves are one piece, and a reference, a doubled brace or quote
+-- The pieces of direct elements (XQuery 1.0, 3.7.1). Characters are parted so that there is one
+-- way to
+-- read them: as many as stand for themselves are one piece, and a reference, a doubled brace or
+-- quote
 -- and a line end are a piece each. Pieces of any size mean the same.
-use Rattle.std.specs.Prelude.{◌≡◌, ℕ, List, [], ◌∷◌, Bool, true, false, not, ◌&&◌, ◌||◌, ◌==◌, Option, Some, None, if◌then◌else◌}
+use Rattle.std.specs.Prelude.{◌≡◌, ℕ, List, [], ◌∷◌, Bool, true, false, not, ◌&&◌, ◌||◌, ◌==◌}
+use Rattle.std.specs.Prelude.{Option, Some, None, if◌then◌else◌}
 use Rattle.xpath_lex.specs.Classes.{is_space, is_char}
 use Rattle.expr_terms.specs.declared.tokens.Token.{Token}
 use Rattle.expr_terms.specs.declared.tokens.Token.TheVariants as token
 use Rattle.query_pieces.specs.Fronts.{run_of, rest_of, begins, eaten, spaces, NameAt, name_at}
-use Rattle.query_pieces.specs.Points.{Quote, single, double, Context, enclosed, tag, attribute, content, Change, stays, enters, becomes, leaves}
+use Rattle.query_pieces.specs.Points.{Quote, single, double, Context, enclosed, tag, attribute}
+use Rattle.query_pieces.specs.Points.{content, Change, stays, enters, becomes, leaves}
 use Rattle.query_pieces.specs.References.{reference_at}
 
 -- a piece, what it does to what is open, and what is left behind it
@@ -68,7 +72,12 @@ is_content c = is_char c && not (c == 60 || c == 38 || c == 123 || c == 125 || c
 -- an end tag, behind its name
 abbrev pub shut : NameAt → Option (List ℕ) → Option Piece
 shut n None = None
-shut n (Some rest) = Some (record { token = token.Shut n.prefix n.local; change = leaves; rest = rest })
+shut n (Some rest) = Some (record {
+  token = token.Shut n.prefix n.local;
+  change = leaves;
+  rest =
+      rest;
+})
 
 abbrev pub shut_from : Option NameAt → Option Piece
 shut_from None = None
@@ -98,7 +107,8 @@ content_piece ts = run_or (run_of is_content ts) (rest_of is_content ts) (conten
 
 unfoldable pub is_value : Quote → ℕ → Bool
 is_value q c =
-    is_char c && not (c == mark_of q || c == 60 || c == 38 || c == 123 || c == 125 || c == 9 || c == 10 || c == 13)
+    is_char c && not (c == mark_of q || c == 60 || c == 38 || c == 123 || c == 125 || c == 9 || c
+    == 10 || c == 13)
 
 -- the quote doubled is a quote, and alone it ends the value
 abbrev pub quoted : ℕ → Option (List ℕ) → List ℕ → Piece
@@ -114,7 +124,8 @@ value_mark q (c ∷ ts) =
 
 -- QuotAttrValueContent or AposAttrValueContent, or the closing quote
 abbrev pub value_piece : Quote → List ℕ → Option Piece
-value_piece q ts = run_or (run_of (is_value q) ts) (rest_of (is_value q) ts) (value_mark (mark_of q) ts)
+value_piece q ts = run_or (run_of (is_value q) ts) (rest_of (is_value q) ts) (value_mark
+    (mark_of q) ts)
 
 -- tags
 
@@ -129,7 +140,12 @@ quote_at ts = quote_from (eaten 34 ts) (eaten 39 ts)
 abbrev pub value_from : NameAt → Option (Quote × List ℕ) → Option Piece
 value_from n None = None
 value_from n (Some q) =
-    Some (record { token = token.Attribute n.prefix n.local; change = enters (attribute q.0); rest = q.1 })
+    Some (record {
+      token = token.Attribute n.prefix n.local;
+      change = enters
+          (attribute q.0);
+      rest = q.1;
+    })
 
 abbrev pub equals_from : NameAt → Option (List ℕ) → Option Piece
 equals_from n None = None

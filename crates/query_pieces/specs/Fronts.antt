@@ -1,5 +1,6 @@
 -- What stands at the front of a text, and what is left behind it.
-use Rattle.std.specs.Prelude.{ℕ, List, [], ◌∷◌, Bool, false, ◌==◌, ◌&&◌, Option, Some, None, if◌then◌else◌}
+use Rattle.std.specs.Prelude.{ℕ, List, [], ◌∷◌, Bool, false, ◌==◌, ◌&&◌, Option, Some, None}
+use Rattle.std.specs.Prelude.{if◌then◌else◌}
 use Rattle.xpath_lex.specs.Classes.{is_space, starts_name, is_name_char}
 
 -- the characters of the class that come first

@@ -17,7 +17,8 @@ pub data Says : List ℕ → List ℕ → Type 0 where
   return : {ts said : List ℕ} → ((more : List ℕ) → ts ≡ 10 ∷ more → ⊥)
       → Says ts said → Says (13 ∷ ts) (10 ∷ said)
 
--- The front of the text says the character, whatever follows it: what the text says is that and what
+-- The front of the text says the character, whatever follows it: what the text says is that and
+-- what
 -- is left says.
 pub record Turns (text : List ℕ) (c : ℕ) (rest : List ℕ) : Type 0 where
   pub on : (said : List ℕ) → Says rest said → Says text (c ∷ said)

@@ -88,4 +88,9 @@ before_of _ = other
 
 -- behind the token, which left so much of the text
 abbrev pub moved : Point → Token → Change → List ℕ → Point
-moved p t change rest = record { contexts = changed change p.contexts; before = before_of t; rest = rest }
+moved p t change rest = record {
+  contexts = changed change p.contexts;
+  before = before_of t;
+  rest =
+      rest;
+}

@@ -1,4 +1,5 @@
--- How the text of a query is read as tokens of expressions and pieces of direct elements (XQuery 1.0,
+-- How the text of a query is read as tokens of expressions and pieces of direct elements (XQuery
+-- 1.0,
 -- 3.7.1 and A.2).
 use Rattle.std.specs.Prelude.{◌≡◌, ℕ, List, [], ◌∷◌, Bool, true, false, ◌&&◌, Some, codes}
 use Rattle.std.specs.Str.{bytes_eq}
@@ -6,7 +7,8 @@ use Rattle.xpath_lex.specs.Classes.{starts_name}
 use Rattle.xpath_lex.specs.Readings.{Placed, size, TokenAt, IsOver}
 use Rattle.expr_terms.specs.declared.tokens.Token.{Token}
 use Rattle.expr_terms.specs.declared.tokens.Token.TheVariants as token
-use Rattle.query_pieces.specs.Points.{Context, tag, Before, integer, slash_key, enters, Point, in_expression, change_of, moved}
+use Rattle.query_pieces.specs.Points.{Context, tag, Before, integer, slash_key, enters, Point}
+use Rattle.query_pieces.specs.Points.{in_expression, change_of, moved}
 use Rattle.query_pieces.specs.Fronts.{begins, NameAt, name_at}
 use Rattle.query_pieces.specs.Spellings.{Spells}
 use Rattle.query_pieces.specs.Elements.{Piece, piece_at}
@@ -20,7 +22,8 @@ abbrev pub may_open : Bool → Before → Bool
 may_open operand slash_key = true
 may_open operand _ = operand
 
--- The token `<` begins a direct element where an operand may stand and a name directly follows. Behind
+-- The token `<` begins a direct element where an operand may stand and a name directly follows.
+-- Behind
 -- a lone `/` an operand may always stand.
 abbrev pub opens : Bool → Before → List ℕ → List ℕ → Bool
 opens operand before token rest =
@@ -32,7 +35,8 @@ pub record IsNext (p : Point) (u : Placed) (rest : List ℕ) : Type 0 where
   pub apart : touches p.before p.rest ≡ false
   pub token : TokenAt (size p.rest) false p.rest u rest
 
--- Where the text is read at the first point, this token or piece may come next, and the second point
+-- Where the text is read at the first point, this token or piece may come next, and the second
+-- point
 -- is behind it. The truth value says whether an operand may stand there: it tells the operator `<`
 -- from the front of a direct element, and nothing else.
 pub data Reads (operand : Bool) (p : Point) (t : Token) (behind : Point) : Type 0 where

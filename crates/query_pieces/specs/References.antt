@@ -1,5 +1,6 @@
 -- References to characters (XML 1.0, 4.1 and 4.6; XQuery 1.0, 3.1.1).
-use Rattle.std.specs.Prelude.{ℕ, ◌+◌, ◌*◌, ◌-◌, List, [], ◌∷◌, Bool, ◌&&◌, ◌||◌, nat_le, Option, Some, None, if◌then◌else◌, codes}
+use Rattle.std.specs.Prelude.{ℕ, ◌+◌, ◌*◌, ◌-◌, List, [], ◌∷◌, Bool, ◌&&◌, ◌||◌, nat_le, Option}
+use Rattle.std.specs.Prelude.{Some, None, if◌then◌else◌, codes}
 use Rattle.std.specs.Str.{bytes_eq}
 use Rattle.xpath_lex.specs.Classes.{is_char, is_name_char, is_digit}
 use Rattle.query_pieces.specs.Fronts.{run_of, rest_of, eaten}
@@ -60,7 +61,8 @@ entity_at ts = closed (entity (run_of is_name_char ts)) (eaten 59 (rest_of is_na
 -- CharRef ::= "&#" [0-9]+ ";" | "&#x" [0-9a-fA-F]+ ";", behind '&#' or '&#x'
 abbrev pub number_at : Base → List ℕ → Option (ℕ × List ℕ)
 number_at base ts =
-    closed (numbered base (run_of (is_digit_of base) ts)) (eaten 59 (rest_of (is_digit_of base) ts))
+    closed (numbered base (run_of (is_digit_of base) ts)) (eaten 59 (rest_of
+    (is_digit_of base) ts))
 
 abbrev pub number_from : Option (List ℕ) → List ℕ → Option (ℕ × List ℕ)
 number_from None ts = number_at decimal ts

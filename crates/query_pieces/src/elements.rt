@@ -2,7 +2,8 @@
 ghost use Rattle.std.specs.Prelude.{◌≡◌, ◌∷◌, [], List, ℕ, IfOk, Some, None, MatchOption, true};
 ghost use Rattle.std.specs.Str.{chars};
 ghost use Rattle.query_pieces.specs.Elements.{Finds, Piece, is_value, mark_of, literal, line_end};
-ghost use Rattle.query_pieces.specs.Elements.{of_reference, opened, closed, marked, quoted, quote_at};
+ghost use Rattle.query_pieces.specs.Elements.{of_reference, opened, closed, marked, quoted};
+ghost use Rattle.query_pieces.specs.Elements.{quote_at};
 ghost use Rattle.query_pieces.specs.Elements.{shut_from, inner_from, tag_from, content_mark};
 ghost use Rattle.query_pieces.specs.Elements.{content_piece, value_mark, value_piece};
 ghost use Rattle.query_pieces.specs.Elements.{attribute_from, empty_end, tag_piece, piece_at};
@@ -38,7 +39,8 @@ fn literal(alloc: Global, text: &str) -> Read
 
 /// A character that is written in another way.
 fn character(alloc: Global, c: char) -> Read
-    ensures { IfOk result (λ found. (rest : List ℕ) → Finds found (Some (literal (c ∷ []) rest)) rest) }
+    ensures { IfOk result (λ found. (rest : List ℕ)
+        → Finds found (Some (literal (c ∷ []) rest)) rest) }
 {
     let text = text_of(alloc, c)?;
     Ok(Some((Token::Chars(text, true), Change::Stays)))

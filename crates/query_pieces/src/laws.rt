@@ -6,10 +6,10 @@ ghost use Rattle.expr_terms.specs.declared.tokens.Token.TheVariants as token;
 ghost use Rattle.query_pieces.specs.Points.{Point};
 ghost use Rattle.query_pieces.specs.Readings.{Reads, IsEnd};
 
-/// At a point, and given whether an operand may stand there, at most one token or piece may be read,
-/// in one way, and none at the end of the text. Where an operand may stand and where none may, the
-/// same is read, but that `<` may be the front of a direct element in the one case and is the operator
-/// in the other. Each token and each piece takes something of the text.
+/// At a point, and given whether an operand may stand there, at most one token or piece may be
+/// read, in one way, and none at the end of the text. Where an operand may stand and where none
+/// may, the same is read, but that `<` may be the front of a direct element in the one case and is
+/// the operator in the other. Each token and each piece takes something of the text.
 pub fn reads_one()
     ensures one { (operand : Bool) (p : Point) (t u : Token) (q r : Point)
         → Reads operand p t q → Reads operand p u r → (t ≡ u) × (q ≡ r) }

@@ -1,5 +1,6 @@
 // What literals say.
-ghost use Rattle.std.specs.Prelude.{◌≡◌, ◌≤◌, ◌∷◌, List, ℕ, false, length, IfOk, OnSome, MatchOption};
+ghost use Rattle.std.specs.Prelude.{◌≡◌, ◌≤◌, ◌∷◌, List, ℕ, false, length, IfOk, OnSome};
+ghost use Rattle.std.specs.Prelude.{MatchOption};
 ghost use Rattle.std.specs.Str.{chars};
 ghost use Rattle.query_pieces.specs.Literals.{is_said, Says, Turns};
 

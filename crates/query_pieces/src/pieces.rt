@@ -1,9 +1,11 @@
 // The text of a query, read token by token.
-ghost use Rattle.std.specs.Prelude.{◌≡◌, ◌∷◌, List, Bool, ℕ, true, false, IfOk, slice_get, Some, codes};
+ghost use Rattle.std.specs.Prelude.{◌≡◌, ◌∷◌, List, Bool, ℕ, true, false, IfOk, slice_get, Some};
+ghost use Rattle.std.specs.Prelude.{codes};
 ghost use Rattle.std.specs.Str.{chars, bytes_eq};
 ghost use Rattle.xpath_lex.specs.Classes.{starts_name};
 ghost use Rattle.xpath_lex.specs.Readings.{Placed, IsOver};
-ghost use Rattle.query_pieces.specs.Points.{start, is_enclosed, in_expression, change_of, change_of_key};
+ghost use Rattle.query_pieces.specs.Points.{start, is_enclosed, in_expression, change_of};
+ghost use Rattle.query_pieces.specs.Points.{change_of_key};
 ghost use Rattle.query_pieces.specs.Points.{before_of, before_of_key};
 ghost use Rattle.query_pieces.specs.Fronts.{begins};
 ghost use Rattle.query_pieces.specs.Points.{moved, Point};
@@ -206,7 +208,8 @@ impl<'a> Pieces<'a> {
     /// What is told where white space and comments alone are left.
     fn over(&self) -> Found
         requires { IsOver false self.now.rest }
-        ensures { (operand : Bool) (q : Point) → in_expression self.now.contexts ≡ true → Answers operand self.now result q }
+        ensures { (operand : Bool) (q : Point) → in_expression self.now.contexts ≡ true
+            → Answers operand self.now result q }
     {
         match self.contexts.top() {
             None => Found::End,
@@ -239,7 +242,8 @@ impl<'a> Pieces<'a> {
     fn read_piece(&mut self, alloc: Global, context: Context) -> Result<Found, AllocError>
         requires top { (cs : List Context) × (self.old.contexts ≡ context ∷ cs) }
         requires element { is_enclosed context ≡ false }
-        ensures { IfOk result (λ found. (operand : Bool) → Answers operand self.old found self.new) }
+        ensures { IfOk result (λ found. (operand : Bool)
+            → Answers operand self.old found self.new) }
     {
         let mut scan = Scan::new(self.rest);
         match piece_at(alloc, &mut scan, context)? {
@@ -248,10 +252,10 @@ impl<'a> Pieces<'a> {
         }
     }
 
-    /// Takes the token or piece that stands next. `operand` says whether an operand may stand there:
-    /// where one may, `<` directly before a name begins a direct element (XQuery 1.0, 3.7.1). End is
-    /// told where the text is over, and Nothing where no token and no piece may be read; then the
-    /// reading stays where it is.
+    /// Takes the token or piece that stands next. `operand` says whether an operand may stand
+    /// there: where one may, `<` directly before a name begins a direct element (XQuery 1.0,
+    /// 3.7.1). End is told where the text is over, and Nothing where no token and no piece may be
+    /// read; then the reading stays where it is.
     pub fn read(&mut self, alloc: Global, operand: bool) -> Result<Found, AllocError>
         ensures { IfOk result (λ found. Answers operand self.old found self.new) }
     {
@@ -277,8 +281,8 @@ impl<'a> Pieces<'a> {
         }
     }
 
-    /// What the tokens that come next tell of the one before them: that `(`, `::`, `$`, `{`, or a name
-    /// and `{` stands there, or none of these. Nothing is taken.
+    /// What the tokens that come next tell of the one before them: that `(`, `::`, `$`, `{`, or a
+    /// name and `{` stands there, or none of these. Nothing is taken.
     pub fn second(&self) -> Second
         ensures { (ts : List Token) → Splits self.now ts → result ≡ second_of ts }
     {

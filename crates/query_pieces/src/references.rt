@@ -1,7 +1,8 @@
 // References to characters.
 ghost use Rattle.std.specs.Prelude.{◌≡◌, ◌≤◌, ◌<◌, MatchOption, Some, None};
 ghost use Rattle.std.specs.Str.{chars};
-ghost use Rattle.query_pieces.specs.References.{entity, base_of, digit, value, char_of, numbered, entity_at};
+ghost use Rattle.query_pieces.specs.References.{entity, base_of, digit, value, char_of, numbered};
+ghost use Rattle.query_pieces.specs.References.{entity_at};
 ghost use Rattle.query_pieces.specs.References.{is_digit_of, number_at, reference_at};
 ghost use Rattle.query_pieces.specs.Fronts.{run_of, rest_of};
 

@@ -46,7 +46,8 @@ impl<'a> Scan<'a> {
 
     /// Takes the next character.
     pub(crate) fn skip(&mut self) -> Option<char>
-        ensures { MatchOption result ((self.old ≡ []) × (self.new ≡ [])) (λ c. self.old ≡ c ∷ self.new) }
+        ensures { MatchOption result ((self.old ≡ []) × (self.new ≡ []))
+            (λ c. self.old ≡ c ∷ self.new) }
     {
         let c = self.peek()?;
         let _taken = self.eat(c);

@@ -4,4 +4,10 @@ use Rattle.query_pieces.proofs.pieces.Pieces.open.Goals as goal
 pub returns-in_ok-local-in-Some : goal.returns-in_ok-local-in-Some
 returns-in_ok-local-in-Some c =
     open_goes _ _ _ _ _ _ _ c.go.ensures
-    (rw (c.in_ok-prefix-in-Some.ensures.ok, c.in_ok-local-in-Some.ensures.ok, c.rest.ensures, ← c.new-scan.ensures) c.in-Some.ensures)
+    (rw (
+      c.in_ok-prefix-in-Some.ensures.ok,
+      c.in_ok-local-in-Some.ensures.ok,
+      c.rest.ensures,
+      ←
+          c.new-scan.ensures,
+    ) c.in-Some.ensures)

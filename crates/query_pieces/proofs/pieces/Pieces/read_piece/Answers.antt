@@ -3,4 +3,5 @@ use Rattle.query_pieces.proofs.pieces.Pieces.read_piece.Goals as goal
 
 pub returns-in-Some : goal.returns-in-Some
 returns-in-Some c =
-    piece_found _ _ _ _ _ _ _ _ _ _ _ _ c.self.view_is c.requires.top c.go.ensures c.new-scan.ensures c.rest.ensures (rw c.in-Some.is at c.in_ok-token.ensures)
+    piece_found _ _ _ _ _ _ _ _ _ _ _ _ c.self.view_is c.requires.top c.go.ensures
+    c.new-scan.ensures c.rest.ensures (rw c.in-Some.is at c.in_ok-token.ensures)

@@ -8,4 +8,7 @@ pub returns-then-c-eq38-clause-shorter : goal.returns-then-c-eq38-clause-shorter
 returns-then-c-eq38-clause-shorter c = turned_length _ _ _ c.reference.ensures
 
 pub returns-else-c-eq38-clause-turned : goal.returns-else-c-eq38-clause-turned
-returns-else-c-eq38-clause-turned c = rw (is_return _ c.requires c.if-c-eq38.false, c.line_end.ensures) (turns_line _)
+returns-else-c-eq38-clause-turned c = rw (
+  is_return _ c.requires c.if-c-eq38.false,
+  c.line_end.ensures,
+) (turns_line _)
