@@ -1,0 +1,144 @@
+// Direct elements (XQuery 1.0, 3.7.1).
+use crate::shown::read;
+
+#[test]
+fn tags(rt: HostRuntime) {
+    let cases = [
+        ("<a/>", "Outer(a) EmptyEnd End"),
+        ("<a></a>", "Outer(a) TagEnd Shut(a) End"),
+        ("<a ></a >", "Outer(a) TagEnd Shut(a) End"),
+        ("<if \n/>", "Outer(if) EmptyEnd End"),
+        (
+            "<p:a  b='1' p:c = \"2\" />",
+            "Outer(p:a) Attribute(b) Chars(1) Unquote Attribute(p:c) Chars(2) Unquote EmptyEnd End",
+        ),
+        ("<a b=''/>", "Outer(a) Attribute(b) Unquote EmptyEnd End"),
+        (
+            "<a b='1'c='2'/>",
+            "Outer(a) Attribute(b) Chars(1) Unquote Nothing",
+        ),
+        ("<a b/>", "Outer(a) Nothing"),
+        ("<a b=1/>", "Outer(a) Nothing"),
+        ("<a / >", "Outer(a) Nothing"),
+        ("<a", "Outer(a) Nothing"),
+        ("<p:/>", "Outer(p) Nothing"),
+        ("<p:*/>", "Outer(p) Nothing"),
+        ("<a:b:c/>", "Outer(a:b) Nothing"),
+        ("<a></ a>", "Outer(a) TagEnd Nothing"),
+        ("<a>", "Outer(a) TagEnd Nothing"),
+        ("<a (: x :) />", "Outer(a) Nothing"),
+    ];
+    for (text, expected) in cases {
+        let found = read(&rt, text);
+        assert_eq!(rt; found.as_str(), expected);
+        drop(found);
+    }
+}
+
+#[test]
+fn values(rt: HostRuntime) {
+    let cases = [
+        ("'x'", "Chars(x) Unquote "),
+        ("\"'\"", "Chars(') Unquote "),
+        ("'\"'", "Chars(\") Unquote "),
+        ("\"x\"\"y\"", "Chars(x) Chars(\") Chars(y) Unquote "),
+        ("'x''y'", "Chars(x) Chars(') Chars(y) Unquote "),
+        ("\"''\"", "Chars('') Unquote "),
+        ("\"{'}'}\"", "Enter Quoted(}) Key(}) Unquote "),
+        (
+            "'{ 1 }{2}'",
+            "Enter Digits(1) Key(}) Enter Digits(2) Key(}) Unquote ",
+        ),
+        ("'{{}}'", "Chars({) Chars(}) Unquote "),
+        (
+            "'{<b c=\"d\"/>}'",
+            "Enter Outer(b) Attribute(c) Chars(d) Unquote EmptyEnd Key(}) Unquote ",
+        ),
+        (
+            "'&#x41;b&#10;'",
+            "Reference(A) Chars(b) Reference(\n) Unquote ",
+        ),
+        (
+            "'x\r\ny\tz\n'",
+            "Chars(x) Chars( ) Chars(y) Chars( ) Chars(z) Chars( ) Unquote ",
+        ),
+        ("' \r\r'", "Chars( ) Chars( ) Chars( ) Unquote "),
+        ("'>(: :)'", "Chars(>(: :)) Unquote "),
+    ];
+    for (text, expected) in cases {
+        let whole = format!(in rt.alloc(); "<a b={text}/>").expect(&rt, "memory");
+        let wanted = format!(in rt.alloc(); "Outer(a) Attribute(b) {expected}EmptyEnd End").expect(
+            &rt, "memory",
+        );
+        let found = read(&rt, whole.as_str());
+        assert_eq!(rt; found.as_str(), wanted.as_str());
+        drop(found);
+        drop(wanted);
+        drop(whole);
+    }
+    let refused = ["'<'", "'}'", "'&b'", "'&#xFFFE;'", "'\u{1}'"];
+    for text in refused {
+        let whole = format!(in rt.alloc(); "<a b={text}/>").expect(&rt, "memory");
+        let found = read(&rt, whole.as_str());
+        assert_eq!(rt; found.as_str(), "Outer(a) Attribute(b) Nothing");
+        drop(found);
+        drop(whole);
+    }
+}
+
+#[test]
+fn content(rt: HostRuntime) {
+    let cases = [
+        ("x", "Chars(x) "),
+        ("{{x}}", "Chars({) Chars(x) Chars(}) "),
+        ("{\"{\"}", "Enter Quoted({) Key(}) "),
+        ("{1}{2}", "Enter Digits(1) Key(}) Enter Digits(2) Key(}) "),
+        (
+            "{ <b>{1}</b> }",
+            "Enter Outer(b) TagEnd Enter Digits(1) Key(}) Shut(b) Key(}) ",
+        ),
+        (
+            "{ element b { 1 } }",
+            "Enter Key(element) Name(b) Key({) Digits(1) Key(}) Key(}) ",
+        ),
+        (
+            " <b>t</b> ",
+            "Chars( ) Inner(b) TagEnd Chars(t) Shut(b) Chars( ) ",
+        ),
+        ("<p:b/>", "Inner(p:b) EmptyEnd "),
+        ("&#x41;b&lt;", "Reference(A) Chars(b) Reference(<) "),
+        (
+            "x\r\ny\rz\n",
+            "Chars(x) Chars(\n) Chars(y) Chars(\n) Chars(z\n) ",
+        ),
+        ("'\"(: x :)]]>", "Chars('\"(: x :)]]>) "),
+        ("{a<b}", "Enter Name(a) Key(<) Name(b) Key(}) "),
+    ];
+    for (text, expected) in cases {
+        let whole = format!(in rt.alloc(); "<a>{text}</a>").expect(&rt, "memory");
+        let wanted = format!(in rt.alloc(); "Outer(a) TagEnd {expected}Shut(a) End").expect(
+            &rt, "memory",
+        );
+        let found = read(&rt, whole.as_str());
+        assert_eq!(rt; found.as_str(), wanted.as_str());
+        drop(found);
+        drop(wanted);
+        drop(whole);
+    }
+    let refused = [
+        "}",
+        "< b/>",
+        "<!-- -->",
+        "<![CDATA[x]]>",
+        "<?p?>",
+        "&b",
+        "\u{1}",
+    ];
+    for text in refused {
+        let whole = format!(in rt.alloc(); "<a>{text}</a>").expect(&rt, "memory");
+        let found = read(&rt, whole.as_str());
+        assert_eq!(rt; found.as_str(), "Outer(a) TagEnd Nothing");
+        drop(found);
+        drop(whole);
+    }
+}
