@@ -4,7 +4,7 @@ use query_pieces::{Found, Pieces};
 use std::alloc::AllocGlobal;
 use std::process::Abort;
 
-const MANY: usize = 100_000;
+const MANY: usize = 1_000_000;
 
 // How many tokens and pieces the text is, if it is read to its end. Each is looked at from before, as
 // the reader of the grammar does.
