@@ -16,7 +16,7 @@ use Rattle.query_pieces.specs.Fronts.{name_at}
 use Rattle.query_pieces.specs.Spellings.{Spells}
 use Rattle.query_pieces.specs.Elements.{piece_at}
 use Rattle.query_pieces.specs.Readings.{touches, opens, IsNext, Reads, spelled, opened, parted}
-use Rattle.query_pieces.specs.Answers.{IsStuck, Answers}
+use Rattle.query_pieces.specs.Answers.{IsStuck, Answers, Stays}
 use Rattle.query_pieces.specs.declared.pieces.Found.{Found}
 use Rattle.query_pieces.specs.declared.pieces.Found.TheVariants as found
 use Rattle.std.proofs.lemmas.Bool.{eqb-true}
@@ -233,3 +233,15 @@ piece_found r p q c t change scan left after s b ts e (xs, l) w n m f =
     let found : piece_at c p.rest ≡ Some (record { token = t; change = change; rest = left }) = rw
     (← here, m) f in
     piece_goes r p q c xs t change left w l found
+
+pub stays_same : (f : Found) (p q : Point) → q ≡ p → Stays f p q
+stays_same (found.Token t) p q e = tt
+stays_same found.End p q e = e
+stays_same found.Nothing p q e = e
+
+pub stays_went : {E : Type 0} (r : Result Found E) (p q : Point) (t : Token) (change : Change)
+    (rest : List ℕ) → Went r p q t change rest → IfOk r (λ f. Stays f p q)
+stays_went (Ok f) p q t change rest w = rw w.0 tt
+stays_went (Err x) p q t change rest w = tt
+
+pub ruleset staying = (stays_same, stays_went)

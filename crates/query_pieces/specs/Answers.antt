@@ -1,5 +1,5 @@
 -- What the reader of a query's text tells.
-use Rattle.std.specs.Prelude.{Bool}
+use Rattle.std.specs.Prelude.{◌≡◌, Bool}
 use Rattle.expr_terms.specs.declared.tokens.Token.{Token}
 use Rattle.query_pieces.specs.Points.{Point}
 use Rattle.query_pieces.specs.Readings.{Reads, IsEnd}
@@ -16,3 +16,9 @@ abbrev pub Answers : Bool → Point → Found → Point → Type 0
 Answers operand p (found.Token t) q = Reads operand p t q
 Answers operand p found.End q = IsEnd p
 Answers operand p found.Nothing q = IsStuck operand p
+
+-- where nothing is read, the reading stays where it is
+abbrev pub Stays : Found → Point → Point → Type 0
+Stays (found.Token t) p q = Unit {0}
+Stays found.End p q = q ≡ p
+Stays found.Nothing p q = q ≡ p

@@ -11,7 +11,7 @@ ghost use Rattle.query_pieces.specs.Fronts.{begins};
 ghost use Rattle.query_pieces.specs.Points.{moved, Point};
 ghost use Rattle.query_pieces.specs.Readings.{touches, may_open, opens, IsNext};
 ghost use Rattle.query_pieces.specs.Readings.{Splits};
-ghost use Rattle.query_pieces.specs.Answers.{Answers};
+ghost use Rattle.query_pieces.specs.Answers.{Answers, Stays};
 ghost use Rattle.expr_terms.specs.Choices.{open_next, second_of};
 ghost use Rattle.query_pieces.specs.declared.contexts.Before.TheVariants.{Other as other};
 
@@ -165,11 +165,13 @@ impl<'a> Pieces<'a> {
     }
 
     /// Takes the front of a direct element, whose `<` this is left behind.
+    #[tactic(auto, using(crate::proofs::AnswerLemmas::staying))]
     fn open(&mut self, alloc: Global, rest: &'a str) -> Result<Found, AllocError>
-        ensures { IfOk result (λ found. (operand : Bool) (u : Placed)
+        ensures answers { IfOk result (λ found. (operand : Bool) (u : Placed)
             → IsNext self.old u (chars rest.now)
             → opens operand self.old.before u.characters (chars rest.now) ≡ true
             → Answers operand self.old found self.new) }
+        ensures stays { IfOk result (λ found. Stays found self.old self.new) }
     {
         let mut scan = Scan::new(rest);
         match scan.name() {
@@ -184,6 +186,7 @@ impl<'a> Pieces<'a> {
     }
 
     /// Takes a token of expressions, which this is left behind.
+    #[tactic(auto, using(crate::proofs::AnswerLemmas::staying))]
     fn spell(
         &mut self,
         alloc: Global,
@@ -191,10 +194,11 @@ impl<'a> Pieces<'a> {
         text: &str,
         rest: &'a str,
     ) -> Result<Found, AllocError>
-        ensures { IfOk result (λ found. (operand : Bool) (u : Placed)
+        ensures answers { IfOk result (λ found. (operand : Bool) (u : Placed)
             → IsNext self.old u (chars rest.now) → u.kind ≡ kind → u.characters ≡ chars text.now
             → opens operand self.old.before u.characters (chars rest.now) ≡ false
             → Answers operand self.old found self.new) }
+        ensures stays { IfOk result (λ found. Stays found self.old self.new) }
     {
         match spelled(alloc, kind, text)? {
             Some(token) => {
@@ -218,9 +222,11 @@ impl<'a> Pieces<'a> {
     }
 
     /// Takes what stands next between tokens of expressions.
+    #[tactic(auto, using(crate::proofs::AnswerLemmas::staying))]
     fn read_token(&mut self, alloc: Global, operand: bool) -> Result<Found, AllocError>
         requires { in_expression self.old.contexts ≡ true }
-        ensures { IfOk result (λ found. Answers operand self.old found self.new) }
+        ensures answers { IfOk result (λ found. Answers operand self.old found self.new) }
+        ensures stays { IfOk result (λ found. Stays found self.old self.new) }
     {
         if touches(self.before, self.rest) {
             return Ok(Found::Nothing);
@@ -239,11 +245,13 @@ impl<'a> Pieces<'a> {
     }
 
     /// Takes a piece of a direct element.
+    #[tactic(auto, using(crate::proofs::AnswerLemmas::staying))]
     fn read_piece(&mut self, alloc: Global, context: Context) -> Result<Found, AllocError>
         requires top { (cs : List Context) × (self.old.contexts ≡ context ∷ cs) }
         requires element { is_enclosed context ≡ false }
-        ensures { IfOk result (λ found. (operand : Bool)
+        ensures answers { IfOk result (λ found. (operand : Bool)
             → Answers operand self.old found self.new) }
+        ensures stays { IfOk result (λ found. Stays found self.old self.new) }
     {
         let mut scan = Scan::new(self.rest);
         match piece_at(alloc, &mut scan, context)? {
@@ -256,8 +264,10 @@ impl<'a> Pieces<'a> {
     /// there: where one may, `<` directly before a name begins a direct element (XQuery 1.0,
     /// 3.7.1). End is told where the text is over, and Nothing where no token and no piece may be
     /// read; then the reading stays where it is.
+    #[tactic(auto, using(crate::proofs::AnswerLemmas::staying))]
     pub fn read(&mut self, alloc: Global, operand: bool) -> Result<Found, AllocError>
-        ensures { IfOk result (λ found. Answers operand self.old found self.new) }
+        ensures answers { IfOk result (λ found. Answers operand self.old found self.new) }
+        ensures stays { IfOk result (λ found. Stays found self.old self.new) }
     {
         match self.contexts.top() {
             None => self.read_token(alloc, operand),
