@@ -8,9 +8,10 @@ fn tags(rt: HostRuntime) {
         ("<a></a>", "Outer(a) TagEnd Shut(a) End"),
         ("<a ></a >", "Outer(a) TagEnd Shut(a) End"),
         ("<if \n/>", "Outer(if) EmptyEnd End"),
+        ("<p:a/>", "Outer(p:a) EmptyEnd End"),
         (
-            "<p:a  b='1' p:c = \"2\" />",
-            "Outer(p:a) Attribute(b) Chars(1) Unquote Attribute(p:c) Chars(2) Unquote EmptyEnd End",
+            "<a  b='1' p:c = \"2\" />",
+            "Outer(a) Attribute(b) Chars(1) Unquote Attribute(p:c) Chars(2) Unquote EmptyEnd End",
         ),
         ("<a b=''/>", "Outer(a) Attribute(b) Unquote EmptyEnd End"),
         (

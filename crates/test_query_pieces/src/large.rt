@@ -6,8 +6,8 @@ use std::process::Abort;
 
 const MANY: usize = 1_000_000;
 
-// How many tokens and pieces the text is, if it is read to its end. Each is looked at from before, as
-// the reader of the grammar does.
+// How many tokens and pieces the text is, if it is read to its end. Each is looked at from before,
+// as the reader of the grammar does.
 fn count(rt: &(impl Abort + AllocGlobal), text: &str) -> Option<usize> {
     let mut pieces = Pieces::new(rt.alloc(), text);
     for count in 0..=text.len() {

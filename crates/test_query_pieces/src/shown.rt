@@ -80,8 +80,8 @@ fn is_before_operand(token: &Token) -> bool {
     }
 }
 
-// the tokens of a text to its end, or to where nothing may be read; `always` and `never` say that an
-// operand may stand everywhere or nowhere, else what stands before tells
+// the tokens of a text to its end, or to where nothing may be read; `always` and `never` say that
+// an operand may stand everywhere or nowhere, else what stands before tells
 fn walked(rt: &(impl Abort + AllocGlobal), text: &str, always: bool, never: bool) -> String {
     let mut out = String::new(rt.alloc());
     let mut pieces = Pieces::new(rt.alloc(), text);

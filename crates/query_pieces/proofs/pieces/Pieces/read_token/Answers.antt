@@ -3,7 +3,8 @@ use Rattle.query_pieces.proofs.AnswerLemmas.{touch_found, fault_found, opened_fo
 use Rattle.query_pieces.proofs.pieces.Pieces.read_token.Goals as goal
 
 pub returns-then-touches-clause-answers : goal.returns-then-touches-clause-answers
-returns-then-touches-clause-answers c = touch_found _ _ _ _ _ c.self.view_is c.requires (sym c.touches.ensures
+returns-then-touches-clause-answers c = touch_found _ _ _ _ _ c.self.view_is c.requires
+    (sym c.touches.ensures
     ∙ c.if-touches.true)
 
 pub returns-then-opens-clause-answers : goal.returns-then-opens-clause-answers
@@ -19,4 +20,5 @@ returns-else-opens-clause-answers c =
     ∙ c.if-opens.false) c.spell.ensures.answers
 
 pub returns-in-Fault-clause-answers : goal.returns-in-Fault-clause-answers
-returns-in-Fault-clause-answers c = fault_found _ _ _ _ _ _ c.self.view_is c.requires c.in-Fault.ensures.1
+returns-in-Fault-clause-answers c = fault_found _ _ _ _ _ _ c.self.view_is c.requires
+    c.in-Fault.ensures.1
