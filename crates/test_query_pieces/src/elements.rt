@@ -1,5 +1,33 @@
 // Direct elements (XQuery 1.0, 3.7.1).
-use crate::shown::read;
+use crate::shown::{push, read};
+use std::alloc::AllocGlobal;
+use std::process::Abort;
+
+fn joined(rt: &(impl Abort + AllocGlobal), front: &str, middle: &str, back: &str) -> String {
+    let mut out = String::new(rt.alloc());
+    push(rt, &mut out, front);
+    push(rt, &mut out, middle);
+    push(rt, &mut out, back);
+    out
+}
+
+// what stands between the two texts is read so between the two readings
+fn is_read_within(
+    rt: &(impl Abort + AllocGlobal),
+    around: (&str, &str),
+    text: &str,
+    readings: (&str, &str),
+    expected: &str,
+) -> bool {
+    let whole = joined(rt, around.0, text, around.1);
+    let wanted = joined(rt, readings.0, expected, readings.1);
+    let found = read(rt, whole.as_str());
+    let same = found.as_str() == wanted.as_str();
+    drop(found);
+    drop(wanted);
+    drop(whole);
+    same
+}
 
 #[test]
 fn tags(rt: HostRuntime) {
@@ -66,24 +94,18 @@ fn values(rt: HostRuntime) {
         ("' \r\r'", "Chars( ) Chars( ) Chars( ) Unquote "),
         ("'>(: :)'", "Chars(>(: :)) Unquote "),
     ];
+    let readings = ("Outer(a) Attribute(b) ", "EmptyEnd End");
     for (text, expected) in cases {
-        let whole = format!(in rt.alloc(); "<a b={text}/>").expect(&rt, "memory");
-        let wanted = format!(in rt.alloc(); "Outer(a) Attribute(b) {expected}EmptyEnd End").expect(
-            &rt, "memory",
-        );
-        let found = read(&rt, whole.as_str());
-        assert_eq!(rt; found.as_str(), wanted.as_str());
-        drop(found);
-        drop(wanted);
-        drop(whole);
+        assert!(rt; is_read_within(&rt, ("<a b=", "/>"), text, readings, expected));
     }
+}
+
+#[test]
+fn values_refused(rt: HostRuntime) {
     let refused = ["'<'", "'}'", "'&b'", "'&#xFFFE;'", "'\u{1}'"];
+    let readings = ("Outer(a) Attribute(b) ", "");
     for text in refused {
-        let whole = format!(in rt.alloc(); "<a b={text}/>").expect(&rt, "memory");
-        let found = read(&rt, whole.as_str());
-        assert_eq!(rt; found.as_str(), "Outer(a) Attribute(b) Nothing");
-        drop(found);
-        drop(whole);
+        assert!(rt; is_read_within(&rt, ("<a b=", "/>"), text, readings, "Nothing"));
     }
 }
 
@@ -115,17 +137,14 @@ fn content(rt: HostRuntime) {
         ("'\"(: x :)]]>", "Chars('\"(: x :)]]>) "),
         ("{a<b}", "Enter Name(a) Key(<) Name(b) Key(}) "),
     ];
+    let readings = ("Outer(a) TagEnd ", "Shut(a) End");
     for (text, expected) in cases {
-        let whole = format!(in rt.alloc(); "<a>{text}</a>").expect(&rt, "memory");
-        let wanted = format!(in rt.alloc(); "Outer(a) TagEnd {expected}Shut(a) End").expect(
-            &rt, "memory",
-        );
-        let found = read(&rt, whole.as_str());
-        assert_eq!(rt; found.as_str(), wanted.as_str());
-        drop(found);
-        drop(wanted);
-        drop(whole);
+        assert!(rt; is_read_within(&rt, ("<a>", "</a>"), text, readings, expected));
     }
+}
+
+#[test]
+fn content_refused(rt: HostRuntime) {
     let refused = [
         "}",
         "< b/>",
@@ -135,11 +154,8 @@ fn content(rt: HostRuntime) {
         "&b",
         "\u{1}",
     ];
+    let readings = ("Outer(a) TagEnd ", "");
     for text in refused {
-        let whole = format!(in rt.alloc(); "<a>{text}</a>").expect(&rt, "memory");
-        let found = read(&rt, whole.as_str());
-        assert_eq!(rt; found.as_str(), "Outer(a) TagEnd Nothing");
-        drop(found);
-        drop(whole);
+        assert!(rt; is_read_within(&rt, ("<a>", "</a>"), text, readings, "Nothing"));
     }
 }
