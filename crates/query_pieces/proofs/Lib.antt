@@ -1,0 +1,12 @@
+pub mod AheadLemmas
+pub mod AnswerLemmas
+pub mod ElementLemmas
+pub mod FrontLemmas
+pub mod LiteralLemmas
+pub mod NameLemmas
+pub mod NumberLemmas
+pub mod PlainLemmas
+pub mod ReadingLemmas
+pub mod SecondLemmas
+pub mod ShortLemmas
+pub mod SpellingLemmas

@@ -1,0 +1,10 @@
+pub mod Points
+pub mod Fronts
+pub mod References
+pub mod Literals
+pub mod Spellings
+pub mod Elements
+pub mod Seconds
+pub mod Aheads
+pub mod Readings
+pub mod Answers
