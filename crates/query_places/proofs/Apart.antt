@@ -9,7 +9,7 @@ use Rattle.expr_terms.specs.declared.raws.Raw.{Raw}
 use Rattle.expr_terms.specs.Raws.{keep, build}
 use Rattle.expr_terms.specs.Productions.{fits, body, speaks, begins}
 use Rattle.expr_terms.specs.Choices.{choose, second_of}
-use Rattle.query_places.specs.TokenNames.{Token, slash, less, open_paren}
+use Rattle.query_places.specs.TokenNames.{Token, slash, less, semicolon}
 use Rattle.query_places.specs.TokenNames as token
 use Rattle.query_places.specs.Terms.{Language, xquery, ors, Nonterminal, level, tail, Class, key}
 use Rattle.query_places.specs.Terms.{outer}
@@ -28,19 +28,21 @@ use Rattle.query_places.specs.Places.{IsStart, production, single_alone}
 never : {P : Type 0} → false ≡ true → P
 never e = cc
 
-abbrev is_slash : Class → Bool
+abbrev pub is_slash : Class → Bool
 is_slash (key slash) = true
 is_slash _ = false
 
 -- a token that is no `<` comes first
-abbrev stops : List Symbol → Bool
+abbrev pub stops : List Symbol → Bool
 stops (tok c ∷ ss) = not (fits c (token.key less))
 stops _ = false
 
--- no operand may come behind what is optional, or begin it, unless a token must follow
-abbrev apart : List Symbol → Bool
+-- no operand may come behind what is optional, or begin it, unless a token must follow, and no
+-- part is a semicolon
+abbrev pub apart : List Symbol → Bool
 apart [] = true
-apart (tok c ∷ ss) = (is_slash c || not (awaits_step ss)) && apart ss
+apart (tok c ∷ ss) = (is_slash c || not (awaits_step ss)) &&
+    (not (fits c (token.key semicolon)) && apart ss)
 apart (one n ∷ ss) = not (wanted ss false) && apart ss
 apart (maybe n ∷ ss) = (not (begins_operand n) || stops ss) && (not (wanted ss false) && apart ss)
 apart (many n ∷ ss) = not (begins_operand n) && (not (wanted ss false) && apart ss)
@@ -52,7 +54,7 @@ apart_body (operated ors) = refl
 apart_body _ = refl
 
 -- no operand comes next below the topmost production
-abbrev Settled : List Frame → Type 0
+abbrev pub Settled : List Frame → Type 0
 Settled [] = Unit {0}
 Settled (doing p vs ss ∷ fs) = (wanted ss false ≡ false) × (apart ss ≡ true) × Settled fs
 
@@ -91,8 +93,9 @@ module _ (t : Token) where
   behind_token : (c : Class) (p : Production) (vs : List Raw) (ss : List Symbol) (fs : List Frame)
       → fits c t ≡ true → apart (tok c ∷ ss) ≡ true → Settled fs → Led t (doing p vs ss ∷ fs)
   behind_token c p vs ss fs f a s =
-      let parts = and_parts (is_slash c || not (awaits_step ss)) (apart ss) a in
-      record { formed = (parts.1, s); slashed = λ e. go (or_cases _ _ parts.0) e }
+      let parts = and_parts (is_slash c || not (awaits_step ss)) _ a in
+      let more = and_parts (not (fits c (token.key semicolon))) (apart ss) parts.1 in
+      record { formed = (more.1, s); slashed = λ e. go (or_cases _ _ parts.0) e }
     where
       go : (is_slash c ≡ true) ⊎ (not (awaits_step ss) ≡ true) → awaits_step ss ≡ true
           → t ≡ token.key slash
@@ -205,7 +208,7 @@ started : {from : List Frame} → IsStart from → Formed from
 started (production p) = (apart_body p, tt)
 started single_alone = (refl, tt)
 
-formed : {l : Language} {from fs : List Frame} → IsStart from → Reached l from fs → Formed fs
+pub formed : {l : Language} {from fs : List Frame} → IsStart from → Reached l from fs → Formed fs
 formed i began = started i
 formed {l = l} i (onward {fs = fs} {gs = gs} t ts r e) =
     (led t (advance l t (second_of ts) fs) gs e (leads t l (second_of ts) fs (formed i r))).formed

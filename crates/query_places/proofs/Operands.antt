@@ -4,7 +4,7 @@ use Rattle.std.proofs.Common.{Option, Some, None, is_some, ◌∙◌}
 use Rattle.expr_terms.specs.declared.choices.Second.{Second}
 use Rattle.expr_terms.specs.Productions.{fits, begins, is_after_root}
 use Rattle.query_places.specs.TokenNames as token
-use Rattle.query_places.specs.TokenNames.{less, open_paren, Key}
+use Rattle.query_places.specs.TokenNames.{Key}
 use Rattle.query_places.specs.Terms.{xquery, Level, ors, Nonterminal, level, tail}
 use Rattle.query_places.specs.Terms.{after_root, Class, key, operator, outer, Symbol, tok, one}
 use Rattle.query_places.specs.Terms.{maybe, many, longest, Production}
