@@ -1,5 +1,5 @@
 -- The declarations without expressions, and what stands before the expressions of the others.
-use Rattle.std.specs.Prelude.{Bool, true, false, ◌&&◌, codes, map}
+use Rattle.std.specs.Prelude.{ℕ, Bool, true, false, ◌&&◌, ◌||◌, codes}
 use Rattle.std.specs.Prelude.{List, [], ◌∷◌, Option, Some, None, if◌then◌else◌}
 use Rattle.std.specs.Str.{bytes_eq}
 use Rattle.expr_terms.specs.declared.tokens.Token.{Token}
@@ -10,10 +10,18 @@ use Rattle.query_grammar.specs.declared.declared.Opening.{Opening}
 use Rattle.query_grammar.specs.declared.declared.Opening.TheVariants as opening
 use Rattle.query_grammar.specs.declared.declared.Declared.{Declared}
 use Rattle.query_grammar.specs.declared.declared.Declared.TheVariants as declared
-use Rattle.query_grammar.specs.Words.{is_named, text_of, small}
+use Rattle.query_grammar.specs.Words.{is_named, text_of}
+
+-- the name of UTF-8 in small and capital letters
+abbrev pub is_utf8_text : List ℕ → Bool
+is_utf8_text cs =
+    bytes_eq cs (codes "utf-8") || (bytes_eq cs (codes "UTF-8") || (bytes_eq cs (codes "Utf-8")
+      || (bytes_eq cs (codes "uTf-8") || (bytes_eq cs (codes "utF-8")
+        || (bytes_eq cs (codes "UTf-8") || (bytes_eq cs (codes "UtF-8")
+          || bytes_eq cs (codes "uTF-8")))))))
 
 abbrev pub is_utf8 : Token → Bool
-is_utf8 t = bytes_eq (map small (text_of t)) (codes "utf-8")
+is_utf8 t = is_utf8_text (text_of t)
 
 -- "xquery" "version" Literal ("encoding" Literal)?
 abbrev pub version_of : List Token → Option Declared

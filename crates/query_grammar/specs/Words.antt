@@ -1,5 +1,5 @@
 -- The words of a prolog.
-use Rattle.std.specs.Prelude.{ℕ, ◌+◌, nat_le, Bool, true, false, ◌&&◌, codes}
+use Rattle.std.specs.Prelude.{ℕ, Bool, true, false, codes}
 use Rattle.std.specs.Prelude.{List, [], Option, Some, None, if◌then◌else◌}
 use Rattle.std.specs.Str.{bytes_eq}
 use Rattle.expr_terms.specs.declared.tokens.Token.{Token}
@@ -16,10 +16,6 @@ is_named word _ = false
 abbrev pub text_of : Token → List ℕ
 text_of (token.Quoted cs) = cs
 text_of _ = []
-
--- a letter in small
-abbrev pub small : ℕ → ℕ
-small c = if nat_le 65 c && nat_le c 90 then c + 32 else c
 
 -- what stands behind `declare`
 abbrev pub declared_by : Token → Option Opening
