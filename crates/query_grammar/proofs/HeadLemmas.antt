@@ -28,7 +28,8 @@ use Rattle.query_grammar.specs.Prolog.{IsTyped, typed, AreParams, last, before, 
 use Rattle.query_grammar.specs.Prolog.{some, IsSignature, signed, IsBehind, outside}
 use Rattle.query_grammar.specs.Machine.{is_head, typing_of, typed_of, params_in, params_of}
 use Rattle.query_grammar.specs.Machine.{inside}
-use Rattle.query_grammar.specs.Machine.{Signature, signature, signature_in, signature_of}
+use Rattle.query_grammar.specs.declared.declared.Signature.{Signature}
+use Rattle.query_grammar.specs.Machine.{signature, signature_in, signature_of}
 use Rattle.query_grammar.specs.Machine.{but_last}
 use Rattle.query_grammar.specs.Machine.{is_outside, outside_of}
 use Rattle.query_grammar.proofs.Tokens.{heads, name_head, word_head, function_head}

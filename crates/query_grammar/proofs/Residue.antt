@@ -33,7 +33,8 @@ use Rattle.query_grammar.specs.declared.declared.Declared.TheVariants as declare
 use Rattle.query_grammar.specs.Words.{is_named, opening_of, may_open, declared_by, versioned}
 use Rattle.query_grammar.specs.Prolog.{Cut, here, there, IsBehind, IsQuery}
 use Rattle.query_grammar.specs.Machine as machine
-use Rattle.query_grammar.specs.Machine.{Mode, Signature, function_of}
+use Rattle.query_grammar.specs.declared.declared.Signature.{Signature}
+use Rattle.query_grammar.specs.Machine.{Mode, function_of}
 use Rattle.query_grammar.proofs.Tokens.{heads}
 
 never : {P : Type 0} → false ≡ true → P

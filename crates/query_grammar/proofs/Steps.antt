@@ -34,7 +34,8 @@ use Rattle.query_grammar.specs.Prolog.{Cut, here, there, IsTyped, IsSignature, I
 use Rattle.query_grammar.specs.Prolog.{outside, valued, defined, IsDeclaration, opened, IsQuery}
 use Rattle.query_grammar.specs.Prolog.{body, declares}
 use Rattle.query_grammar.specs.Machine as machine
-use Rattle.query_grammar.specs.Machine.{Mode, Turn, Signature, function_of, is_head, step}
+use Rattle.query_grammar.specs.declared.declared.Signature.{Signature}
+use Rattle.query_grammar.specs.Machine.{Mode, Turn, function_of, is_head, step}
 use Rattle.query_grammar.specs.Machine.{to_mode}
 use Rattle.query_grammar.specs.Machine.{to_end, to_value, to_inner, to_closed, typed_of}
 use Rattle.query_grammar.specs.Machine.{value_start}

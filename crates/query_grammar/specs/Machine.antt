@@ -21,6 +21,7 @@ use Rattle.query_grammar.specs.declared.declared.Typed.{Typed}
 use Rattle.query_grammar.specs.declared.declared.Declared.{Declared}
 use Rattle.query_grammar.specs.declared.declared.Declared.TheVariants as declared
 use Rattle.query_grammar.specs.declared.declared.RawQuery.{RawQuery}
+use Rattle.query_grammar.specs.declared.declared.Signature.{Signature}
 use Rattle.query_grammar.specs.Words.{is_named, opening_of, may_open}
 use Rattle.query_grammar.specs.Heads.{short_of}
 use Rattle.query_grammar.specs.Prolog.{named_so, is_ordered}
@@ -63,12 +64,6 @@ inside (suc d) us (t ∷ ts) =
     if fits_key key.CloseParen t then inside d (us ++ t ∷ []) ts
     else if fits_key key.OpenParen t then inside (suc (suc d)) (us ++ t ∷ []) ts
     else inside (suc d) (us ++ t ∷ []) ts
-
--- the name, the parameters and the type of a function
-pub record Signature : Type 0 where
-  pub name : Token
-  pub params : List Typed
-  pub kind : Option Raw
 
 abbrev pub signature : Token → List Typed → Option Raw → Signature
 signature q ps k = record { name = q; params = ps; kind = k }

@@ -32,6 +32,14 @@ pub enum Declared {
     Function(Token, List<Typed>, Option<Raw>, Raw),
 }
 
+/// A function before its body: its name, its parameters, and its type where one is written.
+#[derive(Drop)]
+pub struct Signature {
+    pub name: Token,
+    pub params: List<Typed>,
+    pub kind: Option<Raw>,
+}
+
 /// A query: its declarations in order and its body.
 #[derive(Drop)]
 pub struct RawQuery {

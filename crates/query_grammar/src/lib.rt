@@ -12,7 +12,7 @@ ghost use Rattle.query_grammar.specs.Machine.{read_query};
 
 mod declared;
 
-pub use declared::{Declared, Opening, RawQuery, Typed};
+pub use declared::{Declared, Opening, RawQuery, Signature, Typed};
 
 /// What the reader makes of tokens is the query that they spell, and where it refuses them they
 /// spell none.
