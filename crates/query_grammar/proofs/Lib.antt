@@ -5,3 +5,4 @@ pub mod HeadLemmas
 pub mod Residue
 pub mod Steps
 pub mod Run
+pub mod Operands

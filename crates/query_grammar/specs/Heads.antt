@@ -16,9 +16,9 @@ use Rattle.query_grammar.specs.Words.{is_named, text_of}
 abbrev pub is_utf8_text : List ℕ → Bool
 is_utf8_text cs =
     bytes_eq cs (codes "utf-8") || (bytes_eq cs (codes "UTF-8") || (bytes_eq cs (codes "Utf-8")
-      || (bytes_eq cs (codes "uTf-8") || (bytes_eq cs (codes "utF-8")
-        || (bytes_eq cs (codes "UTf-8") || (bytes_eq cs (codes "UtF-8")
-          || bytes_eq cs (codes "uTF-8")))))))
+    || (bytes_eq cs (codes "uTf-8") || (bytes_eq cs (codes "utF-8")
+    || (bytes_eq cs (codes "UTf-8") || (bytes_eq cs (codes "UtF-8")
+    || bytes_eq cs (codes "uTF-8")))))))
 
 abbrev pub is_utf8 : Token → Bool
 is_utf8 t = is_utf8_text (text_of t)

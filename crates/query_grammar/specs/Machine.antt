@@ -1,5 +1,5 @@
 -- A reader of queries, token by token.
-use Rattle.std.specs.Prelude.{ℕ, zero, suc, Bool, true, false, ◌&&◌, not, codes}
+use Rattle.std.specs.Prelude.{◌≡◌, ℕ, zero, suc, Bool, true, false, ◌&&◌, not, codes}
 use Rattle.std.specs.Prelude.{List, [], ◌∷◌, ◌++◌, Option, Some, None, if◌then◌else◌}
 use Rattle.std.specs.Prelude.{option_map, option_and_then}
 use Rattle.expr_terms.specs.declared.tokens.Token.{Token}
@@ -14,7 +14,7 @@ use Rattle.expr_terms.specs.Keys.{same_key}
 use Rattle.expr_terms.specs.Tokens.{fits_key, fits_name, fits_function}
 use Rattle.expr_terms.specs.Choices.{second_of}
 use Rattle.expr_grammar.specs.Machine.{Frame, advance, finish, start, read_type}
-use Rattle.query_places.specs.Places.{start_single}
+use Rattle.query_places.specs.Places.{start_single, wants_operand, is_lone_slash}
 use Rattle.query_grammar.specs.declared.declared.Opening.{Opening}
 use Rattle.query_grammar.specs.declared.declared.Opening.TheVariants as opening
 use Rattle.query_grammar.specs.declared.declared.Typed.{Typed}
@@ -228,3 +228,26 @@ if_ordered q = if is_ordered q.declared then Some q else None
 -- the query that the tokens spell, where they spell one
 abbrev pub read_query : List Token → Option RawQuery
 read_query ts = option_and_then if_ordered (run ts front)
+
+-- whether an operand may come next
+abbrev pub wants : Mode → Bool
+wants front = true
+wants (body fs) = wants_operand fs
+wants (value n fs) = wants_operand fs
+wants (inner q fs) = wants_operand fs
+wants _ = false
+
+-- whether the last token was a `/` that stands alone unless a step follows
+abbrev pub is_lone : Mode → Bool
+is_lone (body fs) = is_lone_slash fs
+is_lone (value n fs) = is_lone_slash fs
+is_lone (inner q fs) = is_lone_slash fs
+is_lone _ = false
+
+-- where the front of a query leads to, with these tokens to come
+pub data Leads : Mode → List Token → Type 0 where
+  began : (ts : List Token) → Leads front ts
+  onward : {m n : Mode} {t : Token} {ts : List Token} → Leads m (t ∷ ts)
+      → step m t (second_of ts) ≡ onto n → Leads n ts
+  ended_by : {m : Mode} {t : Token} {ts : List Token} {d : Declared} → Leads m (t ∷ ts)
+      → step m t (second_of ts) ≡ ends d → Leads front ts

@@ -5,10 +5,14 @@
 //! reader, token by token, as a pure function. The laws say that the two are one.
 #![tactic(auto)]
 
-ghost use Rattle.std.specs.Prelude.{◌≡◌, ◌↔◌, List, Some, None};
+ghost use Rattle.std.specs.Prelude.{◌≡◌, ◌↔◌, ℕ, List, ◌∷◌, Some, None, true, false};
 ghost use Rattle.expr_terms.specs.declared.tokens.Token.{Token};
 ghost use Rattle.query_grammar.specs.Prolog.{SpellsQuery};
-ghost use Rattle.query_grammar.specs.Machine.{read_query};
+ghost use Rattle.expr_terms.specs.declared.tokens.Token.TheVariants.{Key as key, Outer as outer};
+ghost use Rattle.expr_terms.specs.declared.keys.Key.TheVariants.{Less as less, Slash as slash};
+ghost use Rattle.expr_terms.specs.Choices.{second_of};
+ghost use Rattle.query_grammar.specs.Machine.{read_query, Mode, step, wants, is_lone, Leads};
+ghost use Rattle.query_grammar.specs.Machine.{refused, onto};
 
 mod declared;
 
@@ -26,4 +30,22 @@ pub fn reads_what_is_spelled()
 /// Tokens spell at most one query.
 pub fn spells_one()
     ensures { (ts : List Token) (a b : RawQuery) → SpellsQuery ts a → SpellsQuery ts b → a ≡ b }
+{}
+
+/// Where no operand may come next the reader takes no front of a direct element.
+pub fn elements_are_operands()
+    ensures { (m : Mode) (p n : List ℕ) (ts : List Token) → Leads m (outer p n ∷ ts)
+        → wants m ≡ false → step m (outer p n) (second_of ts) ≡ refused }
+{}
+
+/// Where one may come next it takes no `<`, but behind a `/` that may stand alone.
+pub fn no_operand_is_compared()
+    ensures { (m : Mode) (ts : List Token) → Leads m (key less ∷ ts) → wants m ≡ true
+        → is_lone m ≡ false → step m (key less) (second_of ts) ≡ refused }
+{}
+
+/// Only `/` leads to where it may stand alone.
+pub fn slashes_stand_alone()
+    ensures { (m n : Mode) (t : Token) (ts : List Token) → Leads m (t ∷ ts)
+        → step m t (second_of ts) ≡ onto n → is_lone n ≡ true → t ≡ key slash }
 {}
