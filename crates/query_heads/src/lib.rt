@@ -14,6 +14,6 @@ mod variables;
 mod words;
 
 pub use shorts::whole_of;
-pub use signatures::{Signature, inner_start};
+pub use signatures::inner_start;
 pub use variables::value_start;
 pub use words::{is_head, may_open, opening_of};

@@ -21,8 +21,7 @@ fn is_utf8_text(text: &str) -> bool
                 || (is_ascii_text(text, "uTf-8")
                     || (is_ascii_text(text, "utF-8")
                         || (is_ascii_text(text, "UTf-8")
-                            || (is_ascii_text(text, "UtF-8")
-                                || is_ascii_text(text, "uTF-8")))))))
+                            || (is_ascii_text(text, "UtF-8") || is_ascii_text(text, "uTF-8")))))))
 }
 
 /// Whether the token names UTF-8.

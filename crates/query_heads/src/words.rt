@@ -7,7 +7,7 @@ ghost use Rattle.query_grammar.specs.Machine.{is_head, is_head_key};
 use expr_terms::{Key, Token, same_key};
 use query_grammar::Opening;
 use std::alloc::{AllocError, Global};
-use xt_names::{Text, is_ascii_text};
+use xt_names::{Text, TextBuilder, is_ascii_text};
 
 /// Whether the token is this word, which is no key.
 pub fn is_named(token: &Token, word: &str) -> bool
@@ -26,7 +26,7 @@ pub fn text_of(alloc: Global, token: &Token) -> Result<Text, AllocError>
 {
     match token {
         Token::Quoted(text) => text.copy(),
-        _ => Text::make(alloc, ""),
+        _ => TextBuilder::new(alloc).finish(),
     }
 }
 
