@@ -2,8 +2,8 @@
 //! 4), over tokens: what the first two words open, the declarations without an expression, and the
 //! names, parameters and types of variables and functions.
 //!
-//! Example: `$a as xs:integer` is the variable `a` with its type, and `f($a, $b as item()) as node()`
-//! the signature of a function with two parameters.
+//! Example: `$a as xs:integer` is the variable `a` with its type, and
+//! `f($a, $b as item()) as node()` the signature of a function with two parameters.
 #![tactic(auto)]
 
 mod kinds;

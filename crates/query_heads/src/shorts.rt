@@ -1,6 +1,8 @@
 // The declarations without an expression.
 ghost use Rattle.std.specs.Prelude.{◌≡◌, IfOk};
-ghost use Rattle.query_grammar.specs.Heads.{is_utf8_text, is_utf8, version_of, namespace_of, in_default, default_of, space_of, ordering_of, copying_of, setting_of, short_of};
+ghost use Rattle.query_grammar.specs.Heads.{is_utf8_text, is_utf8, version_of, namespace_of};
+ghost use Rattle.query_grammar.specs.Heads.{in_default, default_of, space_of, ordering_of};
+ghost use Rattle.query_grammar.specs.Heads.{copying_of, setting_of, short_of};
 ghost use Rattle.query_grammar.specs.Machine.{whole_of};
 ghost use Rattle.std.specs.Str.{chars};
 ghost use Rattle.expr_terms.specs.Productions.{fits_quoted};

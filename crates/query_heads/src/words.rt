@@ -1,7 +1,8 @@
 // The words of a prolog.
 ghost use Rattle.std.specs.Prelude.{◌≡◌, nat_lt, IsTrue, IfOk};
 ghost use Rattle.std.specs.List.{list_all};
-ghost use Rattle.query_grammar.specs.Words.{is_named, declared_by, versioned, opening_of, may_open, text_of};
+ghost use Rattle.query_grammar.specs.Words.{is_named, declared_by, versioned, opening_of};
+ghost use Rattle.query_grammar.specs.Words.{may_open, text_of};
 ghost use Rattle.query_grammar.specs.Machine.{is_head, is_head_key};
 
 use expr_terms::{Key, Token, same_key};

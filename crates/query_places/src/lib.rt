@@ -6,8 +6,8 @@
 //! element is taken exactly there, and that `<` is taken nowhere there, unless directly behind a
 //! `/` that may stand alone.
 //!
-//! A semicolon, which ends a declaration, is part of no expression; a closing brace, which ends the
-//! body of a function, is part of none that may end before it.
+//! A semicolon, which ends a declaration, is part of no expression; a closing brace, which ends
+//! the body of a function, is part of none that may end before it.
 //!
 //! Example: at the start and behind `1 +` an operand may come next, behind `1` none.
 #![tactic(auto)]
