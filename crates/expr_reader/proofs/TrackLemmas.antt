@@ -1,6 +1,7 @@
 -- Reading token by token.
 use Rattle.std.proofs.Common.{◌≡◌, ◌<◌, ℕ, Bool, true, false, List, [], ◌∷◌, refl, sym, ◌∙◌, ap}
-use Rattle.std.proofs.Common.{subst, Option, Some, None, option_and_then, is_some, Result, Ok, Err, IfOk}
+use Rattle.std.proofs.Common.{subst, Option, Some, None, option_and_then, is_some, Result, Ok}
+use Rattle.std.proofs.Common.{Err, IfOk}
 use Rattle.expr_reader.specs.TokenNames.{Token}
 use Rattle.expr_reader.specs.Terms.{Language}
 use Rattle.expr_reader.specs.RawNames.{Raw}
@@ -44,7 +45,8 @@ found_at : (k : ℕ) (l : Language) (was deep : Bool) (t : Token) (s : Second)
     → Advanced true k was deep l t s now new → Follows k l was now fs (t ∷ ts)
     → advance l t s fs ≡ o → Found k l deep new o ts
 found_at k l was deep t s now new fs ts None e a f g =
-    absurd (nothing (sym (ap outlines g) ∙ (advance-outline l t s fs now f.outlined ∙ a.outlined)))
+    absurd (nothing (sym (ap outlines g) ∙ (advance-outline l t s fs now f.outlined
+        ∙ a.outlined)))
   where
     nothing : None ≡ Some (outline new) → ⊥
     nothing e = absurd cc
@@ -53,7 +55,8 @@ found_at k l was deep t s now new fs ts (Some gs) e a f g =
       frames = gs;
       led = refl;
       follows = record {
-        outlined = some_same (sym (ap outlines g) ∙ (advance-outline l t s fs now f.outlined ∙ a.outlined));
+        outlined = some_same (sym (ap outlines g) ∙ (advance-outline l t s fs now f.outlined
+            ∙ a.outlined));
         exact = exact was a f;
         sinks = sinks was a f;
       };
@@ -78,21 +81,25 @@ found_at k l was deep t s now new fs ts (Some gs) e a f g =
 
 pub follows_next : (went : Bool) (old new : Reader) (t : Token) (s : Second) (fs : List Frame)
     (ts : List Token) → new.limit ≡ old.limit → new.language ≡ old.language → second_of ts ≡ s
-    → Advanced went old.limit old.is_deep new.is_deep old.language t s (frames_of old.frames.items)
+    → Advanced went old.limit old.is_deep new.is_deep old.language t s
+        (frames_of old.frames.items)
     (frames_of new.frames.items)
     → Tracks old fs (t ∷ ts) → Led went (advance old.language t s fs) new ts
 follows_next false old new t s fs ts k l e a f =
     none_outlined _ (advance-outline old.language t s fs (frames_of old.frames.items) f.outlined
     ∙ ap outlines a.outlined)
 follows_next true old new t s fs ts k l e a f =
-    let x = found_at old.limit old.language old.is_deep new.is_deep t s (frames_of old.frames.items)
+    let x = found_at old.limit old.language old.is_deep new.is_deep t s
+        (frames_of old.frames.items)
     (frames_of new.frames.items) fs ts (advance old.language t s fs) e a f refl in
     record {
       frames = x.frames;
       led = x.led;
       tracks =
-          subst (λ z. Follows z new.language new.is_deep (frames_of new.frames.items) x.frames ts) (sym k)
-          (subst (λ z. Follows old.limit z new.is_deep (frames_of new.frames.items) x.frames ts) (sym l)
+          subst (λ z. Follows z new.language new.is_deep (frames_of new.frames.items) x.frames ts)
+              (sym k)
+          (subst (λ z. Follows old.limit z new.is_deep (frames_of new.frames.items) x.frames ts)
+              (sym l)
           x.follows);
     }
 
@@ -109,7 +116,8 @@ pub finish_follows : {E : Type 0} (self : Reader) (x : Result Reading E)
     → IfOk x (λ y. Finished y self.limit self.is_deep (frames_of self.frames.items))
     → IfOk x (λ y. (fs : List Frame) → Tracks self fs [] → y ≡ within self.limit (finish fs))
 finish_follows self (Ok y) e =
-    λ fs t. follows_end self.limit self.language self.is_deep (frames_of self.frames.items) fs y t e
+    λ fs t. follows_end self.limit self.language self.is_deep
+        (frames_of self.frames.items) fs y t e
 finish_follows self (Err z) e = tt
 
 pub ruleset tracking = (follows_begin, follows_next, follows_end)
