@@ -1,1 +1,2 @@
 pub mod WantLemmas
+pub mod EndLemmas

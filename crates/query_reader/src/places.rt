@@ -53,7 +53,7 @@ fn is_after_root(nonterminal: Nonterminal) -> bool
 
 /// What is still wanted of the production.
 #[tactic(auto, using(crate::proofs::WantLemmas::rests))]
-fn behind(production: Production, place: usize) -> &'static [Symbol]
+pub(crate) fn behind(production: Production, place: usize) -> &'static [Symbol]
     ensures { result.now ≡ drop place (body production) }
 {
     let parts = body(production);
