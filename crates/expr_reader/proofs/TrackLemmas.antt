@@ -46,7 +46,7 @@ found_at : (k : ℕ) (l : Language) (was deep : Bool) (t : Token) (s : Second)
     → advance l t s fs ≡ o → Found k l deep new o ts
 found_at k l was deep t s now new fs ts None e a f g =
     absurd (nothing (sym (ap outlines g) ∙ (advance-outline l t s fs now f.outlined
-        ∙ a.outlined)))
+    ∙ a.outlined)))
   where
     nothing : None ≡ Some (outline new) → ⊥
     nothing e = absurd cc
@@ -82,7 +82,7 @@ found_at k l was deep t s now new fs ts (Some gs) e a f g =
 pub follows_next : (went : Bool) (old new : Reader) (t : Token) (s : Second) (fs : List Frame)
     (ts : List Token) → new.limit ≡ old.limit → new.language ≡ old.language → second_of ts ≡ s
     → Advanced went old.limit old.is_deep new.is_deep old.language t s
-        (frames_of old.frames.items)
+    (frames_of old.frames.items)
     (frames_of new.frames.items)
     → Tracks old fs (t ∷ ts) → Led went (advance old.language t s fs) new ts
 follows_next false old new t s fs ts k l e a f =
@@ -90,16 +90,16 @@ follows_next false old new t s fs ts k l e a f =
     ∙ ap outlines a.outlined)
 follows_next true old new t s fs ts k l e a f =
     let x = found_at old.limit old.language old.is_deep new.is_deep t s
-        (frames_of old.frames.items)
+    (frames_of old.frames.items)
     (frames_of new.frames.items) fs ts (advance old.language t s fs) e a f refl in
     record {
       frames = x.frames;
       led = x.led;
       tracks =
           subst (λ z. Follows z new.language new.is_deep (frames_of new.frames.items) x.frames ts)
-              (sym k)
+          (sym k)
           (subst (λ z. Follows old.limit z new.is_deep (frames_of new.frames.items) x.frames ts)
-              (sym l)
+          (sym l)
           x.follows);
     }
 
@@ -117,7 +117,7 @@ pub finish_follows : {E : Type 0} (self : Reader) (x : Result Reading E)
     → IfOk x (λ y. (fs : List Frame) → Tracks self fs [] → y ≡ within self.limit (finish fs))
 finish_follows self (Ok y) e =
     λ fs t. follows_end self.limit self.language self.is_deep
-        (frames_of self.frames.items) fs y t e
+    (frames_of self.frames.items) fs y t e
 finish_follows self (Err z) e = tt
 
 pub ruleset tracking = (follows_begin, follows_next, follows_end)
