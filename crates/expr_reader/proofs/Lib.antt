@@ -5,3 +5,4 @@ pub mod Outline
 pub mod PassingLemmas
 pub mod PartLemmas
 pub mod ClimbLemmas
+pub mod TrackLemmas

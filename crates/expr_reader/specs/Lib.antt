@@ -5,3 +5,4 @@ pub mod Answers
 pub mod TokenNames
 pub mod Terms
 pub mod RawNames
+pub mod Tracks

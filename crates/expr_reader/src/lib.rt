@@ -21,11 +21,14 @@ mod fronts;
 mod parts;
 mod passing;
 mod readings;
+mod running;
 mod steps;
 
 use expr_nest::Measure;
 use expr_terms::{Language, Production, Token, second_of};
+pub use frames::Frame;
 pub use readings::Reading;
+pub use running::Reader;
 use std::alloc::{AllocError, Global};
 
 /// What the tokens lead to from the production alone.

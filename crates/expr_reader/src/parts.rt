@@ -207,3 +207,14 @@ pub fn start(alloc: Global, production: Production) -> Result<Vec<Frame>, AllocE
     frames.push(opened(alloc, production, 0))?;
     Ok(frames)
 }
+
+/// .. of which the first part stands behind.
+#[tactic(auto, using(crate::proofs::ViewLemmas::views))]
+pub fn start_behind(alloc: Global, production: Production) -> Result<Vec<Frame>, AllocError>
+    ensures { IfOk result (λ frames. frames_of frames.items
+        ≡ doing production [] (drop 1 (body production)) ∷ []) }
+{
+    let mut frames = Vec::new(alloc);
+    frames.push(opened(alloc, production, 1))?;
+    Ok(frames)
+}

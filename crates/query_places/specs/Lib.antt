@@ -1,0 +1,3 @@
+pub mod TokenNames
+pub mod Terms
+pub mod Places

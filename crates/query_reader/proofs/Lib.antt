@@ -1,0 +1,2 @@
+pub mod WantLemmas
+pub mod EndLemmas
