@@ -13,6 +13,7 @@ use Rattle.std.specs.Prelude.{nat_eq}
 use Rattle.node_walks.specs.Sift.{is_kept, after}
 use Rattle.quiet_meaning.specs.Quietly.{quietly_of, is_pattern_form, holds_quietly}
 use Rattle.quiet_meaning.specs.Paths.{keeps}
+
 pub allowed_at : (tests : List Expr) (i : ℕ) (e : Expr) → i < length tests → e ≡ get_or tests i e → list_all is_pattern_form (map quietly_of tests) ≡ true → is_pattern_form (quietly_of e) ≡ true
 allowed_at [] i e l is h = absurd (omega arith)
 allowed_at (t ∷ tests) zero e l is h = ap (λ (z : Expr). is_pattern_form (quietly_of z)) is ∙ (and_parts (is_pattern_form (quietly_of t)) (list_all is_pattern_form (map quietly_of tests)) h).0

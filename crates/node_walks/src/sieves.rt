@@ -66,12 +66,7 @@ impl Sieve {
 }
 
 /// How many of the predicates keep the node, one after another, until one does not.
-fn count_kept(
-    alloc: Global,
-    tests: &[Expr],
-    seen: &[u64],
-    node: &Node,
-) -> Result<usize, AllocError>
+fn count_kept(alloc: Global, tests: &[Expr], seen: &[u64], node: &Node) -> Result<usize, AllocError>
     requires { IsSieve tests.now seen.now }
     ensures count { IfOk result (λ count. count ≡ kept_in_turn (keeps tests.now) seen.now node.now) }
     ensures fits { IfOk result (λ count. (k : ℕ) → k < count + 1

@@ -15,8 +15,8 @@ ghost use Rattle.node_walks.specs.Moves.{given, steps_before, all_steps, has_ite
 ghost use Rattle.node_walks.specs.Moves.{settled, standing, passed};
 
 use crate::axis_walks::AxisWalk;
-use node_axes::{Cursor, Steps};
 use crate::quiet_walks::QuietWalk;
+use node_axes::{Cursor, Steps};
 use std::alloc::{AllocError, Global};
 use std::marker::{Brand, Model};
 use std::sync::ledger::{Blank, Ledger};
@@ -111,11 +111,7 @@ impl Walk {
     /// The nodes among these that the predicates keep in turn, where each of them counts positions
     /// in the list that it gets (XPath 2.0, 3.2.2). It takes no step. A predicate is asked when its
     /// node is reached, so it must not look at how many nodes there are, as last() does.
-    pub fn of_quiet(
-        alloc: Global,
-        cursor: Cursor,
-        tests: List<Expr>,
-    ) -> Result<Walk, AllocError>
+    pub fn of_quiet(alloc: Global, cursor: Cursor, tests: List<Expr>) -> Result<Walk, AllocError>
         requires { are_allowed tests ≡ true }
         ensures moves { let none = replicate (length tests) 0 in
             let moves = sifted_moves (keeps tests) none (moves_to_come cursor) in

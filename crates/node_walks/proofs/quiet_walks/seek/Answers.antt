@@ -14,7 +14,7 @@ returns-then-branch-clause-found g c = λ _.
     let there = sifted_moves (keeps c.loop-walk.sieve.tests) c.loop-walk.sieve.seen.items c.settle.new.self in
     let first : IsOn c.args.steps.now c.loop-walk.steps start here = record { rest = i.rest; steps = i.counted } in
     let o = on_then c.args.steps.now c.loop-walk.steps c.settle.new.steps start here there first
-        (on_settle (keeps c.loop-walk.sieve.tests) c.loop-walk.sieve.seen.items c.loop-walk.walk c.settle.new.self c.loop-walk.steps c.settle.new.steps c.settle.ensures.moves c.settle.ensures.steps) in
+    (on_settle (keeps c.loop-walk.sieve.tests) c.loop-walk.sieve.seen.items c.loop-walk.walk c.settle.new.self c.loop-walk.steps c.settle.new.steps c.settle.ensures.moves c.settle.ensures.steps) in
     let new = quiet_moves true (keeps c.turn.new.sieve.tests) c.turn.new.sieve.seen.items c.turn.new.walk in
     let f = kept_first (keeps c.turn.new.sieve.tests) c.turn.new.sieve.seen.items c.turn.new.walk (c.in_ok-turn.ensures.stands (ap Ok c.if-branch.true)) in
     found_from c.args.steps.now c.settle.new.steps start new
@@ -28,7 +28,7 @@ returns-in_err-turn-clause-err g c =
     let there = sifted_moves (keeps c.loop-walk.sieve.tests) c.loop-walk.sieve.seen.items c.settle.new.self in
     let first : IsOn c.args.steps.now c.loop-walk.steps start here = record { rest = i.rest; steps = i.counted } in
     let o = on_then c.args.steps.now c.loop-walk.steps c.settle.new.steps start here there first
-        (on_settle (keeps c.loop-walk.sieve.tests) c.loop-walk.sieve.seen.items c.loop-walk.walk c.settle.new.self c.loop-walk.steps c.settle.new.steps c.settle.ensures.moves c.settle.ensures.steps) in
+    (on_settle (keeps c.loop-walk.sieve.tests) c.loop-walk.sieve.seen.items c.loop-walk.walk c.settle.new.self c.loop-walk.steps c.settle.new.steps c.settle.ensures.moves c.settle.ensures.steps) in
     let new = sifted_moves (keeps c.turn.new.sieve.tests) c.turn.new.sieve.seen.items c.turn.new.walk in
     on_err c.from_residual.result _ (on_from c.args.steps.now c.settle.new.steps start there new
     (stays_sifted c.loop-walk.sieve.tests c.turn.new.sieve.tests c.loop-walk.sieve.seen.items c.turn.new.sieve.seen.items c.settle.new.self c.turn.new.walk
@@ -42,7 +42,7 @@ loop-walk-preserved g c =
     let there = sifted_moves (keeps c.loop-walk.sieve.tests) c.loop-walk.sieve.seen.items c.settle.new.self in
     let first : IsOn c.args.steps.now c.loop-walk.steps start here = record { rest = i.rest; steps = i.counted } in
     let o = on_then c.args.steps.now c.loop-walk.steps c.settle.new.steps start here there first
-        (on_settle (keeps c.loop-walk.sieve.tests) c.loop-walk.sieve.seen.items c.loop-walk.walk c.settle.new.self c.loop-walk.steps c.settle.new.steps c.settle.ensures.moves c.settle.ensures.steps) in
+    (on_settle (keeps c.loop-walk.sieve.tests) c.loop-walk.sieve.seen.items c.loop-walk.walk c.settle.new.self c.loop-walk.steps c.settle.new.steps c.settle.ensures.moves c.settle.ensures.steps) in
     let new = sifted_moves (keeps c.turn.new.sieve.tests) c.turn.new.sieve.seen.items c.turn.new.walk in
     let p = on_from c.args.steps.now c.settle.new.steps start there new (c.in_ok-turn.ensures.left (ap Ok c.if-branch.false)) o in
     let l = i.on in let m = c.settle.ensures.on in
@@ -62,7 +62,7 @@ returns-clause-none g c = λ _.
     let there = sifted_moves (keeps c.loop-walk.sieve.tests) c.loop-walk.sieve.seen.items c.settle.new.self in
     let first : IsOn c.args.steps.now c.loop-walk.steps start here = record { rest = i.rest; steps = i.counted } in
     let o = on_then c.args.steps.now c.loop-walk.steps c.settle.new.steps start here there first
-        (on_settle (keeps c.loop-walk.sieve.tests) c.loop-walk.sieve.seen.items c.loop-walk.walk c.settle.new.self c.loop-walk.steps c.settle.new.steps c.settle.ensures.moves c.settle.ensures.steps) in
+    (on_settle (keeps c.loop-walk.sieve.tests) c.loop-walk.sieve.seen.items c.loop-walk.walk c.settle.new.self c.loop-walk.steps c.settle.new.steps c.settle.ensures.moves c.settle.ensures.steps) in
     let n = nothing_left c.loop-walk.walk c.settle.new.self c.settle.ensures.moves (sym c.settle.ensures.found ∙ c.loop-walk-test.false) in
     found_from c.args.steps.now c.settle.new.steps start []
     (on_from c.args.steps.now c.settle.new.steps start there [] (sym (ap (sifted_moves (keeps c.loop-walk.sieve.tests) c.loop-walk.sieve.seen.items) n)) o) refl refl

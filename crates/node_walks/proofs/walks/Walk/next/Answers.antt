@@ -33,7 +33,7 @@ pub returns-clause-all : goal.returns-clause-all
 returns-clause-all g c =
     let s = c.in_ok-settle.ensures.stands ∙ ap settled c.self.view_is in
     let e : all_steps (trail_moves c.pass.new.self) ≡ all_steps (trail_moves c.settle.new.self) =
-        ap all_steps (c.pass.ensures ∙ ap passed s) ∙ all_passed c.args.self.now ∙ ap all_steps (sym s) in
+    ap all_steps (c.pass.ensures ∙ ap passed s) ∙ all_passed c.args.self.now ∙ ap all_steps (sym s) in
     ap (λ n. c.settle.new.steps + n) e ∙
     all_on c.args.self.now (trail_moves c.settle.new.self) c.args.steps.now c.settle.new.steps (c.settle.ensures.rest ∙ ap settled c.self.view_is)
     (c.settle.ensures.steps ∙ ap (λ (z : Moves). c.args.steps.now + steps_before z) c.self.view_is)
