@@ -1,9 +1,11 @@
 -- The nodes that have a key (XSLT 2.0, 16.3).
-use Rattle.std.specs.Prelude.{ℕ, suc, Bool, not, nat_eq, List, [], ◌∷◌, filter, length, Option, Some, None, if◌then◌else◌}
+use Rattle.std.specs.Prelude.{ℕ, suc, Bool, List, [], ◌∷◌, filter, Option, Some, None}
+use Rattle.std.specs.List.{list_any}
+use Rattle.xt_atoms.specs.Keys.{key_same}
 use Rattle.xt_atoms.specs.declared.atoms.Atom.{Atom}
 use Rattle.xdm_items.specs.declared.items.Item.{Item}
 use Rattle.xdm_items.specs.declared.items.Item.TheVariants as item
-use Rattle.atom_keys.specs.Tables.{with_place, places_of}
+use Rattle.atom_keys.specs.Tables.{with_place}
 use Rattle.atom_keys.specs.declared.tables.KeyEntry.{KeyEntry}
 use Rattle.order_group.specs.Groups.{atoms_of, has_key}
 use Rattle.key_index.specs.Nodes.{put_node}
@@ -39,9 +41,6 @@ abbrev pub put_places : (ℕ → Option KeyPair) → List Item → List ℕ → 
 put_places at items [] = items
 put_places at items (n ∷ places) = put_places at (put_found items (at n)) places
 
--- whether there is a place under the key
-abbrev pub has_places : List KeyEntry → Atom → Bool
-has_places entries a = not (nat_eq (length (places_of entries a)) 0)
-
-abbrev pub put_wanted : List KeyEntry → List Item → KeyPair → List Item
-put_wanted wanted items p = if has_places wanted p.value then put_node items p.node else items
+-- whether the value of the pair is the same as one of the keys
+abbrev pub has_one : List KeyEntry → KeyPair → Bool
+has_one keys p = list_any (λ e. key_same e.key p.value) keys

@@ -2,8 +2,10 @@ ghost use Rattle.std.specs.Prelude.{◌≡◌, [], filter, slice_get, option_cop
 ghost use Rattle.xt_atoms.specs.Keys.{key_same};
 ghost use Rattle.order_group.specs.Groups.{atoms_of, has_key};
 ghost use Rattle.order_group.specs.Steps.{with_row};
-ghost use Rattle.key_index.specs.Keys.{has_places, key_nodes, only_atom, put_found, put_pairs, put_places, put_wanted, with_pairs};
+ghost use Rattle.key_index.specs.Keys.{key_nodes, only_atom, put_found, put_pairs, put_places};
+ghost use Rattle.key_index.specs.Keys.{with_pairs};
 
+use crate::merges::places_among;
 use crate::nodes::put_node;
 use atom_keys::KeyTable;
 use std::alloc::{AllocError, Global};
@@ -76,8 +78,9 @@ impl KeyIndex {
     fn nodes_among(&self, alloc: Global, values: &[Item]) -> Result<ItemList, AllocError>
         ensures { IfOk result (λ items. items ≡ key_nodes self.now values.now) }
     {
-        let wanted = wanted_of(alloc, values)?;
-        wanted_nodes(alloc, self.pairs.as_slice(), &wanted)
+        let wanted = wanted_of(alloc, values)?.into_entries();
+        let places = places_among(alloc, &self.table, wanted.as_slice())?;
+        nodes_at(alloc, self.pairs.as_slice(), places.as_slice())
     }
 }
 
@@ -121,7 +124,7 @@ fn put_place(items: &mut ItemList, pairs: &[KeyPair], place: u64) -> Result<(), 
     }
 }
 
-/// The values as the keys of a table.
+/// The values as the keys of a table, each of them once.
 fn wanted_of(alloc: Global, values: &[Item]) -> Result<KeyTable, AllocError>
     ensures { IfOk result (λ table. table ≡ with_row [] (atoms_of values.now) 0) }
 {
@@ -133,25 +136,4 @@ fn wanted_of(alloc: Global, values: &[Item]) -> Result<KeyTable, AllocError>
         }
     }
     Ok(wanted)
-}
-
-fn wanted_nodes(alloc: Global, pairs: &[KeyPair], wanted: &KeyTable) -> Result<ItemList, AllocError>
-    ensures { IfOk result (λ items. items
-        ≡ put_pairs [] (filter (λ p. has_places wanted.now p.value) pairs.now)) }
-{
-    let mut items = List::new(alloc);
-    for pair in pairs {
-        put_wanted(&mut items, pair, wanted)?;
-    }
-    Ok(items)
-}
-
-fn put_wanted(items: &mut ItemList, pair: &KeyPair, wanted: &KeyTable) -> Result<(), AllocError>
-    ensures { OnOk result (items.new ≡ put_wanted wanted.now items.old pair.now) }
-{
-    if wanted.places(&pair.value)?.is_empty() {
-        Ok(())
-    } else {
-        put_node(items, &pair.node)
-    }
 }

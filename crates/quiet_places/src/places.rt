@@ -2,8 +2,10 @@
 ghost use Rattle.std.specs.Prelude.{◌≡◌, map, true, false};
 ghost use Rattle.std.specs.List.{list_all};
 ghost use Rattle.xt_syntax.specs.declared.exprs.Expr.{Expr as AnExpr};
-ghost use Rattle.quiet_meaning.specs.Quietly.{quietly_of};
-ghost use Rattle.quiet_places.specs.Free.{IsSame, called_free, free_of, is_place_free_expr};
+ghost use Rattle.quiet_meaning.specs.Quietly.{quietly_of, holds_at};
+ghost use Rattle.step_walks.specs.Sifted.{IsSizeFree};
+ghost use Rattle.quiet_places.specs.Free.{IsSame, called_free, free_of};
+ghost use Rattle.quiet_places.specs.Free.{is_place_free_expr, is_size_free_expr};
 
 use xt_forms::{QuietCall, quiet_call};
 use xt_syntax::Expr;
@@ -13,34 +15,48 @@ pub fn place_free_predicates_keep_a_node_anywhere()
     ensures { (e : AnExpr) → is_place_free_expr e ≡ true → IsSame (quietly_of e) }
 {}
 
+/// A predicate that is free of the size keeps a node at a position exactly among so many where it
+/// keeps it there among any other number.
+pub fn size_free_predicates_keep_a_node_among_any_number()
+    ensures { (e : AnExpr) → is_size_free_expr e ≡ true → IsSizeFree (holds_at (quietly_of e)) }
+{}
+
 /// Whether the predicate looks at no position, by its form.
 pub fn is_place_free(e: &Expr) -> bool
     ensures { result ≡ is_place_free_expr e.now }
 {
-    is_free(e, false)
+    is_free(e, false, false)
 }
 
-/// The same of a predicate, or of an operand of a comparison, where an integer is a value.
+/// Whether the predicate does not look at how many nodes there are, by its form: last() does.
+pub fn is_size_free(e: &Expr) -> bool
+    ensures { result ≡ is_size_free_expr e.now }
+{
+    is_free(e, true, false)
+}
+
+/// The same of a predicate, or of an operand of a comparison, where an integer is a value. Where
+/// `placed` is true, positions may be looked at.
 #[cycle(free)]
-fn is_free(e: &Expr, operand: bool) -> bool
-    ensures { result ≡ free_of e.now operand }
+fn is_free(e: &Expr, placed: bool, operand: bool) -> bool
+    ensures { result ≡ free_of e.now placed operand }
 {
     match e {
-        Expr::Int(_) => operand,
-        Expr::Or(all) => are_free(all.get().as_slice()),
-        Expr::And(all) => are_free(all.get().as_slice()),
-        Expr::General(_, a, b) => is_free(a.get(), true) && is_free(b.get(), true),
-        Expr::Call(name, args) => called_free(quiet_call(name), args.get().as_slice()),
+        Expr::Int(_) => placed || operand,
+        Expr::Or(all) => are_free(all.get().as_slice(), placed),
+        Expr::And(all) => are_free(all.get().as_slice(), placed),
+        Expr::General(_, a, b) => is_free(a.get(), placed, true) && is_free(b.get(), placed, true),
+        Expr::Call(name, args) => called_free(placed, quiet_call(name), args.get().as_slice()),
         _ => true,
     }
 }
 
 #[cycle(free)]
-fn are_free(all: &[Expr]) -> bool
-    ensures { result ≡ list_all (λ f. f false) (map free_of all.now) }
+fn are_free(all: &[Expr], placed: bool) -> bool
+    ensures { result ≡ list_all (λ f. f placed false) (map free_of all.now) }
 {
     for e in all {
-        if !is_free(e, false) {
+        if !is_free(e, placed, false) {
             return false;
         }
     }
@@ -49,13 +65,13 @@ fn are_free(all: &[Expr]) -> bool
 
 #[cycle(free)]
 #[tactic(auto, unfolding(crate::specs::Free::called_free))]
-fn called_free(f: QuietCall, args: &[Expr]) -> bool
-    ensures { result ≡ called_free f (map free_of args.now) }
+fn called_free(placed: bool, f: QuietCall, args: &[Expr]) -> bool
+    ensures { result ≡ called_free placed f (map free_of args.now) }
 {
     match f {
-        QuietCall::Position => false,
+        QuietCall::Position => placed,
         QuietCall::Last => false,
-        QuietCall::Not => are_free(args),
+        QuietCall::Not => are_free(args, placed),
         QuietCall::Constant => true,
         QuietCall::Exists => true,
         QuietCall::Count => true,

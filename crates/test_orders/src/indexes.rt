@@ -88,3 +88,34 @@ fn many_values_are_looked_up(rt: HostRuntime) {
     assert!(rt; found == MANY);
     drop(index);
 }
+
+// Whether the items are the nodes with the numbers from 0 on.
+fn count_up(items: &[Item]) -> bool {
+    for n in 0..MANY {
+        match items.get(n as usize) {
+            Some(item) if is_node(item, n) => {}
+            _ => return false,
+        }
+    }
+    items.len() as u64 == MANY
+}
+
+// One value that many nodes have, given many times.
+#[test]
+fn a_value_that_is_given_many_times_is_looked_up_once(rt: HostRuntime) {
+    let mut pairs = List::new(rt.alloc());
+    let mut values = List::new(rt.alloc());
+    for n in 0..MANY {
+        pairs
+            .push(pair(&rt, n, word(&rt, "a")))
+            .expect(&rt, "memory");
+        let value = Item::Atom(word(&rt, "a"));
+        values.push(value).expect(&rt, "memory");
+    }
+    let index = KeyIndex::build(rt.alloc(), pairs).expect(&rt, "memory");
+    let items = index.look_up(rt.alloc(), &values).expect(&rt, "memory");
+    assert!(rt; count_up(items.as_slice()));
+    drop(items);
+    drop(values);
+    drop(index);
+}

@@ -1,0 +1,5 @@
+pub mod CourseLemmas
+pub mod KeptLemmas
+pub mod MoveLemmas
+pub mod SieveLemmas
+pub mod SiftLemmas
