@@ -1,0 +1,93 @@
+-- Calls are carried where their arguments are.
+use Rattle.std.proofs.Common.{◌≡◌, ℕ, suc, ap, refl, List, [], ◌∷◌, length, subst}
+use Rattle.std.specs.Prelude.{map}
+use Rattle.xt_names.specs.declared.names.ExprName.{ExprName}
+use Rattle.xdm_items.specs.declared.items.Item.{Item}
+use Rattle.fn_lib.specs.Values.{argument}
+use Rattle.operator_values.specs.Operands.{atom_of}
+use Rattle.outcomes.specs.Outcome.{Ends, and_then, step_outcome, Every, Anything}
+use Rattle.outcomes.proofs.Relations.{every_append}
+use Rattle.expr_meaning.specs.Env.{Env, Meaning, Program}
+use Rattle.expr_meaning.specs.Calls.{listed, lists_of, Called, library, document, current}
+use Rattle.expr_meaning.specs.Calls.{current_group, current_key, key, declared, called}
+use Rattle.expr_meaning.specs.Calls.{library_value, document_value, current_value, members_of}
+use Rattle.expr_meaning.specs.Calls.{key_of, keyed_root, literal_text, found_by_key, call_value}
+use Rattle.expr_meaning.specs.Calls.{call_of}
+use Rattle.expr_laws.specs.Carrier.{Carrier, Meet, AllMeet, ProgramsMeet}
+use Rattle.expr_laws.proofs.Steps.{same_step, any_step}
+
+module _ (c : Carrier) where
+  pub lists_meet : (ms ns : List Meaning) → AllMeet c ms ns → (e f : Env) → c.at e f → (k : ℕ) →
+      c.rel (List (List Item)) (Every (Every c.good)) (lists_of ms e k) (lists_of ns f k)
+  lists_meet [] [] h e f s k = c.carries.same _ _ _ tt
+  lists_meet [] (n ∷ ns) h e f s k = absurd h
+  lists_meet (m ∷ ms) [] h e f s k = absurd h
+  lists_meet (m ∷ ms) (n ∷ ns) h e f s k =
+      c.carries.next _ _ (Every (Every c.good)) (Every (Every c.good)) (listed e m k)
+      (listed f n k) _ _
+      (c.carries.next _ _ (Every c.good) (Every (Every c.good)) (m e k) (n f k) _ _ (h.0 e f s k)
+      (λ xs j g. c.carries.same _ _ _ (g, tt))) (λ xs j g.
+      c.carries.next _ _ (Every (Every c.good)) (Every (Every c.good)) (lists_of ms e j)
+      (lists_of ns f j) _ _ (lists_meet ms ns h.1 e f s j)
+      (λ ys i d. c.carries.same _ _ _ (every_append (Every c.good) xs ys g d)))
+
+  -- lists of meanings that are related are as long
+  pub as_long : (ms ns : List Meaning) → AllMeet c ms ns → length ms ≡ length ns
+  as_long [] [] h = refl
+  as_long [] (n ∷ ns) h = absurd h
+  as_long (m ∷ ms) [] h = absurd h
+  as_long (m ∷ ms) (n ∷ ns) h = ap suc (as_long ms ns h.1)
+
+  module _ (p q : Program) (meet : ProgramsMeet c p q) where
+    keyed_meets : (e f : Env) → c.at e f → (args : List (List Item)) → (k : ℕ) →
+        c.rel (List Item) (Every c.good) (found_by_key p e args k) (found_by_key q f args k)
+    keyed_meets e f s args k =
+        subst (λ o. c.rel (List Item) (Every c.good) (found_by_key p e args k)
+        (and_then (step_outcome (keyed_root o) k) (q.keys (literal_text (argument args 0))
+        (map atom_of (argument args 1))))) (c.places.focus e f s)
+        (c.carries.next _ _ Anything (Every c.good) (step_outcome (keyed_root e.focus) k)
+        (step_outcome (keyed_root e.focus) k) _ _ (any_step c (keyed_root e.focus) k)
+        (λ root j u. meet.keys (literal_text (argument args 0)) (map atom_of (argument args 1))
+        root j))
+
+    value_meets : (d : Called) (name : ExprName) (e f : Env) → c.at e f →
+        (args : List (List Item)) → Every (Every c.good) args → (k : ℕ) →
+        c.rel (List Item) (Every c.good) (call_value p d name e args k)
+        (call_value q d name f args k)
+    value_meets (library b) name e f s args g k =
+        subst (λ o. c.rel (List Item) (Every c.good)
+        (step_outcome (library_value b e.focus args) k) (step_outcome (library_value b o args) k))
+        (c.places.focus e f s)
+        (same_step c (Every c.good) (library_value b e.focus args)
+        (c.kept.library b e.focus args g) k)
+    value_meets document name e f s args g k =
+        subst (λ v. c.rel (List Item) (Every c.good)
+        (step_outcome (document_value p (argument args 0)) k) (step_outcome v k))
+        (meet.document (argument args 0))
+        (same_step c (Every c.good) (document_value p (argument args 0))
+        (meet.documents (argument args 0)) k)
+    value_meets current name e f s args g k =
+        subst (λ t. c.rel (List Item) (Every c.good)
+        (step_outcome (current_value e.state.current) k) (step_outcome
+            (current_value t.current) k))
+        (c.places.state e f s)
+        (same_step c (Every c.good) (current_value e.state.current) (c.places.current e f s) k)
+    value_meets current_group name e f s args g k =
+        subst (λ t. c.rel (List Item) (Every c.good) (Ends (members_of e.state.group) k)
+        (Ends (members_of t.group) k)) (c.places.state e f s)
+        (c.carries.same _ _ _ (c.places.members e f s))
+    value_meets current_key name e f s args g k =
+        subst (λ t. c.rel (List Item) (Every c.good) (Ends (key_of e.state.group) k)
+        (Ends (key_of t.group) k)) (c.places.state e f s)
+        (c.carries.same _ _ _ (c.places.key e f s))
+    value_meets key name e f s args g k = keyed_meets e f s args k
+    value_meets declared name e f s args g k = meet.calls name args g k
+
+    pub call_meets : (name : ExprName) (ms ns : List Meaning) → AllMeet c ms ns →
+        Meet c (call_of p name ms) (call_of q name ns)
+    call_meets name ms ns h e f s k =
+        subst (λ l. c.rel (List Item) (Every c.good) (call_of p name ms e k)
+        (and_then (lists_of ns f k) (call_value q (called name l) name f))) (as_long ms ns h)
+        (c.carries.next _ _ (Every (Every c.good)) (Every c.good) (lists_of ms e k)
+        (lists_of ns f k) _ _ (lists_meet ms ns h e f s k)
+        (λ args j g. value_meets (called name (length ms)) name e f s args g j))

@@ -1,0 +1,235 @@
+-- More calls change nothing but an outcome that lacked one.
+use Rattle.std.proofs.Common.{◌≡◌, ◌+◌, ℕ, zero, suc, List, [], ◌∷◌, refl, sym, ap, subst, length}
+use Rattle.std.proofs.Common.{arith}
+use Rattle.std.specs.Prelude.{Option, Some, None, Result, Ok, Err}
+use Rattle.xt_names.specs.declared.codes.Code.{Code}
+use Rattle.xt_names.specs.declared.names.ExprName.{ExprName}
+use Rattle.xdm_items.specs.declared.items.Item.{Item}
+use Rattle.xt_syntax.specs.declared.exprs.Expr.{Expr}
+use Rattle.xt_syntax.specs.declared.queries.QueryFunction.{QueryFunction}
+use Rattle.xt_syntax.specs.declared.queries.QueryVar.{QueryVar}
+use Rattle.function_arguments.specs.Answers.{of_integer, of_truth}
+use Rattle.lazy_seq.specs.Orders.{in_document_order}
+use Rattle.expr_meaning.specs.Calls.{members_of, key_of}
+use Rattle.expr_meaning.specs.Making.{joined_atoms}
+use Rattle.outcomes.specs.Outcome.{Outcome, Ends, Fails, Deep, step_outcome, OnEnds, Every}
+use Rattle.outcomes.specs.Outcome.{Anything}
+use Rattle.outcomes.specs.Follow.{Follows, FailsLike, same_code, deeper}
+use Rattle.outcomes.proofs.Relations.{deeper_carries, nothing_known}
+use Rattle.expr_meaning.specs.Env.{Binding, Env, bind_all, at_focus, variable_value}
+use Rattle.expr_meaning.specs.Logic.{typed}
+use Rattle.expr_meaning.specs.Meaning.{outcome}
+use Rattle.expr_meaning.specs.Queries.{Run, converted_to, bound_params, find_function, program_of}
+use Rattle.expr_meaning.specs.Queries.{body_env, body_value, called_function, calls_at}
+use Rattle.expr_meaning.specs.Queries.{program_at, top_env}
+use Rattle.expr_meaning.specs.Queries.{initialised, globals_from, query_outcome}
+use Rattle.expr_laws.specs.Carrier.{Carrier, OnValue, IsKept, AreAlike, ProgramsMeet, IsMade}
+use Rattle.expr_laws.specs.Depth.{CallsChangeNothing}
+use Rattle.expr_laws.proofs.Steps.{any_step}
+use Rattle.expr_laws.proofs.Whole.{whole_meets}
+
+all_any : {A : Type 0} (xs : List A) → Every Anything xs
+all_any [] = tt
+all_any (x ∷ xs) = (tt, all_any xs)
+
+any_value : {A : Type 0} (v : Result (List A) Code) → OnValue (Every Anything) v
+any_value (Ok xs) = all_any xs
+any_value (Err code) = tt
+
+any_list : {A : Type 0} (o : Outcome (List A)) → OnEnds (Every Anything) o
+any_list (Ends xs k) = all_any xs
+any_list (Fails code) = tt
+any_list Deep = tt
+
+any_kept : IsKept Anything
+any_kept = record {
+  truth = λ t. all_any (of_truth t);
+  integer = λ n. all_any (of_integer n);
+  general = λ op xs ys g h. any_value _;
+  single = λ op xs ys g h. any_value _;
+  is = λ xs ys g h. any_value _;
+  before = λ xs ys g h. any_value _;
+  after = λ xs ys g h. any_value _;
+  range = λ xs ys g h. any_value _;
+  arithmetic = λ op xs ys g h. any_value _;
+  negated = λ xs g. any_value _;
+  signed = λ xs g. any_value _;
+  union = λ xs ys g h. any_value _;
+  intersect = λ xs ys g h. any_value _;
+  except = λ xs ys g h. any_value _;
+  instance = λ type xs g. any_value _;
+  treated = λ type xs g. any_value _;
+  castable = λ type empty xs g. any_value _;
+  cast = λ type empty xs g. any_value _;
+  root = λ x g. any_value _;
+  step = λ axis wanted x g. any_value _;
+  ordered = λ xs g. all_any (in_document_order xs);
+  library = λ f focus args g. any_value _;
+}
+
+same_places : AreAlike Anything (λ e f. e ≡ f)
+same_places = record {
+  bound = λ e f h bs g. ap (λ x. bind_all bs x) h;
+  focused = λ e f h p g. ap (λ x. at_focus x p) h;
+  focus = λ e f h. ap (λ x. x.focus) h;
+  item = λ e f h p g. tt;
+  state = λ e f h. ap (λ x. x.state) h;
+  current = λ e f h. any_value _;
+  members = λ e f h. all_any (members_of e.state.group);
+  key = λ e f h. all_any (key_of e.state.group);
+}
+
+abbrev depth : Carrier
+depth = record {
+  like = same_code;
+  alike = λ code. refl;
+  rel = deeper;
+  carries = deeper_carries;
+  good = Anything;
+  kept = any_kept;
+  at = λ e f. e ≡ f;
+  places = same_places;
+}
+
+any_made : IsMade depth
+any_made = record {
+  any = λ t k. any_list _;
+  atom = λ a. tt;
+  literal = λ t. tt;
+  joined = λ xs g. all_any (joined_atoms xs);
+}
+
+deep_first : {A : Type 0} (P : A → Type 0) (p : Outcome A) → deeper A P Deep p
+deep_first P p = (tt, tt)
+
+follows_on : {A : Type 0} (o p q : Outcome A) → Follows same_code o p → Follows same_code p q →
+    Follows same_code o q
+follows_on (Ends v k) p q h i = subst (λ x. Follows same_code x q) h i
+follows_on (Fails code) (Ends v k) q h i = absurd h
+follows_on (Fails code) (Fails d) q h i = subst (λ x. FailsLike same_code x q) (sym h) i
+follows_on (Fails code) Deep q h i = absurd h
+follows_on Deep p q h i = tt
+
+module _ (run : Run) where
+  abbrev CallsMeet : List Binding → ℕ → Type 0
+  CallsMeet globals n =
+      (name : ExprName) (args : List (List Item)) (k : ℕ) →
+      deeper (List Item) (Every Anything) (calls_at run globals n name args k)
+      (calls_at run globals (suc n) name args k)
+
+  programs_meet : (globals : List Binding) (n : ℕ) → CallsMeet globals n →
+      ProgramsMeet depth (program_at run globals n) (program_at run globals (suc n))
+  programs_meet globals n h = record {
+    calls = λ name args g k. h name args k;
+    keys = λ name values root k. deeper_carries.same (List Item) (Every Anything) (Ends [] k) tt;
+    document = λ xs. refl;
+    documents = λ xs. any_value _;
+    namespaces = refl;
+    element_default = refl;
+    variables = λ e f h name. ap (λ x. variable_value (program_at run globals n) x name) h;
+    variable = λ e f h name. any_value _;
+  }
+
+  expr_deeper : (globals : List Binding) (n : ℕ) → CallsMeet globals n → (x : Expr) (e : Env)
+      (k : ℕ) → deeper (List Item) (Every Anything) (outcome (program_at run globals n) x e k)
+      (outcome (program_at run globals (suc n)) x e k)
+  expr_deeper globals n h x e k =
+      whole_meets depth any_made (program_at run globals n) (program_at run globals (suc n))
+      (programs_meet globals n h) x e e refl k
+
+  body_deeper : (globals : List Binding) (n : ℕ) → CallsMeet globals n → (f : QueryFunction)
+      (bound : List Binding) (k : ℕ) → deeper (List Item) (Every Anything)
+      (body_value (program_at run globals n) f bound k)
+      (body_value (program_at run globals (suc n)) f bound k)
+  body_deeper globals n h f bound k =
+      deeper_carries.next _ _ (Every Anything) (Every Anything) _ _ _ _
+      (expr_deeper globals n h f.body (body_env bound) k)
+      (λ xs j g. deeper_carries.same _ _ _ (any_list (step_outcome (converted_to f.kind xs) j)))
+
+  none_left : (globals : List Binding) (o : Option QueryFunction)
+      (body : QueryFunction → List Binding → ℕ → Outcome (List Item)) (args : List (List Item))
+      (k : ℕ) → deeper (List Item) (Every Anything) (called_function o None args k)
+      (called_function o (Some body) args k)
+  none_left globals None body args k =
+      deeper_carries.same (List Item) (Every Anything) (called_function None None args k) tt
+  none_left globals (Some f) body args k =
+      deeper_carries.next _ _ Anything (Every Anything) _ _ _ _
+      (any_step depth (bound_params f.params args) k)
+      (λ bound j u. deep_first (Every Anything) (body f bound j))
+
+  some_left : (o : Option QueryFunction)
+      (b d : QueryFunction → List Binding → ℕ → Outcome (List Item)) →
+      ((f : QueryFunction) (bound : List Binding) (k : ℕ) →
+      deeper (List Item) (Every Anything) (b f bound k) (d f bound k)) →
+      (args : List (List Item)) (k : ℕ) → deeper (List Item) (Every Anything)
+      (called_function o (Some b) args k) (called_function o (Some d) args k)
+  some_left None b d h args k =
+      deeper_carries.same (List Item) (Every Anything) (called_function None (Some b) args k) tt
+  some_left (Some f) b d h args k =
+      deeper_carries.next _ _ Anything (Every Anything) _ _ _ _
+      (any_step depth (bound_params f.params args) k) (λ bound j u. h f bound j)
+
+  calls_meet : (globals : List Binding) (n : ℕ) → CallsMeet globals n
+  calls_meet globals zero name args k =
+      none_left globals (find_function run.query.functions name (length args))
+      (body_value (program_of run globals (calls_at run globals zero))) args k
+  calls_meet globals (suc n) name args k =
+      some_left (find_function run.query.functions name (length args))
+      (body_value (program_of run globals (calls_at run globals n)))
+      (body_value (program_of run globals (calls_at run globals (suc n))))
+      (λ f bound j. body_deeper globals n (calls_meet globals n) f bound j) args k
+
+  value_meets : (globals : List Binding) (n : ℕ) (document : Item) (v : QueryVar)
+      (o : Option Expr) (k : ℕ) → deeper (List Item) (Every Anything)
+      (initialised run (program_at run globals n) document v o k)
+      (initialised run (program_at run globals (suc n)) document v o k)
+  value_meets globals n document v None k =
+      deeper_carries.same (List Item) (Every Anything)
+      (initialised run (program_at run globals n) document v None k)
+      (any_list (initialised run (program_at run globals n) document v None k))
+  value_meets globals n document v (Some x) k =
+      deeper_carries.next _ _ (Every Anything) (Every Anything) _ _ _ _
+      (expr_deeper globals n (calls_meet globals n) x (top_env document) k)
+      (λ xs j g. deeper_carries.same _ _ _ (any_list (step_outcome (typed v.kind xs) j)))
+
+  globals_meet : (document : Item) (n : ℕ) (vs : List QueryVar) (globals : List Binding) (k : ℕ) →
+      deeper (List Binding) Anything (globals_from run document n vs globals k)
+      (globals_from run document (suc n) vs globals k)
+  globals_meet document n [] globals k =
+      deeper_carries.same (List Binding) Anything (Ends globals k) tt
+  globals_meet document n (v ∷ vs) globals k =
+      deeper_carries.next _ _ (Every Anything) Anything _ _ _ _
+      (value_meets globals n document v v.value k)
+      (λ xs j g. globals_meet document n vs ((v.name, xs) ∷ globals) j)
+
+  one_more : (document : Item) (n k : ℕ) → deeper (List Item) (Every Anything)
+      (query_outcome run document n k) (query_outcome run document (suc n) k)
+  one_more document n k =
+      deeper_carries.next _ _ Anything (Every Anything) _ _ _ _
+      (globals_meet document n run.query.variables [] k)
+      (λ globals j u. expr_deeper globals n (calls_meet globals n) run.query.body
+      (top_env document) j)
+
+  -- so many more calls
+  abbrev raise : ℕ → ℕ → ℕ
+  raise zero n = n
+  raise (suc more) n = suc (raise more n)
+
+  raised : (more n : ℕ) → raise more n ≡ more + n
+  raised zero n = omega arith
+  raised (suc more) n = let h = raised more n in omega arith
+
+  many_more : (document : Item) (n more k : ℕ) → Follows same_code
+      (query_outcome run document n k)
+      (query_outcome run document (raise more n) k)
+  many_more document n zero k =
+      (deeper_carries.same _ Anything _ (nothing_known (query_outcome run document n k))).0
+  many_more document n (suc more) k =
+      follows_on (query_outcome run document n k) (query_outcome run document (raise more n) k)
+      (query_outcome run document (suc (raise more n)) k) (many_more document n more k)
+      (one_more document (raise more n) k).0
+
+  pub more_calls : (document : Item) (n more : ℕ) → CallsChangeNothing run document n more
+  more_calls document n more k =
+      subst (λ m. Follows same_code (query_outcome run document n k)
+      (query_outcome run document m k)) (raised more n) (many_more document n more k)

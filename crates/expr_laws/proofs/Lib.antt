@@ -1,0 +1,9 @@
+pub mod Steps
+pub mod Logic
+pub mod Values
+pub mod Paths
+pub mod Flow
+pub mod Calls
+pub mod Making
+pub mod Whole
+pub mod Depth

@@ -1,0 +1,225 @@
+-- Constructors are carried where their parts are.
+use Rattle.std.proofs.Common.{◌≡◌, ◌++◌, ℕ, List, [], ◌∷◌, subst}
+use Rattle.xt_names.specs.declared.names.Name.{Name}
+use Rattle.xt_tree.specs.declared.trees.Tree.{Tree}
+use Rattle.xt_tree.specs.declared.trees.Tree.TheVariants as tree
+use Rattle.xdm_items.specs.declared.items.Item.{Item}
+use Rattle.function_arguments.specs.Arguments.{and_then as result_then}
+use Rattle.node_builder.specs.Made.{Made, Gives}
+use Rattle.node_builder.specs.Trees.{element_of, document_of, comment_of, pi_of}
+use Rattle.node_builder.specs.declared.kinds.Duplicates.TheVariants.{Refuse}
+use Rattle.outcomes.specs.Outcome.{Ends, and_then, step_outcome, for_each, Every, Anything}
+use Rattle.outcomes.proofs.Relations.{nothing_known, every_append}
+use Rattle.expr_meaning.specs.Env.{Env, Meaning, Program}
+use Rattle.expr_meaning.specs.Names.{NameMeaning, fixed, computed, name_of_items, attribute_name}
+use Rattle.expr_meaning.specs.Names.{target_of_items, element_name_at, attribute_name_at}
+use Rattle.expr_meaning.specs.Names.{target_at}
+use Rattle.expr_meaning.specs.Making.{made, spaced_text, element_made, document_made}
+use Rattle.expr_meaning.specs.Making.{attribute_made, text_node, text_made, comment_made, pi_made}
+use Rattle.expr_meaning.specs.Making.{PartMeaning, chars, enclosed, child, literal_node}
+use Rattle.expr_meaning.specs.Making.{attribute_part, attribute_text}
+use Rattle.expr_meaning.specs.Making.{AttributeMeaning, direct_attribute, content_part}
+use Rattle.expr_meaning.specs.Making.{direct_made}
+use Rattle.expr_laws.specs.Carrier.{Carrier, Meet, ProgramsMeet, IsMade}
+use Rattle.expr_laws.proofs.Steps.{any_step}
+
+abbrev pub NameMeets : Carrier → NameMeaning → NameMeaning → Type 0
+NameMeets c (fixed a) (fixed b) = a ≡ b
+NameMeets c (fixed a) (computed n) = ⊥
+NameMeets c (computed m) (fixed b) = ⊥
+NameMeets c (computed m) (computed n) = Meet c m n
+
+abbrev pub PartMeets : Carrier → PartMeaning → PartMeaning → Type 0
+PartMeets c (chars a) (chars b) = a ≡ b
+PartMeets c (enclosed m) (enclosed n) = Meet c m n
+PartMeets c (child m) (child n) = Meet c m n
+PartMeets c (chars a) (enclosed n) = ⊥
+PartMeets c (chars a) (child n) = ⊥
+PartMeets c (enclosed m) (chars b) = ⊥
+PartMeets c (enclosed m) (child n) = ⊥
+PartMeets c (child m) (chars b) = ⊥
+PartMeets c (child m) (enclosed n) = ⊥
+
+abbrev pub PartsMeet : Carrier → List PartMeaning → List PartMeaning → Type 0
+PartsMeet c [] [] = Unit {0}
+PartsMeet c [] (y ∷ ys) = ⊥
+PartsMeet c (x ∷ xs) [] = ⊥
+PartsMeet c (x ∷ xs) (y ∷ ys) = PartMeets c x y × PartsMeet c xs ys
+
+abbrev pub AttributesMeet : Carrier → List AttributeMeaning → List AttributeMeaning → Type 0
+AttributesMeet c [] [] = Unit {0}
+AttributesMeet c [] (y ∷ ys) = ⊥
+AttributesMeet c (x ∷ xs) [] = ⊥
+AttributesMeet c (x ∷ xs) (y ∷ ys) =
+    ((x.0 ≡ y.0) × PartsMeet c x.1 y.1) × AttributesMeet c xs ys
+
+module _ (c : Carrier) (makes : IsMade c) where
+  same_made : (t : Made Tree) (k : ℕ) → c.rel (List Item) (Every c.good) (made t k) (made t k)
+  same_made t k = c.carries.same _ _ _ (makes.any t k)
+
+  -- content or a value, and then the tree
+  content_meets : (t : List Item → Made Tree) (m n : Meaning) → Meet c m n → (e f : Env) →
+      c.at e f → (k : ℕ) →
+      c.rel (List Item) (Every c.good) (and_then (m e k) (λ xs. made (t xs)))
+      (and_then (n f k) (λ xs. made (t xs)))
+  content_meets t m n h e f s k =
+      c.carries.next _ _ (Every c.good) (Every c.good) (m e k) (n f k) _ _ (h e f s k)
+      (λ xs j g. same_made (t xs) j)
+
+  pub document_meets : (m n : Meaning) → Meet c m n → Meet c (document_made m) (document_made n)
+  document_meets m n h e f s k = content_meets (λ xs. document_of Refuse xs) m n h e f s k
+
+  pub comment_meets : (m n : Meaning) → Meet c m n → Meet c (comment_made m) (comment_made n)
+  comment_meets m n h e f s k = content_meets (λ xs. comment_of (spaced_text xs)) m n h e f s k
+
+  text_node_meets : (xs : List Item) (k : ℕ) →
+      c.rel (List Item) (Every c.good) (text_node xs k) (text_node xs k)
+  text_node_meets [] k = c.carries.same _ _ _ tt
+  text_node_meets (x ∷ xs) k = same_made (Gives (tree.Text (spaced_text (x ∷ xs)))) k
+
+  pub text_meets : (m n : Meaning) → Meet c m n → Meet c (text_made m) (text_made n)
+  text_meets m n h e f s k =
+      c.carries.next _ _ (Every c.good) (Every c.good) (m e k) (n f k) _ _ (h e f s k)
+      (λ xs j g. text_node_meets xs j)
+
+  target_meets : (a b : NameMeaning) → NameMeets c a b → (e f : Env) → c.at e f → (k : ℕ) →
+      c.rel (List ℕ) Anything (target_at a e k) (target_at b f k)
+  target_meets (fixed a) (fixed b) h e f s k =
+      subst (λ x. c.rel (List ℕ) Anything (target_at (fixed a) e k) (target_at (fixed x) f k)) h
+      (c.carries.same _ _ _ (nothing_known (target_at (fixed a) e k)))
+  target_meets (fixed a) (computed n) h e f s k = absurd h
+  target_meets (computed m) (fixed b) h e f s k = absurd h
+  target_meets (computed m) (computed n) h e f s k =
+      c.carries.next _ _ (Every c.good) Anything (m e k) (n f k) _ _ (h e f s k)
+      (λ xs j g. any_step c (target_of_items xs) j)
+
+  pub pi_meets : (a b : NameMeaning) → NameMeets c a b → (m n : Meaning) → Meet c m n →
+      Meet c (pi_made a m) (pi_made b n)
+  pi_meets a b h m n i e f s k =
+      c.carries.next _ _ Anything (Every c.good) (target_at a e k) (target_at b f k) _ _
+      (target_meets a b h e f s k)
+      (λ t j u. content_meets (λ xs. pi_of t (spaced_text xs)) m n i e f s j)
+
+  -- parts of attributes and of content
+  value_part_meets : (x y : PartMeaning) → PartMeets c x y → (e f : Env) → c.at e f → (k : ℕ) →
+      c.rel (List ℕ) Anything (attribute_part e x k) (attribute_part f y k)
+  value_part_meets (chars a) (chars b) h e f s k =
+      subst (λ t. c.rel (List ℕ) Anything (Ends a k) (Ends t k)) h (c.carries.same _ _ _ tt)
+  value_part_meets (enclosed m) (enclosed n) h e f s k =
+      c.carries.next _ _ (Every c.good) Anything (m e k) (n f k) _ _ (h e f s k)
+      (λ xs j g. c.carries.same _ _ _ tt)
+  value_part_meets (child m) (child n) h e f s k = c.carries.same _ _ _ tt
+  value_part_meets (chars a) (enclosed n) h e f s k = absurd h
+  value_part_meets (chars a) (child n) h e f s k = absurd h
+  value_part_meets (enclosed m) (chars b) h e f s k = absurd h
+  value_part_meets (enclosed m) (child n) h e f s k = absurd h
+  value_part_meets (child m) (chars b) h e f s k = absurd h
+  value_part_meets (child m) (enclosed n) h e f s k = absurd h
+
+  value_parts_meet : (xs ys : List PartMeaning) → PartsMeet c xs ys → (e f : Env) → c.at e f →
+      (k : ℕ) → c.rel (List ℕ) Anything (attribute_text xs e k) (attribute_text ys f k)
+  value_parts_meet [] [] h e f s k = c.carries.same _ _ _ tt
+  value_parts_meet [] (y ∷ ys) h e f s k = absurd h
+  value_parts_meet (x ∷ xs) [] h e f s k = absurd h
+  value_parts_meet (x ∷ xs) (y ∷ ys) h e f s k =
+      c.carries.next _ _ Anything Anything (attribute_part e x k) (attribute_part f y k) _ _
+      (value_part_meets x y h.0 e f s k) (λ t j u.
+      c.carries.next _ _ Anything Anything (attribute_text xs e j) (attribute_text ys f j) _ _
+      (value_parts_meet xs ys h.1 e f s j) (λ v i w. c.carries.same _ _ _ tt))
+
+  content_part_meets : (x y : PartMeaning) → PartMeets c x y → (e f : Env) → c.at e f → (k : ℕ) →
+      c.rel (List Item) (Every c.good) (content_part e x k) (content_part f y k)
+  content_part_meets (chars a) (chars b) h e f s k =
+      subst (λ t. c.rel (List Item) (Every c.good) (Ends (literal_node (tree.Text a) ∷ []) k)
+      (Ends (literal_node (tree.Text t) ∷ []) k)) h
+      (c.carries.same _ _ _ (makes.literal (tree.Text a), tt))
+  content_part_meets (enclosed m) (enclosed n) h e f s k =
+      c.carries.next _ _ (Every c.good) (Every c.good) (m e k) (n f k) _ _ (h e f s k)
+      (λ xs j g. c.carries.same _ _ _ (makes.joined xs g))
+  content_part_meets (child m) (child n) h e f s k = h e f s k
+  content_part_meets (chars a) (enclosed n) h e f s k = absurd h
+  content_part_meets (chars a) (child n) h e f s k = absurd h
+  content_part_meets (enclosed m) (chars b) h e f s k = absurd h
+  content_part_meets (enclosed m) (child n) h e f s k = absurd h
+  content_part_meets (child m) (chars b) h e f s k = absurd h
+  content_part_meets (child m) (enclosed n) h e f s k = absurd h
+
+  content_parts_meet : (xs ys : List PartMeaning) → PartsMeet c xs ys → (e f : Env) → c.at e f →
+      (k : ℕ) → c.rel (List Item) (Every c.good) (for_each (content_part e) xs k)
+      (for_each (content_part f) ys k)
+  content_parts_meet [] [] h e f s k = c.carries.same _ _ _ tt
+  content_parts_meet [] (y ∷ ys) h e f s k = absurd h
+  content_parts_meet (x ∷ xs) [] h e f s k = absurd h
+  content_parts_meet (x ∷ xs) (y ∷ ys) h e f s k =
+      c.carries.next _ _ (Every c.good) (Every c.good) (content_part e x k) (content_part f y k)
+      _ _ (content_part_meets x y h.0 e f s k) (λ us j g.
+      c.carries.next _ _ (Every c.good) (Every c.good) (for_each (content_part e) xs j)
+      (for_each (content_part f) ys j) _ _ (content_parts_meet xs ys h.1 e f s j)
+      (λ vs i d. c.carries.same _ _ _ (every_append c.good us vs g d)))
+
+  attributes_meet : (xs ys : List AttributeMeaning) → AttributesMeet c xs ys → (e f : Env) →
+      c.at e f → (k : ℕ) → c.rel (List Item) (Every c.good) (for_each (direct_attribute e) xs k)
+      (for_each (direct_attribute f) ys k)
+  attributes_meet [] [] h e f s k = c.carries.same _ _ _ tt
+  attributes_meet [] (y ∷ ys) h e f s k = absurd h
+  attributes_meet (x ∷ xs) [] h e f s k = absurd h
+  attributes_meet (x ∷ xs) (y ∷ ys) h e f s k =
+      c.carries.next _ _ (Every c.good) (Every c.good) (direct_attribute e x k)
+      (direct_attribute f y k) _ _
+      (c.carries.next _ _ Anything (Every c.good) (attribute_text x.1 e k)
+      (attribute_text y.1 f k) _ _ (value_parts_meet x.1 y.1 h.0.1 e f s k) (λ t j u.
+      subst (λ n. c.rel (List Item) (Every c.good)
+      (Ends (literal_node (tree.Attr x.0 t) ∷ []) j) (Ends (literal_node (tree.Attr n t) ∷ []) j))
+      h.0.0 (c.carries.same _ _ _ (makes.literal (tree.Attr x.0 t), tt)))) (λ us j g.
+      c.carries.next _ _ (Every c.good) (Every c.good) (for_each (direct_attribute e) xs j)
+      (for_each (direct_attribute f) ys j) _ _ (attributes_meet xs ys h.1 e f s j)
+      (λ vs i d. c.carries.same _ _ _ (every_append c.good us vs g d)))
+
+  pub direct_meets : (name : Name) (xs ys : List AttributeMeaning) → AttributesMeet c xs ys →
+      (us vs : List PartMeaning) → PartsMeet c us vs →
+      Meet c (direct_made name xs us) (direct_made name ys vs)
+  direct_meets name xs ys h us vs i e f s k =
+      c.carries.next _ _ (Every c.good) (Every c.good) (for_each (direct_attribute e) xs k)
+      (for_each (direct_attribute f) ys k) _ _ (attributes_meet xs ys h e f s k) (λ ws j g.
+      c.carries.next _ _ (Every c.good) (Every c.good) (for_each (content_part e) us j)
+      (for_each (content_part f) vs j) _ _ (content_parts_meet us vs i e f s j)
+      (λ zs l d. same_made (element_of Refuse name (ws ++ zs)) l))
+
+  module _ (p q : Program) (meet : ProgramsMeet c p q) where
+    element_name_meets : (a b : NameMeaning) → NameMeets c a b → (e f : Env) → c.at e f →
+        (k : ℕ) → c.rel Name Anything (element_name_at p a e k) (element_name_at q b f k)
+    element_name_meets (fixed a) (fixed b) h e f s k =
+        subst (λ n. c.rel Name Anything (Ends a k) (Ends n k)) h (c.carries.same _ _ _ tt)
+    element_name_meets (fixed a) (computed n) h e f s k = absurd h
+    element_name_meets (computed m) (fixed b) h e f s k = absurd h
+    element_name_meets (computed m) (computed n) h e f s k =
+        rw (← meet.namespaces, ← meet.element_default)
+        (c.carries.next _ _ (Every c.good) Anything (m e k) (n f k) _ _ (h e f s k)
+        (λ xs j g. any_step c (name_of_items p.namespaces p.element_default xs) j))
+
+    attribute_name_meets : (a b : NameMeaning) → NameMeets c a b → (e f : Env) → c.at e f →
+        (k : ℕ) → c.rel Name Anything (attribute_name_at p a e k) (attribute_name_at q b f k)
+    attribute_name_meets (fixed a) (fixed b) h e f s k =
+        subst (λ n. c.rel Name Anything (step_outcome (attribute_name a) k)
+        (step_outcome (attribute_name n) k)) h (any_step c (attribute_name a) k)
+    attribute_name_meets (fixed a) (computed n) h e f s k = absurd h
+    attribute_name_meets (computed m) (fixed b) h e f s k = absurd h
+    attribute_name_meets (computed m) (computed n) h e f s k =
+        rw (← meet.namespaces)
+        (c.carries.next _ _ (Every c.good) Anything (m e k) (n f k) _ _ (h e f s k)
+        (λ xs j g.
+        any_step c (result_then (name_of_items p.namespaces [] xs) attribute_name) j))
+
+    pub element_meets : (a b : NameMeaning) → NameMeets c a b → (m n : Meaning) → Meet c m n →
+        Meet c (element_made p a m) (element_made q b n)
+    element_meets a b h m n i e f s k =
+        c.carries.next _ _ Anything (Every c.good) (element_name_at p a e k)
+        (element_name_at q b f k) _ _ (element_name_meets a b h e f s k)
+        (λ name j u. content_meets (λ xs. element_of Refuse name xs) m n i e f s j)
+
+    pub attribute_meets : (a b : NameMeaning) → NameMeets c a b → (m n : Meaning) → Meet c m n →
+        Meet c (attribute_made p a m) (attribute_made q b n)
+    attribute_meets a b h m n i e f s k =
+        c.carries.next _ _ Anything (Every c.good) (attribute_name_at p a e k)
+        (attribute_name_at q b f k) _ _ (attribute_name_meets a b h e f s k)
+        (λ name j u. content_meets (λ xs. Gives (tree.Attr name (spaced_text xs))) m n i e f s j)

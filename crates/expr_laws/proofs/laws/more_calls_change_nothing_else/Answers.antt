@@ -1,0 +1,5 @@
+use Rattle.expr_laws.proofs.Depth.{more_calls}
+use Rattle.expr_laws.proofs.laws.more_calls_change_nothing_else.Goals as goal
+
+pub returns : goal.returns
+returns c = more_calls

@@ -1,0 +1,10 @@
+pub mod Env
+pub mod Logic
+pub mod Values
+pub mod Paths
+pub mod Flow
+pub mod Calls
+pub mod Names
+pub mod Making
+pub mod Meaning
+pub mod Queries
