@@ -1,6 +1,6 @@
 -- Reading token by token.
 use Rattle.std.proofs.Common.{◌≡◌, ◌<◌, ℕ, Bool, true, false, List, [], ◌∷◌, refl, sym, ◌∙◌, ap}
-use Rattle.std.proofs.Common.{subst, Option, Some, None, option_and_then, is_some, Result, Ok}
+use Rattle.std.proofs.Common.{subst, Option, Some, None, option_and_then, Result, Ok}
 use Rattle.std.proofs.Common.{Err, IfOk}
 use Rattle.expr_reader.specs.TokenNames.{Token}
 use Rattle.expr_reader.specs.Terms.{Language}
@@ -8,15 +8,16 @@ use Rattle.expr_reader.specs.RawNames.{Raw}
 use Rattle.expr_terms.specs.declared.choices.Second.{Second}
 use Rattle.expr_terms.specs.Choices.{second_of}
 use Rattle.expr_terms.specs.Nest.{raw_nest_of}
+use Rattle.expr_nest.specs.declared.measures.Measure.TheVariants.{Whole}
 use Rattle.expr_grammar.specs.Machine.{Frame, advance, finish, run}
 use Rattle.expr_reader.specs.declared.readings.Reading.{Reading}
 use Rattle.expr_reader.specs.declared.running.Reader.{Reader}
 use Rattle.expr_reader.specs.Outline.{outline, outlines}
 use Rattle.expr_reader.specs.Answers.{within, Advanced, Finished}
 use Rattle.expr_reader.specs.View.{frames_of}
-use Rattle.expr_reader.specs.Tracks.{Follows, Tracks, Leads, Led}
+use Rattle.expr_reader.specs.Tracks.{Follows, Tracks, Led}
 use Rattle.expr_reader.proofs.Outline.{advance-outline, finish-outline}
-use Rattle.expr_reader.proofs.ClimbLemmas.{reads_end}
+use Rattle.expr_reader.proofs.ClimbLemmas.{reads_end, value_whole}
 
 wrong : {P : Type 0} → true ≡ false → P
 wrong e = cc
@@ -42,7 +43,7 @@ none_outlined (Some fs) e = absurd cc
 
 found_at : (k : ℕ) (l : Language) (was deep : Bool) (t : Token) (s : Second)
     (now new fs : List Frame) (ts : List Token) (o : Option (List Frame)) → second_of ts ≡ s
-    → Advanced true k was deep l t s now new → Follows k l was now fs (t ∷ ts)
+    → Advanced true Whole k was deep l t s now new → Follows k l was now fs (t ∷ ts)
     → advance l t s fs ≡ o → Found k l deep new o ts
 found_at k l was deep t s now new fs ts None e a f g =
     absurd (nothing (sym (ap outlines g) ∙ (advance-outline l t s fs now f.outlined
@@ -62,7 +63,7 @@ found_at k l was deep t s now new fs ts (Some gs) e a f g =
       };
     }
   where
-    exact : (b : Bool) → Advanced true k b deep l t s now new → Follows k l b now fs (t ∷ ts)
+    exact : (b : Bool) → Advanced true Whole k b deep l t s now new → Follows k l b now fs (t ∷ ts)
         → deep ≡ false → gs ≡ new
     exact true a f d = wrong (sym (a.stays refl) ∙ d)
     exact false a f d =
@@ -73,7 +74,7 @@ found_at k l was deep t s now new fs ts (Some gs) e a f g =
         ap (λ z. option_and_then (run l ts) (advance l t z fs)) e
         ∙ (ap (option_and_then (run l ts)) g ∙ r)
 
-    sinks : (b : Bool) → Advanced true k b deep l t s now new → Follows k l b now fs (t ∷ ts)
+    sinks : (b : Bool) → Advanced true Whole k b deep l t s now new → Follows k l b now fs (t ∷ ts)
         → deep ≡ true → (w : Raw) → run l ts gs ≡ Some w → k < raw_nest_of w
     sinks true a f d w r = f.sinks refl w (along w r)
     sinks false a f d w r =
@@ -81,7 +82,7 @@ found_at k l was deep t s now new fs ts (Some gs) e a f g =
 
 pub follows_next : (went : Bool) (old new : Reader) (t : Token) (s : Second) (fs : List Frame)
     (ts : List Token) → new.limit ≡ old.limit → new.language ≡ old.language → second_of ts ≡ s
-    → Advanced went old.limit old.is_deep new.is_deep old.language t s
+    → Advanced went Whole old.limit old.is_deep new.is_deep old.language t s
     (frames_of old.frames.items)
     (frames_of new.frames.items)
     → Tracks old fs (t ∷ ts) → Led went (advance old.language t s fs) new ts
@@ -104,16 +105,16 @@ follows_next true old new t s fs ts k l e a f =
     }
 
 pub follows_end : (k : ℕ) (l : Language) (deep : Bool) (now fs : List Frame) (x : Reading)
-    → Follows k l deep now fs [] → Finished x k deep now → x ≡ within k (finish fs)
+    → Follows k l deep now fs [] → Finished x Whole k deep now → x ≡ within k (finish fs)
 follows_end k l deep now fs x f e =
-    reads_end k l deep [] [] fs now x (record {
+    value_whole k (finish fs) x (reads_end Whole k l deep [] [] fs now x (record {
       outlined = finish-outline fs now f.outlined;
       exact = λ d. ap finish (f.exact d);
       sinks = f.sinks;
-    }) refl e
+    }) refl e)
 
 pub finish_follows : {E : Type 0} (self : Reader) (x : Result Reading E)
-    → IfOk x (λ y. Finished y self.limit self.is_deep (frames_of self.frames.items))
+    → IfOk x (λ y. Finished y Whole self.limit self.is_deep (frames_of self.frames.items))
     → IfOk x (λ y. (fs : List Frame) → Tracks self fs [] → y ≡ within self.limit (finish fs))
 finish_follows self (Ok y) e =
     λ fs t. follows_end self.limit self.language self.is_deep

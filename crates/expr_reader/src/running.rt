@@ -13,6 +13,7 @@ ghost use Rattle.expr_reader.specs.Tracks.{Tracks, Led};
 use crate::frames::Frame;
 use crate::readings::Reading;
 use crate::{parts, steps};
+use expr_nest::Measure;
 use expr_terms::{Language, Production, Second, Token};
 use std::alloc::{AllocError, Global};
 
@@ -78,6 +79,7 @@ impl Reader {
             alloc,
             &mut self.frames,
             &mut self.is_deep,
+            Measure::Whole,
             self.limit,
             self.language,
             token,
@@ -97,7 +99,7 @@ impl Reader {
             language: _,
             limit,
         } = self;
-        steps::finish(frames, limit, is_deep)
+        steps::finish(frames, Measure::Whole, limit, is_deep)
     }
 
     /// The productions that are open, the topmost last.
