@@ -1,6 +1,6 @@
 -- The rules that a pattern breaks as an expression are those of its steps.
-use Rattle.std.proofs.Common.{◌≡◌, Bool, true, false, cond, ◌&&◌, List, [], ◌∷◌, ◌++◌, map}
-use Rattle.std.proofs.Common.{reverse, append-nil, refl, sym, subst, ap, ◌∙◌}
+use Rattle.std.proofs.Common.{◌≡◌, Bool, true, false, cond, List, [], ◌∷◌, ◌++◌, map}
+use Rattle.std.proofs.Common.{reverse, append-nil, refl, sym, ap, ◌∙◌}
 use Rattle.std.specs.List.{list_all}
 use Rattle.std.proofs.lemmas.Bool.{and_parts}
 use Rattle.xt_names.specs.declared.codes.Code.{Code}
@@ -23,9 +23,9 @@ use Rattle.expr_resolve.specs.Folds.{parts_values}
 use Rattle.pattern_shapes.specs.Shapes.{is_step, is_step_of, is_step_in, is_only_step, is_after}
 use Rattle.pattern_shapes.specs.Shapes.{is_after_in, are_steps, is_alternative, is_alternative_in}
 use Rattle.pattern_shapes.specs.Shapes.{is_bar, has_bar, is_barred, is_barred_in, is_unions}
-use Rattle.pattern_shapes.specs.Shapes.{are_alternatives, is_pattern, is_pattern_in, inner_step}
+use Rattle.pattern_shapes.specs.Shapes.{are_alternatives, is_pattern, is_pattern_in}
 use Rattle.pattern_shapes.specs.Shapes.{inner_in}
-use Rattle.pattern_syntax.specs.Parts.{barless, barless_in, alternatives_in, steps_in}
+use Rattle.pattern_syntax.specs.Parts.{barless_in, alternatives_in}
 use Rattle.pattern_syntax.specs.Parts.{steps_within}
 use Rattle.pattern_syntax.specs.Meant.{steps_broken, alternative_broken, alternatives_broken}
 use Rattle.pattern_syntax.specs.Meant.{pattern_broken}

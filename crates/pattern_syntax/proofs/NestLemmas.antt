@@ -1,6 +1,6 @@
 -- The levels within predicates of a pattern are those of the deepest part of its steps.
-use Rattle.std.proofs.Common.{◌≡◌, ℕ, ◌+◌, ◌≤◌, max, Bool, true, false, cond, ◌&&◌, List, [], ◌∷◌}
-use Rattle.std.proofs.Common.{◌++◌, map, refl, sym, subst, ap, ◌∙◌, arith}
+use Rattle.std.proofs.Common.{◌≡◌, ℕ, max, true, false, List, [], ◌∷◌}
+use Rattle.std.proofs.Common.{◌++◌, map, refl, sym, ap, ◌∙◌, arith}
 use Rattle.std.specs.List.{list_all}
 use Rattle.std.proofs.lemmas.Bool.{and_parts}
 use Rattle.expr_terms.specs.declared.productions.Level.{Level}
@@ -9,20 +9,20 @@ use Rattle.expr_terms.specs.declared.productions.Production.{Production}
 use Rattle.expr_terms.specs.declared.productions.Production.TheVariants as production
 use Rattle.expr_terms.specs.declared.tokens.Token.{Token}
 use Rattle.expr_terms.specs.declared.raws.Raw.{Raw}
-use Rattle.expr_terms.specs.declared.raws.Raw.TheVariants.{Leaf as leaf, Node as node, rolls-Node}
+use Rattle.expr_terms.specs.declared.raws.Raw.TheVariants.{rolls-Node}
 use Rattle.expr_terms.specs.declared.raws.Raw.TheVariants.{rolls-Leaf}
 use Rattle.expr_terms.specs.declared.raws.Raw.TheViews.{out-Raw, roll-Raw, roll-out-Raw}
 use Rattle.expr_terms.specs.declared.raws.Raw.TheOpen.{Raw-F, Leaf, Node}
 use Rattle.expr_terms.specs.Nest.{Levels, levels_of, raw_nest_of, with_part, with_parts, is_left}
 use Rattle.expr_terms.specs.Nest.{is_arms}
 use Rattle.expr_nest.specs.Held.{held}
-use Rattle.expr_nest.specs.Measures.{is_step as is_counted, is_outside, within_of}
+use Rattle.expr_nest.specs.Measures.{is_outside, within_of}
 use Rattle.expr_nest.specs.Measures.{predicate_nest_of, widest}
 use Rattle.expr_nest.proofs.Within.{within-node, within-leaf}
-use Rattle.pattern_shapes.specs.Shapes.{is_step, is_step_of, is_step_in, is_only_step, is_after}
+use Rattle.pattern_shapes.specs.Shapes.{is_step, is_step_in, is_after}
 use Rattle.pattern_shapes.specs.Shapes.{is_after_in, are_steps, is_alternative, is_alternative_in}
 use Rattle.pattern_shapes.specs.Shapes.{is_bar, has_bar, is_barred, is_barred_in, is_unions}
-use Rattle.pattern_shapes.specs.Shapes.{are_alternatives, is_pattern, is_pattern_in, inner_step}
+use Rattle.pattern_shapes.specs.Shapes.{are_alternatives, is_pattern, is_pattern_in}
 use Rattle.pattern_shapes.specs.Shapes.{inner_in}
 use Rattle.pattern_syntax.specs.Parts.{barless, barless_in, alternatives_in, steps_in}
 use Rattle.pattern_syntax.specs.Parts.{steps_within}

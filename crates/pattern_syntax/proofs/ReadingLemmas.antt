@@ -1,5 +1,5 @@
 -- What the reading says of the text.
-use Rattle.std.proofs.Common.{◌≡◌, ◌≤◌, ◌<◌, ◌↔◌, ℕ, Bool, true, false, cond, ◌&&◌, nat_le, List}
+use Rattle.std.proofs.Common.{◌≡◌, ◌≤◌, ◌<◌, ℕ, Bool, true, false, cond, nat_le, List}
 use Rattle.std.proofs.Common.{[], ◌∷◌, ◌++◌, map, length, Option, Some, None, Result, Ok, Err}
 use Rattle.std.proofs.Common.{refl, sym, subst, ap, ◌∙◌, ◌+◌, arith}
 use Rattle.std.proofs.lemmas.Bool.{le-leb, leb-true, leb-false}
@@ -13,7 +13,7 @@ use Rattle.xt_syntax.specs.declared.prefixes.ParseFault.{ParseFault}
 use Rattle.xt_syntax.specs.declared.prefixes.ParseFault.TheVariants.{Syntax, Static, TooDeep}
 use Rattle.xt_syntax.specs.declared.prefixes.ParseFault.TheVariants.{Memory}
 use Rattle.xpath_lex.specs.declared.lexing.Token.{Token as Lexed}
-use Rattle.xpath_lex.specs.Readings.{Placed, placed, Tokens, Fault}
+use Rattle.xpath_lex.specs.Readings.{placed, Tokens, Fault}
 use Rattle.xpath_lex.proofs.ReadingLemmas.{tokens_one, tokens_no_fault}
 use Rattle.expr_terms.specs.declared.tokens.Token.{Token}
 use Rattle.expr_terms.specs.declared.raws.Raw.{Raw}
@@ -28,7 +28,6 @@ use Rattle.expr_nest.specs.declared.measures.Measure.TheVariants.{Predicates}
 use Rattle.expr_nest.proofs.Within.{within-less}
 use Rattle.expr_reader.specs.declared.readings.Reading.TheVariants as read
 use Rattle.expr_reader.specs.Answers.{within_by}
-use Rattle.expr_names.specs.declared.fault.ResolveFault.{ResolveFault}
 use Rattle.expr_names.specs.Answers.{first}
 use Rattle.expr_resolve.specs.declared.setting.Setting.{Setting}
 use Rattle.expr_resolve.specs.Folds.{broken_of}
@@ -36,11 +35,11 @@ use Rattle.xpath_syntax.specs.Spelled.{IsWritten}
 use Rattle.xpath_syntax.proofs.ReadingLemmas.{terms_length}
 use Rattle.pattern_shapes.specs.Shapes.{is_pattern}
 use Rattle.pattern_syntax.specs.Meant.{patterns_of, pattern_broken, is_allowed, left_out}
-use Rattle.pattern_syntax.specs.Readings.{Answer, value, syntax, static, too_deep, rules_broken}
-use Rattle.pattern_syntax.specs.Readings.{value_or, resolved, shaped, answer_of, reading_of}
+use Rattle.pattern_syntax.specs.Readings.{value, syntax, static, too_deep}
+use Rattle.pattern_syntax.specs.Readings.{value_or, resolved, shaped, answer_of}
 use Rattle.pattern_syntax.specs.Readings.{reading_in, begins_with_key, reading_tokens}
 use Rattle.pattern_syntax.specs.Readings.{pattern_reading, unplaced, IsLexed, Gives, GivesText}
-use Rattle.pattern_syntax.specs.Spelled.{IsRead, IsMeant, Spells, SpellsWithin, Why, shapeless}
+use Rattle.pattern_syntax.specs.Spelled.{IsRead, IsMeant, Spells, SpellsWithin, shapeless}
 use Rattle.pattern_syntax.specs.Spelled.{breaks, unsupported, IsRefused, key_form, refused}
 use Rattle.pattern_syntax.specs.Spelled.{IsTooDeep, Parsed}
 use Rattle.pattern_syntax.proofs.BrokenLemmas.{pattern_breaks}

@@ -1,6 +1,6 @@
 -- What raw values mean as patterns, and the rules that they break, in reading order (XSLT 2.0,
 -- 5.5.2).
-use Rattle.std.specs.Prelude.{List, [], ◌∷◌, ◌++◌, map, Bool, false, ◌||◌, ◌&&◌, if◌then◌else◌}
+use Rattle.std.specs.Prelude.{List, [], ◌∷◌, ◌++◌, Bool, false, ◌||◌, ◌&&◌, if◌then◌else◌}
 use Rattle.std.specs.List.{list_all}
 use Rattle.xt_names.specs.declared.codes.Code.{Code}
 use Rattle.xt_names.specs.declared.codes.Code.TheVariants.{SheetStatic}
