@@ -1,4 +1,5 @@
-//! Tests of which texts have the shape of a pattern, and which expressions may be its predicates.
+//! Tests of which texts are patterns and what they mean, which have the shape of one, and which
+//! expressions may be predicates.
 //!
 //! They stand apart from the crates that they test, so that a change of a test need not prove them
 //! again.
@@ -8,3 +9,9 @@
 mod predicates;
 #[cfg(test)]
 mod shapes;
+#[cfg(test)]
+mod shown;
+#[cfg(test)]
+mod sizes;
+#[cfg(test)]
+mod texts;

@@ -1,0 +1,5 @@
+pub mod LoopLemmas
+pub mod BrokenLemmas
+pub mod NestLemmas
+pub mod TestLemmas
+pub mod ReadingLemmas
