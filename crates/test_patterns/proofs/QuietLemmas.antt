@@ -14,7 +14,7 @@ use Rattle.match_patterns.specs.Patterns.{are_allowed_steps}
 pub quiet_form : (e : Expr) → is_quiet_expr e ≡ true → is_pattern_form (quietly_of e) ≡ true
 quiet_form e h = (and_parts (is_regular_expr e) (is_pattern_form (quietly_of e)) (pattern_predicate e h)).1
 
-quiet_list : (tests : List Expr) → list_all is_quiet_expr tests ≡ true → are_allowed tests ≡ true
+pub quiet_list : (tests : List Expr) → list_all is_quiet_expr tests ≡ true → are_allowed tests ≡ true
 quiet_list [] h = refl
 quiet_list (e ∷ tests) h = let p = and_parts (is_quiet_expr e) (list_all is_quiet_expr tests) h in rw (quiet_form e p.0, quiet_list tests p.1) refl
 

@@ -4,10 +4,13 @@ ghost use Rattle.std.specs.List.{list_all};
 ghost use Rattle.xt_forms.specs.Quiet.{is_quiet_expr};
 
 use match_patterns::matches;
+use node_axes::Cursor;
+use node_walks::Walk;
 use quiet_eval::holds;
 use std::alloc::AllocGlobal;
 use std::process::Abort;
 use xt_forms::is_quiet;
+use xt_names::List;
 use xt_syntax::{Expr, Pattern, PatternStep};
 use xt_tree::Node;
 
@@ -39,4 +42,14 @@ fn are_quiet_steps(steps: &[PatternStep]) -> bool
     ensures { result ≡ list_all (λ s. list_all is_quiet_expr s.quiet) steps.now }
 {
     steps.iter().all(|s| are_quiet(s.quiet.as_slice()))
+}
+
+#[tactic(auto, using(crate::proofs::QuietLemmas::quiet_list))]
+pub(crate) fn quiet_walk(
+    rt: &(impl Abort + AllocGlobal),
+    cursor: Cursor,
+    tests: List<Expr>,
+) -> Walk {
+    assert!(rt; are_quiet(tests.as_slice()));
+    Walk::of_quiet(rt.alloc(), cursor, tests).expect(rt, "memory")
 }

@@ -15,4 +15,6 @@ mod matched;
 #[cfg(test)]
 mod predicates;
 #[cfg(test)]
+mod walks;
+#[cfg(test)]
 mod written;

@@ -22,7 +22,7 @@ fn name_test(rt: &(impl Abort + AllocGlobal), word: &str) -> NameTest {
     }
 }
 
-fn test_of(rt: &(impl Abort + AllocGlobal), word: &str) -> Test {
+pub(crate) fn test_of(rt: &(impl Abort + AllocGlobal), word: &str) -> Test {
     match word {
         "node()" => Test::Node,
         "text()" => Test::Text,
@@ -186,7 +186,7 @@ pub(crate) fn expr_of(rt: &(impl Abort + AllocGlobal), words: &str) -> Expr {
     pop(rt, &mut stack)
 }
 
-fn predicates_of(rt: &(impl Abort + AllocGlobal), words: &str) -> List<Expr> {
+pub(crate) fn predicates_of(rt: &(impl Abort + AllocGlobal), words: &str) -> List<Expr> {
     let mut tests = List::new(rt.alloc());
     for part in words.split("[") {
         if let Some(predicate) = part.strip_suffix("]") {

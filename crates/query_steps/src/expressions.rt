@@ -1,0 +1,125 @@
+// The expressions of a query.
+ghost use Rattle.std.specs.Prelude.{◌≡◌, ◌∷◌, [], ℕ, List, IfOk, Some, option_map};
+ghost use Rattle.expr_terms.specs.declared.tokens.Token.{Token as Term};
+ghost use Rattle.expr_terms.specs.declared.productions.Language.TheVariants.{Xquery as xquery};
+ghost use Rattle.expr_terms.specs.Choices.{second_of};
+ghost use Rattle.expr_grammar.specs.Machine.{Frame as Open, advance, finish};
+ghost use Rattle.query_grammar.specs.declared.declared.Declared.TheVariants.{Variable};
+ghost use Rattle.query_grammar.specs.Machine.{to_mode, body, value, inner, to_end, to_closed};
+ghost use Rattle.query_grammar.specs.Machine.{function_of};
+ghost use Rattle.query_steps.specs.Stands.{Holds, Moves, Turned, semicolon_key, brace_key};
+
+use crate::stages::{Stage, Turn};
+use expr_reader::{Reader, Reading};
+use expr_terms::{Second, Token};
+use query_grammar::{Declared, Signature, Typed};
+use std::alloc::{AllocError, Global};
+
+/// Leads the token into the expression.
+#[tactic(auto, using(crate::proofs::ExpressionLemmas::expressions))]
+fn lead(
+    alloc: Global,
+    reader: Reader,
+    token: &Token,
+    second: Second,
+) -> Result<Option<Reader>, AllocError>
+    ensures { IfOk result (λ led. (k : ℕ) (fs : List Open) (ts : List Term) →
+        second_of ts ≡ second → Holds k reader fs (token.now ∷ ts) →
+        Moves k led (advance xquery token.now second fs) ts) }
+{
+    let mut reader = reader;
+    if reader.advance(alloc, token, second)? {
+        Ok(Some(reader))
+    } else {
+        Ok(None)
+    }
+}
+
+/// In the body of the query.
+#[tactic(auto, using(crate::proofs::ExpressionLemmas::expressions))]
+pub fn body_step(
+    alloc: Global,
+    reader: Reader,
+    token: &Token,
+    second: Second,
+) -> Result<Turn, AllocError>
+    ensures { IfOk result (λ turn. (k : ℕ) (fs : List Open) (ts : List Term) →
+        second_of ts ≡ second → Holds k reader fs (token.now ∷ ts) →
+        Turned k turn (to_mode body (advance xquery token.now second fs)) ts) }
+{
+    match lead(alloc, reader, token, second)? {
+        None => Ok(Turn::Refused),
+        Some(reader) => Ok(Turn::Onto(Stage::Body(reader))),
+    }
+}
+
+/// In the value of a variable, before a token of it.
+#[tactic(auto, using(crate::proofs::ExpressionLemmas::expressions))]
+pub fn value_on(
+    alloc: Global,
+    variable: Typed,
+    reader: Reader,
+    token: &Token,
+    second: Second,
+) -> Result<Turn, AllocError>
+    ensures { IfOk result (λ turn. (k : ℕ) (fs : List Open) (ts : List Term) →
+        second_of ts ≡ second → Holds k reader fs (token.now ∷ ts) →
+        Turned k turn (to_mode (value variable) (advance xquery token.now second fs)) ts) }
+{
+    match lead(alloc, reader, token, second)? {
+        None => Ok(Turn::Refused),
+        Some(reader) => Ok(Turn::Onto(Stage::Value(variable, reader))),
+    }
+}
+
+/// Behind the value of a variable.
+#[tactic(auto, using(crate::proofs::ExpressionLemmas::expressions))]
+pub fn value_end(variable: Typed, reader: Reader) -> Result<Turn, AllocError>
+    ensures { IfOk result (λ turn. (k : ℕ) (fs : List Open) (ts : List Term) →
+        Holds k reader fs (semicolon_key ∷ ts) →
+        Turned k turn (to_end (option_map (λ w. Variable variable (Some w)) (finish fs))) ts) }
+{
+    match reader.finish()? {
+        Reading::Nothing => Ok(Turn::Refused),
+        Reading::TooDeep => Ok(Turn::TooDeep),
+        Reading::Value(raw) => Ok(Turn::Ends(Declared::Variable(variable, Some(raw)))),
+    }
+}
+
+/// In the body of a function, before a token of it.
+#[tactic(auto, using(crate::proofs::ExpressionLemmas::expressions))]
+pub fn inner_on(
+    alloc: Global,
+    signature: Signature,
+    reader: Reader,
+    token: &Token,
+    second: Second,
+) -> Result<Turn, AllocError>
+    ensures { IfOk result (λ turn. (k : ℕ) (fs : List Open) (ts : List Term) →
+        second_of ts ≡ second → Holds k reader fs (token.now ∷ ts) →
+        Turned k turn (to_mode (inner signature) (advance xquery token.now second fs)) ts) }
+{
+    match lead(alloc, reader, token, second)? {
+        None => Ok(Turn::Refused),
+        Some(reader) => Ok(Turn::Onto(Stage::Inner(signature, reader))),
+    }
+}
+
+/// Behind the body of a function.
+#[tactic(auto, using(crate::proofs::ExpressionLemmas::expressions))]
+pub fn inner_end(signature: Signature, reader: Reader) -> Result<Turn, AllocError>
+    ensures { IfOk result (λ turn. (k : ℕ) (fs : List Open) (ts : List Term) →
+        Holds k reader fs (brace_key ∷ ts) →
+        Turned k turn (to_closed (option_map (function_of signature) (finish fs))) ts) }
+{
+    match reader.finish()? {
+        Reading::Nothing => Ok(Turn::Refused),
+        Reading::TooDeep => Ok(Turn::TooDeep),
+        Reading::Value(raw) => {
+            let Signature { name, params, kind } = signature;
+            Ok(Turn::Onto(Stage::Closed(Declared::Function(
+                name, params, kind, raw,
+            ))))
+        }
+    }
+}

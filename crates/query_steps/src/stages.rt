@@ -1,0 +1,36 @@
+// How far a query is read.
+use expr_reader::Reader;
+use expr_terms::{Second, Token};
+use query_grammar::{Declared, Opening, Signature, Typed};
+
+/// How far a query is read.
+#[derive(Drop)]
+pub enum Stage {
+    /// At the front of a declaration or of the body.
+    Front,
+    /// Behind a word that may open a declaration.
+    Held(Token, Second),
+    /// Behind the two words of a declaration and these tokens.
+    Head(Opening, Vec<Token>),
+    /// In the body.
+    Body(Reader),
+    /// In the value of a variable.
+    Value(Typed, Reader),
+    /// In the body of a function.
+    Inner(Signature, Reader),
+    /// Behind it.
+    Closed(Declared),
+}
+
+/// What a token leads to.
+#[derive(Drop)]
+pub enum Turn {
+    /// Nothing goes on so.
+    Refused,
+    /// An expression has ended that nests deeper than the limit.
+    TooDeep,
+    /// The reading goes on.
+    Onto(Stage),
+    /// A declaration has ended, and the reading goes on at the front.
+    Ends(Declared),
+}
