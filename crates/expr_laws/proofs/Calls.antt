@@ -69,7 +69,7 @@ module _ (c : Carrier) where
     value_meets current name e f s args g k =
         subst (λ t. c.rel (List Item) (Every c.good)
         (step_outcome (current_value e.state.current) k) (step_outcome
-            (current_value t.current) k))
+        (current_value t.current) k))
         (c.places.state e f s)
         (same_step c (Every c.good) (current_value e.state.current) (c.places.current e f s) k)
     value_meets current_group name e f s args g k =

@@ -58,7 +58,7 @@ module _ (c : Carrier) where
       (h.1.1 (bind_all bound e) (bind_all bound f) (c.places.bound e f s bound w) k) (λ xs j all.
       each_carried c.like c.rel c.carries c.good (GoodRow c) _ _ (λ x i d.
       c.carries.next _ _ (Every c.good) (Every (GoodRow c))
-          (step_outcome (typed a.kind (x ∷ [])) i)
+      (step_outcome (typed a.kind (x ∷ [])) i)
       (step_outcome (typed a.kind (x ∷ [])) i) _ _
       (same_step c (Every c.good) (typed a.kind (x ∷ []))
       (typed_known c.good a.kind (x ∷ []) (d, tt)) i)

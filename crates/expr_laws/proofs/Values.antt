@@ -35,7 +35,7 @@ module _ (c : Carrier) where
       ((p : Placed Item) → c.good p.value → OnValue P (value p)) → (e f : Env) → c.at e f →
       (k : ℕ) →
       c.rel B P (step_outcome (of_focus value e.focus) k) (step_outcome
-          (of_focus value f.focus) k)
+      (of_focus value f.focus) k)
   focus_meets P value h e f s k =
       subst (λ o. c.rel _ P (step_outcome (of_focus value e.focus) k)
       (step_outcome (of_focus value o) k)) (c.places.focus e f s)

@@ -161,16 +161,16 @@ module _ (c : Carrier) (makes : IsMade c) (p q : Program) (meet : ProgramsMeet c
   plain = map-Expr known.Clauses known.Exprs known.Names known.Parts known.Arms known.Binds known.Attrs known.Flwors known.Orders
       Clause Expr NameSource Part Arm Bind DirectAttr FlworOf Order
       (λ y. y.0) (λ y. y.0) (λ y. y.0) (λ y. y.0) (λ y. y.0) (λ y. y.0) (λ y. y.0) (λ y. y.0)
-          (λ y. y.0)
+      (λ y. y.0)
 
   abbrev means : Program → Expr-F Clause Expr NameSource Part Arm Bind DirectAttr FlworOf Order →
       Meaning
   means r x = expr_means r (map-Expr Clause Expr NameSource Part Arm Bind DirectAttr FlworOf Order
       meanings.Clauses meanings.Exprs meanings.Names meanings.Parts meanings.Arms meanings.Binds meanings.Attrs meanings.Flwors meanings.Orders
       (clause_gives meanings (steps r)) (outcome r) (name_gives meanings (steps r))
-          (part_gives meanings (steps r)) (arm_gives meanings (steps r))
+      (part_gives meanings (steps r)) (arm_gives meanings (steps r))
       (bind_gives meanings (steps r)) (attr_gives meanings (steps r))
-          (flwor_gives meanings (steps r)) (order_gives meanings (steps r)) x)
+      (flwor_gives meanings (steps r)) (order_gives meanings (steps r)) x)
 
   rolled : (r : Program)
       (x : Expr-F Clause Expr NameSource Part Arm Bind DirectAttr FlworOf Order) →
@@ -233,7 +233,7 @@ module _ (c : Carrier) (makes : IsMade c) (p q : Program) (meet : ProgramsMeet c
       map-Arm known.Clauses known.Exprs known.Names known.Parts known.Arms known.Binds known.Attrs known.Flwors known.Orders
       Clause Expr NameSource Part Arm Bind DirectAttr FlworOf Order
       (λ y. y.0) (λ y. y.0) (λ y. y.0) (λ y. y.0) (λ y. y.0) (λ y. y.0) (λ y. y.0) (λ y. y.0)
-          (λ y. y.0)
+      (λ y. y.0)
 
   rolled_arm : (r : Program)
       (x : Arm-F Clause Expr NameSource Part Arm Bind DirectAttr FlworOf Order) →
@@ -254,7 +254,7 @@ module _ (c : Carrier) (makes : IsMade c) (p q : Program) (meet : ProgramsMeet c
       map-Bind known.Clauses known.Exprs known.Names known.Parts known.Arms known.Binds known.Attrs known.Flwors known.Orders
       Clause Expr NameSource Part Arm Bind DirectAttr FlworOf Order
       (λ y. y.0) (λ y. y.0) (λ y. y.0) (λ y. y.0) (λ y. y.0) (λ y. y.0) (λ y. y.0) (λ y. y.0)
-          (λ y. y.0)
+      (λ y. y.0)
 
   rolled_bind : (r : Program)
       (x : Bind-F Clause Expr NameSource Part Arm Bind DirectAttr FlworOf Order) →
@@ -275,7 +275,7 @@ module _ (c : Carrier) (makes : IsMade c) (p q : Program) (meet : ProgramsMeet c
       map-Order known.Clauses known.Exprs known.Names known.Parts known.Arms known.Binds known.Attrs known.Flwors known.Orders
       Clause Expr NameSource Part Arm Bind DirectAttr FlworOf Order
       (λ y. y.0) (λ y. y.0) (λ y. y.0) (λ y. y.0) (λ y. y.0) (λ y. y.0) (λ y. y.0) (λ y. y.0)
-          (λ y. y.0)
+      (λ y. y.0)
 
   rolled_order : (r : Program)
       (x : Order-F Clause Expr NameSource Part Arm Bind DirectAttr FlworOf Order) →
@@ -296,7 +296,7 @@ module _ (c : Carrier) (makes : IsMade c) (p q : Program) (meet : ProgramsMeet c
       map-DirectAttr known.Clauses known.Exprs known.Names known.Parts known.Arms known.Binds known.Attrs known.Flwors known.Orders
       Clause Expr NameSource Part Arm Bind DirectAttr FlworOf Order
       (λ y. y.0) (λ y. y.0) (λ y. y.0) (λ y. y.0) (λ y. y.0) (λ y. y.0) (λ y. y.0) (λ y. y.0)
-          (λ y. y.0)
+      (λ y. y.0)
 
   rolled_attr : (r : Program)
       (x : DirectAttr-F Clause Expr NameSource Part Arm Bind DirectAttr FlworOf Order) →
@@ -317,7 +317,7 @@ module _ (c : Carrier) (makes : IsMade c) (p q : Program) (meet : ProgramsMeet c
       map-Flwor known.Clauses known.Exprs known.Names known.Parts known.Arms known.Binds known.Attrs known.Flwors known.Orders
       Clause Expr NameSource Part Arm Bind DirectAttr FlworOf Order
       (λ y. y.0) (λ y. y.0) (λ y. y.0) (λ y. y.0) (λ y. y.0) (λ y. y.0) (λ y. y.0) (λ y. y.0)
-          (λ y. y.0)
+      (λ y. y.0)
 
   abbrev flwor_value : Program →
       Flwor-F Clause Expr NameSource Part Arm Bind DirectAttr FlworOf Order → Meaning
@@ -325,9 +325,9 @@ module _ (c : Carrier) (makes : IsMade c) (p q : Program) (meet : ProgramsMeet c
       (map-Flwor Clause Expr NameSource Part Arm Bind DirectAttr FlworOf Order
       meanings.Clauses meanings.Exprs meanings.Names meanings.Parts meanings.Arms meanings.Binds meanings.Attrs meanings.Flwors meanings.Orders
       (clause_gives meanings (steps r)) (outcome r) (name_gives meanings (steps r))
-          (part_gives meanings (steps r)) (arm_gives meanings (steps r))
+      (part_gives meanings (steps r)) (arm_gives meanings (steps r))
       (bind_gives meanings (steps r)) (attr_gives meanings (steps r))
-          (flwor_gives meanings (steps r)) (order_gives meanings (steps r)) x)
+      (flwor_gives meanings (steps r)) (order_gives meanings (steps r)) x)
 
   rolled_flwor : (r : Program)
       (x : Flwor-F Clause Expr NameSource Part Arm Bind DirectAttr FlworOf Order) →
@@ -337,15 +337,25 @@ module _ (c : Carrier) (makes : IsMade c) (p q : Program) (meet : ProgramsMeet c
   flwor_known : (clauses : List known.Clauses) (test : Option known.Exprs)
       (orders : List known.Orders) (stable : Bool) (body : known.Exprs) →
       Meet c
-      (flwor_value p (plain_flwor (record { clauses = clauses; test = test; orders = orders;
-          stable = stable; body = body })))
-      (flwor_value q (plain_flwor (record { clauses = clauses; test = test; orders = orders;
-          stable = stable; body = body })))
+      (flwor_value p (plain_flwor (record {
+        clauses = clauses;
+        test = test;
+        orders = orders;
+        stable = stable;
+        body = body;
+      })))
+      (flwor_value q (plain_flwor (record {
+        clauses = clauses;
+        test = test;
+        orders = orders;
+        stable = stable;
+        body = body;
+      })))
   flwor_known clauses None orders stable body =
       flwor_meets c _ _ (clauses_meet clauses) None None tt _ _ (orders_meet orders) _ _ body.1
   flwor_known clauses (Some t) orders stable body =
       flwor_meets c _ _ (clauses_meet clauses) (Some _) (Some _) t.1 _ _
-          (orders_meet orders) _ _ body.1
+      (orders_meet orders) _ _ body.1
 
   flwor_step : (x : Flwor-F Clause Expr NameSource Part Arm Bind DirectAttr FlworOf Order)
       (y : FlworLayer known) →
@@ -360,7 +370,7 @@ module _ (c : Carrier) (makes : IsMade c) (p q : Program) (meet : ProgramsMeet c
       map-Clause known.Clauses known.Exprs known.Names known.Parts known.Arms known.Binds known.Attrs known.Flwors known.Orders
       Clause Expr NameSource Part Arm Bind DirectAttr FlworOf Order
       (λ y. y.0) (λ y. y.0) (λ y. y.0) (λ y. y.0) (λ y. y.0) (λ y. y.0) (λ y. y.0) (λ y. y.0)
-          (λ y. y.0)
+      (λ y. y.0)
 
   abbrev clause_value : Program →
       Clause-F Clause Expr NameSource Part Arm Bind DirectAttr FlworOf Order → meanings.Clauses
@@ -368,9 +378,9 @@ module _ (c : Carrier) (makes : IsMade c) (p q : Program) (meet : ProgramsMeet c
       (map-Clause Clause Expr NameSource Part Arm Bind DirectAttr FlworOf Order
       meanings.Clauses meanings.Exprs meanings.Names meanings.Parts meanings.Arms meanings.Binds meanings.Attrs meanings.Flwors meanings.Orders
       (clause_gives meanings (steps r)) (outcome r) (name_gives meanings (steps r))
-          (part_gives meanings (steps r)) (arm_gives meanings (steps r))
+      (part_gives meanings (steps r)) (arm_gives meanings (steps r))
       (bind_gives meanings (steps r)) (attr_gives meanings (steps r))
-          (flwor_gives meanings (steps r)) (order_gives meanings (steps r)) x)
+      (flwor_gives meanings (steps r)) (order_gives meanings (steps r)) x)
 
   rolled_clause : (r : Program)
       (x : Clause-F Clause Expr NameSource Part Arm Bind DirectAttr FlworOf Order) →
@@ -396,7 +406,7 @@ module _ (c : Carrier) (makes : IsMade c) (p q : Program) (meet : ProgramsMeet c
       map-NameSource known.Clauses known.Exprs known.Names known.Parts known.Arms known.Binds known.Attrs known.Flwors known.Orders
       Clause Expr NameSource Part Arm Bind DirectAttr FlworOf Order
       (λ y. y.0) (λ y. y.0) (λ y. y.0) (λ y. y.0) (λ y. y.0) (λ y. y.0) (λ y. y.0) (λ y. y.0)
-          (λ y. y.0)
+      (λ y. y.0)
 
   abbrev name_value : Program →
       NameSource-F Clause Expr NameSource Part Arm Bind DirectAttr FlworOf Order → meanings.Names
@@ -404,9 +414,9 @@ module _ (c : Carrier) (makes : IsMade c) (p q : Program) (meet : ProgramsMeet c
       (map-NameSource Clause Expr NameSource Part Arm Bind DirectAttr FlworOf Order
       meanings.Clauses meanings.Exprs meanings.Names meanings.Parts meanings.Arms meanings.Binds meanings.Attrs meanings.Flwors meanings.Orders
       (clause_gives meanings (steps r)) (outcome r) (name_gives meanings (steps r))
-          (part_gives meanings (steps r)) (arm_gives meanings (steps r))
+      (part_gives meanings (steps r)) (arm_gives meanings (steps r))
       (bind_gives meanings (steps r)) (attr_gives meanings (steps r))
-          (flwor_gives meanings (steps r)) (order_gives meanings (steps r)) x)
+      (flwor_gives meanings (steps r)) (order_gives meanings (steps r)) x)
 
   rolled_name : (r : Program)
       (x : NameSource-F Clause Expr NameSource Part Arm Bind DirectAttr FlworOf Order) →
@@ -431,7 +441,7 @@ module _ (c : Carrier) (makes : IsMade c) (p q : Program) (meet : ProgramsMeet c
       map-Part known.Clauses known.Exprs known.Names known.Parts known.Arms known.Binds known.Attrs known.Flwors known.Orders
       Clause Expr NameSource Part Arm Bind DirectAttr FlworOf Order
       (λ y. y.0) (λ y. y.0) (λ y. y.0) (λ y. y.0) (λ y. y.0) (λ y. y.0) (λ y. y.0) (λ y. y.0)
-          (λ y. y.0)
+      (λ y. y.0)
 
   abbrev part_value : Program →
       Part-F Clause Expr NameSource Part Arm Bind DirectAttr FlworOf Order → meanings.Parts
@@ -439,9 +449,9 @@ module _ (c : Carrier) (makes : IsMade c) (p q : Program) (meet : ProgramsMeet c
       (map-Part Clause Expr NameSource Part Arm Bind DirectAttr FlworOf Order
       meanings.Clauses meanings.Exprs meanings.Names meanings.Parts meanings.Arms meanings.Binds meanings.Attrs meanings.Flwors meanings.Orders
       (clause_gives meanings (steps r)) (outcome r) (name_gives meanings (steps r))
-          (part_gives meanings (steps r)) (arm_gives meanings (steps r))
+      (part_gives meanings (steps r)) (arm_gives meanings (steps r))
       (bind_gives meanings (steps r)) (attr_gives meanings (steps r))
-          (flwor_gives meanings (steps r)) (order_gives meanings (steps r)) x)
+      (flwor_gives meanings (steps r)) (order_gives meanings (steps r)) x)
 
   rolled_part : (r : Program)
       (x : Part-F Clause Expr NameSource Part Arm Bind DirectAttr FlworOf Order) →

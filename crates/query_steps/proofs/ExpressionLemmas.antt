@@ -1,6 +1,6 @@
 -- Expressions within a query, token by token.
 use Rattle.std.proofs.Common.{◌≡◌, ◌<◌, ℕ, Bool, true, false, cond, List, [], ◌∷◌, refl, sym, ◌∙◌}
-use Rattle.std.proofs.Common.{ap, subst, Option, Some, None, option_map, is_some, nat_le}
+use Rattle.std.proofs.Common.{ap, subst, Option, Some, None, option_map, nat_le}
 use Rattle.std.proofs.lemmas.Option.{same_Some}
 use Rattle.std.proofs.lemmas.Bool.{leb-false}
 use Rattle.expr_terms.specs.declared.tokens.Token.{Token}
@@ -15,7 +15,6 @@ use Rattle.expr_reader.specs.declared.readings.Reading.{Reading}
 use Rattle.expr_reader.specs.declared.readings.Reading.TheVariants.{Value, Nothing, TooDeep}
 use Rattle.expr_reader.specs.Answers.{within}
 use Rattle.expr_reader.specs.Tracks.{Tracks, Leads, Led}
-use Rattle.query_grammar.specs.declared.declared.Declared.{Declared}
 use Rattle.query_grammar.specs.declared.declared.Declared.TheVariants as declared
 use Rattle.query_grammar.specs.declared.declared.Typed.{Typed}
 use Rattle.query_grammar.specs.declared.declared.Signature.{Signature}
@@ -23,11 +22,10 @@ use Rattle.query_grammar.specs.Prolog.{here, there}
 use Rattle.query_grammar.specs.Machine as machine
 use Rattle.query_grammar.specs.Machine.{Mode, to_mode, to_end, to_closed, function_of}
 use Rattle.query_grammar.proofs.Residue.{second_semicolon, second_brace}
-use Rattle.query_steps.specs.declared.stages.Stage.{Stage}
 use Rattle.query_steps.specs.declared.stages.Stage.TheVariants as stage
 use Rattle.query_steps.specs.declared.stages.Turn.TheVariants as turn
-use Rattle.query_steps.specs.Stands.{Before, all, semicolon, brace, Holds, InFrames, Stands, IsDeep}
-use Rattle.query_steps.specs.Stands.{ended, closed, Goes, Turned, Held, Moves, semicolon_key, brace_key}
+use Rattle.query_steps.specs.Stands.{Before, all, semicolon, brace, Holds, IsDeep}
+use Rattle.query_steps.specs.Stands.{ended, closed, Goes, Turned, Held, semicolon_key, brace_key}
 
 second_before : {seg ts : List Token} → Before seg ts → second_of seg ≡ second_of ts
 second_before all = refl
@@ -46,48 +44,64 @@ Advances went old new t s =
     → Led went (advance old.language t s fs) new ts
 
 pub moves_none : (k : ℕ) (old new : Reader) (t : Token) (s : Second) (fs : List Frame)
-  (ts : List Token) → Advances false old new t s → second_of ts ≡ s → Holds k old fs (t ∷ ts)
-  → advance xquery t s fs ≡ None
+    (ts : List Token) → Advances false old new t s → second_of ts ≡ s → Holds k old fs (t ∷ ts)
+    → advance xquery t s fs ≡ None
 moves_none k old new t s fs ts a e h =
     subst (λ z. advance z t s fs ≡ None) h.language (a fs ts e (h.tracks (t ∷ ts) all))
 
 same_frames : (r : Reader) (seg : List Token) (gs : List Frame) (o : Option (List Frame))
-  → o ≡ Some gs → Leads o r seg → Tracks r gs seg
+    → o ≡ Some gs → Leads o r seg → Tracks r gs seg
 same_frames r seg gs o e l =
     subst (λ z. Tracks r z seg) (same_Some _ _ (sym l.led ∙ e)) l.tracks
 
 pub moves_some : (k : ℕ) (old new : Reader) (t : Token) (s : Second) (fs : List Frame)
-  (ts : List Token) → Advances true old new t s → new.language ≡ old.language
-  → new.limit ≡ old.limit → second_of ts ≡ s → Holds k old fs (t ∷ ts)
-  → Held k new (advance xquery t s fs) ts
+    (ts : List Token) → Advances true old new t s → new.language ≡ old.language
+    → new.limit ≡ old.limit → second_of ts ≡ s → Holds k old fs (t ∷ ts)
+    → Held k new (advance xquery t s fs) ts
 moves_some k old new t s fs ts a l m e h =
     let x = a fs ts e (h.tracks (t ∷ ts) all) in
-    record { frames = x.frames; led = subst (λ z. advance z t s fs ≡ Some x.frames) h.language x.led;
-      holds = record { language = l ∙ h.language; limit = m ∙ h.limit; tracks =
-        λ seg b. same_frames new seg x.frames (advance old.language t s fs) x.led
-          (a fs seg (second_before b ∙ e) (h.tracks (t ∷ seg) (before_token t b))) } }
+    record {
+      frames = x.frames;
+      led = subst (λ z. advance z t s fs ≡ Some x.frames) h.language x.led;
+      holds = record {
+        language = l ∙ h.language;
+        limit = m ∙ h.limit;
+        tracks =
+            λ seg b. same_frames new seg x.frames (advance old.language t s fs) x.led
+            (a fs seg (second_before b ∙ e) (h.tracks (t ∷ seg) (before_token t b)));
+      };
+    }
 
 pub frames_none : (k : ℕ) (m : List Frame → Mode) (o : Option (List Frame)) (ts : List Token)
-  → o ≡ None → Turned k turn.Refused (to_mode m o) ts
+    → o ≡ None → Turned k turn.Refused (to_mode m o) ts
 frames_none k m o ts e = ap (to_mode m) e
 
 pub frames_body : (k : ℕ) (r : Reader) (o : Option (List Frame)) (ts : List Token) → Held k r o ts
-  → Goes k (stage.Body r) (to_mode machine.body o) ts
+    → Goes k (stage.Body r) (to_mode machine.body o) ts
 frames_body k r o ts h =
-    record { mode = machine.body h.frames; onto = ap (to_mode machine.body) h.led;
-      stands = record { frames = h.frames; mode = refl; holds = h.holds } }
+    record {
+      mode = machine.body h.frames;
+      onto = ap (to_mode machine.body) h.led;
+      stands = record { frames = h.frames; mode = refl; holds = h.holds };
+    }
 
 pub frames_value : (k : ℕ) (n : Typed) (r : Reader) (o : Option (List Frame)) (ts : List Token)
-  → Held k r o ts → Goes k (stage.Value n r) (to_mode (machine.value n) o) ts
+    → Held k r o ts → Goes k (stage.Value n r) (to_mode (machine.value n) o) ts
 frames_value k n r o ts h =
-    record { mode = machine.value n h.frames; onto = ap (to_mode (machine.value n)) h.led;
-      stands = record { frames = h.frames; mode = refl; holds = h.holds } }
+    record {
+      mode = machine.value n h.frames;
+      onto = ap (to_mode (machine.value n)) h.led;
+      stands = record { frames = h.frames; mode = refl; holds = h.holds };
+    }
 
 pub frames_inner : (k : ℕ) (q : Signature) (r : Reader) (o : Option (List Frame))
-  (ts : List Token) → Held k r o ts → Goes k (stage.Inner q r) (to_mode (machine.inner q) o) ts
+    (ts : List Token) → Held k r o ts → Goes k (stage.Inner q r) (to_mode (machine.inner q) o) ts
 frames_inner k q r o ts h =
-    record { mode = machine.inner q h.frames; onto = ap (to_mode (machine.inner q)) h.led;
-      stands = record { frames = h.frames; mode = refl; holds = h.holds } }
+    record {
+      mode = machine.inner q h.frames;
+      onto = ap (to_mode (machine.inner q)) h.led;
+      stands = record { frames = h.frames; mode = refl; holds = h.holds };
+    }
 
 -- the end of an expression
 abbrev pub Ended : Reading → Reader → Type 0
@@ -107,6 +121,7 @@ value_of k (Some w) v e = go (nat_le (raw_nest_of w) k) e
   where
     same : {v w : Raw} → Value v ≡ Value w → w ≡ v
     same e = cc
+
     go : (b : Bool) → Value v ≡ cond b (Value w) TooDeep → Some w ≡ Some v
     go true e = ap Some (same e)
     go false e = absurd cc
@@ -121,59 +136,75 @@ deep_of k None e = absurd cc
 deep_of k (Some w) e = go (nat_le (raw_nest_of w) k) refl e
   where
     go : (b : Bool) → nat_le (raw_nest_of w) k ≡ b → TooDeep ≡ cond b (Value w) TooDeep
-      → Deeper k (Some w)
+        → Deeper k (Some w)
     go true f e = absurd cc
     go false f e = record { value = w; is = refl; nests = leb-false _ _ f }
 
 ends_at : {x : Reading} {k : ℕ} {r : Reader} {fs : List Frame} {ts : List Token} → Ended x r
-  → Holds k r fs ts → Before [] ts → x ≡ within k (finish fs)
+    → Holds k r fs ts → Before [] ts → x ≡ within k (finish fs)
 ends_at {x = x} {fs = fs} e h b =
     subst (λ z. x ≡ within z (finish fs)) h.limit (e fs (h.tracks [] b))
 
 pub value_nothing : (k : ℕ) (r : Reader) (n : Typed) (fs : List Frame) (ts : List Token)
-  → Ended Nothing r → Holds k r fs (semicolon_key ∷ ts)
-  → to_end (option_map (λ w. declared.Variable n (Some w)) (finish fs)) ≡ machine.refused
+    → Ended Nothing r → Holds k r fs (semicolon_key ∷ ts)
+    → to_end (option_map (λ w. declared.Variable n (Some w)) (finish fs)) ≡ machine.refused
 value_nothing k r n fs ts e h =
     ap (λ z. to_end (option_map (λ w. declared.Variable n (Some w)) z))
-      (nothing_of k (finish fs) (ends_at e h (semicolon here)))
+    (nothing_of k (finish fs) (ends_at e h (semicolon here)))
 
 pub value_value : (k : ℕ) (r : Reader) (n : Typed) (v : Raw) (fs : List Frame) (ts : List Token)
-  → Ended (Value v) r → Holds k r fs (semicolon_key ∷ ts)
-  → to_end (option_map (λ w. declared.Variable n (Some w)) (finish fs))
+    → Ended (Value v) r → Holds k r fs (semicolon_key ∷ ts)
+    → to_end (option_map (λ w. declared.Variable n (Some w)) (finish fs))
     ≡ machine.ends (declared.Variable n (Some v))
 value_value k r n v fs ts e h =
     ap (λ z. to_end (option_map (λ w. declared.Variable n (Some w)) z))
-      (value_of k (finish fs) v (ends_at e h (semicolon here)))
+    (value_of k (finish fs) v (ends_at e h (semicolon here)))
 
 pub value_deep : (k : ℕ) (r : Reader) (n : Typed) (fs : List Frame) (ts : List Token)
-  → Ended TooDeep r → Holds k r fs (semicolon_key ∷ ts)
-  → IsDeep k (to_end (option_map (λ w. declared.Variable n (Some w)) (finish fs)))
+    → Ended TooDeep r → Holds k r fs (semicolon_key ∷ ts)
+    → IsDeep k (to_end (option_map (λ w. declared.Variable n (Some w)) (finish fs)))
 value_deep k r n fs ts e h =
     let d = deep_of k (finish fs) (ends_at e h (semicolon here)) in
     subst (λ z. IsDeep k (to_end (option_map (λ w. declared.Variable n (Some w)) z))) (sym d.is)
-      (ended d.nests)
+    (ended d.nests)
 
 pub inner_nothing : (k : ℕ) (r : Reader) (q : Signature) (fs : List Frame) (ts : List Token)
-  → Ended Nothing r → Holds k r fs (brace_key ∷ ts)
-  → to_closed (option_map (function_of q) (finish fs)) ≡ machine.refused
+    → Ended Nothing r → Holds k r fs (brace_key ∷ ts)
+    → to_closed (option_map (function_of q) (finish fs)) ≡ machine.refused
 inner_nothing k r q fs ts e h =
     ap (λ z. to_closed (option_map (function_of q) z))
-      (nothing_of k (finish fs) (ends_at e h (brace here)))
+    (nothing_of k (finish fs) (ends_at e h (brace here)))
 
 pub inner_value : (k : ℕ) (r : Reader) (q : Signature) (v : Raw) (fs : List Frame)
-  (ts : List Token) → Ended (Value v) r → Holds k r fs (brace_key ∷ ts)
-  → Goes k (stage.Closed (function_of q v)) (to_closed (option_map (function_of q) (finish fs))) ts
+    (ts : List Token) → Ended (Value v) r → Holds k r fs (brace_key ∷ ts)
+    → Goes k (stage.Closed (function_of q v)) (to_closed (option_map (function_of q) (finish fs))) ts
 inner_value k r q v fs ts e h =
-    record { mode = machine.closed (function_of q v); onto =
-      ap (λ z. to_closed (option_map (function_of q) z))
-        (value_of k (finish fs) v (ends_at e h (brace here))); stands = refl }
+    record {
+      mode = machine.closed (function_of q v);
+      onto =
+          ap (λ z. to_closed (option_map (function_of q) z))
+          (value_of k (finish fs) v (ends_at e h (brace here)));
+      stands = refl;
+    }
 
 pub inner_deep : (k : ℕ) (r : Reader) (q : Signature) (fs : List Frame) (ts : List Token)
-  → Ended TooDeep r → Holds k r fs (brace_key ∷ ts)
-  → IsDeep k (to_closed (option_map (function_of q) (finish fs)))
+    → Ended TooDeep r → Holds k r fs (brace_key ∷ ts)
+    → IsDeep k (to_closed (option_map (function_of q) (finish fs)))
 inner_deep k r q fs ts e h =
     let d = deep_of k (finish fs) (ends_at e h (brace here)) in
     subst (λ z. IsDeep k (to_closed (option_map (function_of q) z))) (sym d.is) (closed d.nests)
 
-pub ruleset expressions = (moves_none, moves_some, frames_none, frames_body, frames_value,
-    frames_inner, value_nothing, value_value, value_deep, inner_nothing, inner_value, inner_deep)
+pub ruleset expressions = (
+  moves_none,
+  moves_some,
+  frames_none,
+  frames_body,
+  frames_value,
+  frames_inner,
+  value_nothing,
+  value_value,
+  value_deep,
+  inner_nothing,
+  inner_value,
+  inner_deep,
+)

@@ -1,14 +1,12 @@
 -- Where the reading of a query stands.
-use Rattle.std.specs.Prelude.{◌≡◌, ◌<◌, ℕ, List, [], ◌∷◌, Option, Some, None}
+use Rattle.std.specs.Prelude.{◌≡◌, ◌<◌, ℕ, List, Option, Some, None}
 use Rattle.expr_terms.specs.declared.tokens.Token.{Token}
 use Rattle.expr_terms.specs.declared.tokens.Token.TheVariants as token
 use Rattle.expr_terms.specs.declared.keys.Key.TheVariants as key
-use Rattle.expr_terms.specs.declared.raws.Raw.{Raw}
-use Rattle.expr_terms.specs.declared.choices.Second.{Second}
 use Rattle.expr_terms.specs.declared.productions.Language.TheVariants.{Xquery as xquery}
 use Rattle.expr_terms.specs.Choices.{second_of}
 use Rattle.expr_terms.specs.Nest.{raw_nest_of}
-use Rattle.expr_grammar.specs.Machine.{Frame, advance}
+use Rattle.expr_grammar.specs.Machine.{Frame}
 use Rattle.expr_reader.specs.declared.running.Reader.{Reader}
 use Rattle.expr_reader.specs.Tracks.{Tracks}
 use Rattle.query_grammar.specs.declared.declared.Declared.{Declared}

@@ -117,9 +117,7 @@ pub fn inner_end(signature: Signature, reader: Reader) -> Result<Turn, AllocErro
         Reading::TooDeep => Ok(Turn::TooDeep),
         Reading::Value(raw) => {
             let Signature { name, params, kind } = signature;
-            Ok(Turn::Onto(Stage::Closed(Declared::Function(
-                name, params, kind, raw,
-            ))))
+            Ok(Turn::Onto(Stage::Closed(Declared::Function(name, params, kind, raw))))
         }
     }
 }

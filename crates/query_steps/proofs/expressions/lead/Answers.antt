@@ -1,22 +1,18 @@
-use Rattle.std.proofs.Common.{◌≡◌, ◌∷◌, ℕ, Bool, true, false, List, subst}
-use Rattle.expr_terms.specs.declared.tokens.Token.{Token}
-use Rattle.expr_terms.specs.Choices.{second_of}
-use Rattle.expr_grammar.specs.Machine.{Frame, advance}
-use Rattle.expr_reader.specs.Tracks.{Tracks, Led}
+use Rattle.std.proofs.Common.{true, false, subst}
 use Rattle.query_steps.proofs.ExpressionLemmas.{moves_none, moves_some, Advances}
 use Rattle.query_steps.proofs.expressions.lead.Goals as goal
 
 pub returns-then-branch : goal.returns-then-branch
 returns-then-branch c = λ k fs ts e h.
     let a : Advances true c.args.reader c.advance.new.self c.args.token.now c.args.second =
-        subst (λ b. Advances b c.args.reader c.advance.new.self c.args.token.now c.args.second)
-          c.if-branch.true c.in_ok-advance.ensures.led in
+    subst (λ b. Advances b c.args.reader c.advance.new.self c.args.token.now c.args.second)
+    c.if-branch.true c.in_ok-advance.ensures.led in
     moves_some k c.args.reader c.advance.new.self c.args.token.now c.args.second fs ts a
-      c.in_ok-advance.ensures.language c.in_ok-advance.ensures.limit e h
+    c.in_ok-advance.ensures.language c.in_ok-advance.ensures.limit e h
 
 pub returns-else-branch : goal.returns-else-branch
 returns-else-branch c = λ k fs ts e h.
     let a : Advances false c.args.reader c.advance.new.self c.args.token.now c.args.second =
-        subst (λ b. Advances b c.args.reader c.advance.new.self c.args.token.now c.args.second)
-          c.if-branch.false c.in_ok-advance.ensures.led in
+    subst (λ b. Advances b c.args.reader c.advance.new.self c.args.token.now c.args.second)
+    c.if-branch.false c.in_ok-advance.ensures.led in
     moves_none k c.args.reader c.advance.new.self c.args.token.now c.args.second fs ts a e h
