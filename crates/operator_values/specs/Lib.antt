@@ -1,4 +1,5 @@
 pub mod Comparisons
+pub mod NodeSets
 pub mod Nodes
 pub mod Numbers
 pub mod Operands

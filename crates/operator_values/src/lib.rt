@@ -11,11 +11,13 @@
 
 mod comparisons;
 mod node_operators;
+mod node_sets;
 mod numbers;
 mod operands;
 mod types;
 
 pub use comparisons::{general, single};
 pub use node_operators::{after, before, is};
+pub use node_sets::{except, intersect, union};
 pub use numbers::{arithmetic, negated, range, signed};
 pub use types::{cast_list, castable_list, instance, treated};

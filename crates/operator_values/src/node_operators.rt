@@ -1,4 +1,4 @@
-// Comparisons of nodes, and lists of nodes as sets.
+// Comparisons of nodes.
 ghost use Rattle.std.specs.Prelude.{◌≡◌};
 ghost use Rattle.std.specs.List.{list_all};
 ghost use Rattle.xt_atoms.specs.Casts.{Answers};
