@@ -9,4 +9,6 @@ mod made;
 #[cfg(test)]
 mod operands;
 #[cfg(test)]
+mod sets;
+#[cfg(test)]
 mod written;

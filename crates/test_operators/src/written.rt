@@ -61,16 +61,21 @@ fn put_number(rt: &(impl Abort + AllocGlobal), out: &mut String, number: i64) {
     drop(digits);
 }
 
-// the path of the node, with `@` for an attribute
+fn put_place(rt: &(impl Abort + AllocGlobal), out: &mut String, place: usize) {
+    let digits = format!(in rt.alloc(); "{place}").expect(rt, "memory");
+    put(rt, out, digits.as_str());
+    drop(digits);
+}
+
+// the path of the node, with `@` and its place for an attribute
 fn put_node(rt: &(impl Abort + AllocGlobal), out: &mut String, node: &Node) {
-    put(rt, out, "n:/");
-    for number in node.path() {
-        let digits = format!(in rt.alloc(); "{number}").expect(rt, "memory");
-        put(rt, out, digits.as_str());
-        drop(digits);
+    put(rt, out, if node.number() == 1 { "n:/" } else { "o:/" });
+    for place in node.path() {
+        put_place(rt, out, *place);
     }
-    if node.attribute_place().is_some() {
+    if let Some(place) = node.attribute_place() {
         put(rt, out, "@");
+        put_place(rt, out, place);
     }
 }
 
@@ -151,6 +156,9 @@ fn both(alloc: Global, word: &str, a: &ItemList, b: &ItemList) -> Result<ItemLis
         "<<" => operators::before(alloc, a, b),
         ">>" => operators::after(alloc, a, b),
         "to" => range_of(alloc, a, b),
+        "union" => operators::union(alloc, a, b),
+        "intersect" => operators::intersect(alloc, a, b),
+        "except" => operators::except(alloc, a, b),
         _ => operators::arithmetic(alloc, arith_op(word), a, b),
     }
 }
