@@ -23,7 +23,7 @@ use Rattle.raw_tokens.specs.Stands.{is_kept, chain_stands, stands_within, placed
 use Rattle.raw_tokens.specs.Stands.{stands_at}
 use Rattle.raw_tokens.proofs.Places.{same, Passing, passing_is}
 use Rattle.raw_tokens.proofs.Built.{never, false_of, is_the_conditional, handed_on, kept}
-use Rattle.raw_tokens.proofs.Parts.{values, Good, AllGood, parts_derive}
+use Rattle.raw_tokens.proofs.Parts.{values, Good, AllGood, parts_derive, longest_body}
 use Rattle.raw_tokens.proofs.Chains.{chain_derives}
 
 module _ (l : Language) where
@@ -70,7 +70,7 @@ module _ (l : Language) where
           } in
           subst (λ w. Derives l n (seq_tokens (body p) (inner.printed ∷ []) rest) w rest)
           (handed_on p v h.1)
-          (by p i.0 h.0 (parts_derive l (body p) (inner ∷ []) rest (good, tt) i.1))
+          (by p i.0 h.0 (parts_derive l (body p) (inner ∷ []) rest (longest_body p) (good, tt) i.1))
       go good nowhere h e = never e
 
   -- a node where it is a form of the nonterminal
@@ -90,7 +90,7 @@ module _ (l : Language) where
           let i = and_parts _ _ h.1 in
           rw b (subst (λ w. Derives l (head p) (seq_tokens (body p) (prints ps) rest) w rest)
           (kept p ps b (false_of h.0) i.0)
-          (by p (and_parts _ _ e).0 refl (parts_derive l (body p) ps rest g i.1)))
+          (by p (and_parts _ _ e).0 refl (parts_derive l (body p) ps rest (longest_body p) g i.1)))
 
   leaf_good : (t : Token) → Good l (placed_step l (Leaf t))
   leaf_good t = within_derives deep (leaf t) (λ rest. rest) (λ rest. false)
@@ -119,7 +119,7 @@ module _ (l : Language) where
       (prints ps)) (form_stands l p ps) (way n f)) (sym (outs-Node p (values ps)))
       (node_ways p ps g n))
 
-  placed-roll : (x : Raw-F Raw) → placed_of l (roll-Raw x)
+  pub placed-roll : (x : Raw-F Raw) → placed_of l (roll-Raw x)
       ≡ placed_step l (map-Raw Raw Placed (placed_of l) x)
   unfolding placed_of
   placed-roll x = fold-roll-Raw _ _ x
@@ -142,7 +142,7 @@ module _ (l : Language) where
       (subst (λ z. Good l (placed_step l (map-Raw Raw Placed (placed_of l) z))) is
       (layer_good y)))
 
-printed-roll : (x : Raw-F Raw) → printed_of (roll-Raw x)
+pub printed-roll : (x : Raw-F Raw) → printed_of (roll-Raw x)
     ≡ printed_step (map-Raw Raw Printed printed_of x)
 unfolding printed_of
 printed-roll x = fold-roll-Raw _ _ x

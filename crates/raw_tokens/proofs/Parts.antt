@@ -3,7 +3,11 @@ use Rattle.std.proofs.Common.{◌≡◌, Bool, true, false, cond, ◌&&◌, not,
 use Rattle.std.proofs.Common.{◌∙◌, ap, subst}
 use Rattle.std.proofs.lemmas.Bool.{eq-eqb, and_parts}
 use Rattle.expr_terms.specs.Keys.{code}
-use Rattle.expr_terms.specs.Productions.{fits, keeps}
+use Rattle.expr_terms.specs.declared.productions.Level.TheVariants as level
+use Rattle.expr_terms.specs.declared.productions.Nonterminal.TheVariants as place
+use Rattle.expr_terms.specs.declared.productions.Production.{Production}
+use Rattle.expr_terms.specs.declared.productions.Production.TheVariants as production
+use Rattle.expr_terms.specs.Productions.{body, below, repeats, fits, keeps}
 use Rattle.expr_terms.specs.Raws.{keep}
 use Rattle.expr_terms.specs.declared.tokens.Token.{Token}
 use Rattle.expr_terms.specs.declared.productions.Class.{Class}
@@ -26,10 +30,33 @@ use Rattle.raw_tokens.specs.Tokens.{all_tokens, front, behind, seq_tokens}
 use Rattle.raw_tokens.specs.Stands.{Placed, prints, fits_leaf, first_fits}
 use Rattle.raw_tokens.specs.Stands.{front_placed, behind_placed, all_stand}
 use Rattle.raw_tokens.specs.Stands.{seq_stands}
+use Rattle.raw_tokens.proofs.Begins.{is_longest, begins_so}
 use Rattle.raw_tokens.proofs.Built.{never, false_of}
 
 abbrev pub values : List Placed → List Raw
 values ps = raws (prints ps)
+
+-- what must not be left out is one of the two
+abbrev all_longest : List Symbol → Bool
+all_longest [] = true
+all_longest (longest n ∷ ss) = is_longest n && all_longest ss
+all_longest (_ ∷ ss) = all_longest ss
+
+pub longest_body : (p : Production) → all_longest (body p) ≡ true
+longest_body (production.Chain l) = go (repeats l)
+  where
+    go : (b : Bool) → all_longest (one (below l) ∷ cond b (many (place.Tail l)) (maybe (place.Tail l)) ∷ [])
+        ≡ true
+    go true = refl
+    go false = refl
+longest_body (production.Operated level.Instances) = refl
+longest_body (production.Operated level.Treats) = refl
+longest_body (production.Operated level.Castables) = refl
+longest_body (production.Operated level.Casts) = refl
+longest_body (production.Operated level.Ors) = refl
+longest_body (production.Operated _) = refl
+longest_body production.Top = refl
+longest_body _ = refl
 
 module _ (l : Language) where
   -- its tokens derive it wherever it stands
@@ -160,42 +187,42 @@ module _ (l : Language) where
 
   -- .. and must not where the next token could begin it
   longest_derives : (n : Nonterminal) (ss : List Symbol) (ps : List Placed) (rest : List Token)
-      → ((qs : List Placed) → AllGood l qs → seq_stands ss qs rest ≡ true
+      → is_longest n ≡ true → ((qs : List Placed) → AllGood l qs → seq_stands ss qs rest ≡ true
       → Seq l ss (seq_tokens ss (prints qs) rest) (values qs) rest)
       → AllGood l ps → seq_stands (longest n ∷ ss) ps rest ≡ true
       → Seq l (longest n ∷ ss) (seq_tokens (longest n ∷ ss) (prints ps) rest) (values ps) rest
-  longest_derives n ss [] rest more g e =
+  longest_derives n ss [] rest is more g e =
       let h = and_parts _ _ e in bare (false_of h.0) (more [] tt h.1)
-  longest_derives n ss (p ∷ ps) rest more g e = go (leads n (out-Raw p.printed.raw)) e
+  longest_derives n ss (p ∷ ps) rest is more g e = go (leads n (out-Raw p.printed.raw)) e
     where
       go : (b : Bool)
-          → cond b (next_begins n (p.printed.tokens n (seq_tokens ss (prints ps) rest))
-          && (p.stands n (seq_tokens ss (prints ps) rest) && seq_stands ss ps rest))
+          → cond b (p.stands n (seq_tokens ss (prints ps) rest) && seq_stands ss ps rest)
           (not (next_begins n (seq_tokens ss (prints (p ∷ ps)) rest))
           && seq_stands ss (p ∷ ps) rest) ≡ true
           → Seq l (longest n ∷ ss) (cond b (p.printed.tokens n (seq_tokens ss (prints ps) rest))
           (seq_tokens ss (prints (p ∷ ps)) rest)) (values (p ∷ ps)) rest
       go true e =
           let h = and_parts _ _ e in
-          let i = and_parts _ _ h.1 in
-          given h.0 (g.0 n _ i.0) (more ps g.1 i.1)
+          let d = g.0 n _ h.0 in
+          given (begins_so n is d) d (more ps g.1 h.1)
       go false e = let h = and_parts _ _ e in bare (false_of h.0) (more (p ∷ ps) g h.1)
 
-  pub parts_derive : (ss : List Symbol) (ps : List Placed) (rest : List Token) → AllGood l ps
-      → seq_stands ss ps rest ≡ true
+  pub parts_derive : (ss : List Symbol) (ps : List Placed) (rest : List Token)
+      → all_longest ss ≡ true → AllGood l ps → seq_stands ss ps rest ≡ true
       → Seq l ss (seq_tokens ss (prints ps) rest) (values ps) rest
-  parts_derive [] [] rest g e = end
-  parts_derive [] (p ∷ ps) rest g e = never e
-  parts_derive (tok c ∷ ss) ps rest g e =
-      tok_derives c ss ps rest (λ qs h f. parts_derive ss qs rest h f) g e
-  parts_derive (one n ∷ ss) [] rest g e = never e
-  parts_derive (one n ∷ ss) (p ∷ ps) rest g e =
-      let h = and_parts _ _ e in next (g.0 n _ h.0) (parts_derive ss ps rest g.1 h.1)
-  parts_derive (maybe n ∷ ss) ps rest g e =
-      maybe_derives n ss ps rest (λ qs h f. parts_derive ss qs rest h f) g e
-  parts_derive (many n ∷ ss) ps rest g e =
+  parts_derive [] [] rest is g e = end
+  parts_derive [] (p ∷ ps) rest is g e = never e
+  parts_derive (tok c ∷ ss) ps rest is g e =
+      tok_derives c ss ps rest (λ qs h f. parts_derive ss qs rest is h f) g e
+  parts_derive (one n ∷ ss) [] rest is g e = never e
+  parts_derive (one n ∷ ss) (p ∷ ps) rest is g e =
+      let h = and_parts _ _ e in next (g.0 n _ h.0) (parts_derive ss ps rest is g.1 h.1)
+  parts_derive (maybe n ∷ ss) ps rest is g e =
+      maybe_derives n ss ps rest (λ qs h f. parts_derive ss qs rest is h f) g e
+  parts_derive (many n ∷ ss) ps rest is g e =
       let h = and_parts _ _ e in
       rw (front_prints n ps, behind_prints n ps) (many_derive n ps g h.0
-      (parts_derive ss (behind_placed n ps) rest (all_behind n ps g) h.1))
-  parts_derive (longest n ∷ ss) ps rest g e =
-      longest_derives n ss ps rest (λ qs h f. parts_derive ss qs rest h f) g e
+      (parts_derive ss (behind_placed n ps) rest is (all_behind n ps g) h.1))
+  parts_derive (longest n ∷ ss) ps rest is g e =
+      let h = and_parts _ _ is in
+      longest_derives n ss ps rest h.0 (λ qs i f. parts_derive ss qs rest h.1 i f) g e

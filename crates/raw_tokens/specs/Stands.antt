@@ -1,6 +1,6 @@
 -- Whether a raw value is well formed at a nonterminal, before the tokens that follow: each part
 -- stands where the body of its production wants it.
-use Rattle.std.specs.Prelude.{ℕ, zero, suc, Bool, true, false, ◌&&◌, not, if◌then◌else◌}
+use Rattle.std.specs.Prelude.{ℕ, zero, suc, Bool, true, false, ◌&&◌, ◌||◌, not, if◌then◌else◌}
 use Rattle.std.specs.Prelude.{List, [], ◌∷◌, map, is_some}
 use Rattle.expr_terms.specs.Productions.{body, keeps, passes, fits, speaks}
 use Rattle.expr_terms.specs.Raws.{is_parens, is_otherwise, is_conditional, only_parens}
@@ -24,7 +24,7 @@ use Rattle.expr_terms.specs.declared.raws.Raw.TheFolds.{fold-Raw}
 use Rattle.expr_terms.specs.declared.raws.Raw.TheOpen.{Raw-F, Leaf, Node}
 use Rattle.expr_grammar.specs.Grammar.{next_begins}
 use Rattle.raw_tokens.specs.Places.{Way, form, through, nowhere, way, leads}
-use Rattle.raw_tokens.specs.Tokens.{Printed, raws, others, first_tokens, all_tokens, is_next}
+use Rattle.raw_tokens.specs.Tokens.{Printed, raws, others, all_tokens, is_next}
 use Rattle.raw_tokens.specs.Tokens.{seq_tokens, arm_tokens}
 use Rattle.raw_tokens.specs.Tokens.{form_tokens, tokens_within, deep, printed_step}
 
@@ -90,9 +90,8 @@ seq_stands (many n ∷ ss) ps rest =
     && seq_stands ss (behind_placed n ps) rest
 seq_stands (longest n ∷ ss) ps rest =
     if is_next n (prints ps)
-    then next_begins n (first_tokens n (prints ps) (seq_tokens ss (prints (others ps)) rest))
-    && (first_stands n ps (seq_tokens ss (prints (others ps)) rest)
-    && seq_stands ss (others ps) rest)
+    then first_stands n ps (seq_tokens ss (prints (others ps)) rest)
+    && seq_stands ss (others ps) rest
     else not (next_begins n (seq_tokens ss (prints ps) rest)) && seq_stands ss ps rest
 
 -- an arm and its test
@@ -168,3 +167,7 @@ is_expr l v = stands_at l place.Whole v []
 -- .. and as a sequence type
 abbrev pub is_type : Language → Raw → Bool
 is_type l v = stands_at l place.WholeType v []
+
+-- whether the tokens would go on with a `/` that stands alone, or with a type that bears no mark
+abbrev pub goes_on : List Token → Bool
+goes_on ts = next_begins place.AfterRoot ts || next_begins place.Occurrence ts
