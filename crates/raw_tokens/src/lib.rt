@@ -5,12 +5,13 @@
 //! nonterminal. The laws say that the tokens of such a value spell it.
 #![tactic(auto)]
 
-ghost use Rattle.std.specs.Prelude.{◌≡◌, List, ◌++◌, true, false, []};
+ghost use Rattle.std.specs.Prelude.{◌≡◌, List, ◌++◌, Some, true, false, []};
 ghost use Rattle.expr_terms.specs.declared.tokens.Token.{Token};
 ghost use Rattle.expr_terms.specs.declared.productions.Language.{Language};
 ghost use Rattle.expr_terms.specs.declared.productions.Nonterminal.{Nonterminal};
 ghost use Rattle.expr_terms.specs.declared.raws.Raw.{Raw};
 ghost use Rattle.expr_grammar.specs.Grammar.{Derives, Spells, SpellsType};
+ghost use Rattle.expr_grammar.specs.Machine.{read_whole};
 ghost use Rattle.raw_tokens.specs.Tokens.{tokens_at, tokens_of, type_tokens_of};
 ghost use Rattle.raw_tokens.specs.Stands.{stands_at, is_expr, is_type, goes_on};
 
@@ -39,6 +40,11 @@ pub fn tokens_end()
 /// The tokens of a well-formed expression spell it.
 pub fn tokens_spell()
     ensures { (l : Language) (v : Raw) → is_expr l v ≡ true → Spells l (tokens_of v) v }
+{}
+
+/// They are read back as the expression.
+pub fn tokens_are_read_back()
+    ensures { (l : Language) (v : Raw) → is_expr l v ≡ true → read_whole l (tokens_of v) ≡ Some v }
 {}
 
 /// The tokens of a well-formed sequence type spell it.
