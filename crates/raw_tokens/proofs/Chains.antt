@@ -27,7 +27,8 @@ chain vs = node production.Conditional vs
 abbrev last : List Raw → Raw
 last vs = node production.Otherwise vs
 
-joins : (test arm : Raw) (us : List Raw) → in_chain test arm (last us) ≡ chain (us ++ arm ∷ test ∷ [])
+joins : (test arm : Raw) (us : List Raw)
+    → in_chain test arm (last us) ≡ chain (us ++ arm ∷ test ∷ [])
 joins test arm us = ap (λ f. chain (as_else (last us) f ++ arm ∷ test ∷ []))
     (outs-Node production.Otherwise us)
 

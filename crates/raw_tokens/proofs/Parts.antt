@@ -45,7 +45,8 @@ all_longest (_ ∷ ss) = all_longest ss
 pub longest_body : (p : Production) → all_longest (body p) ≡ true
 longest_body (production.Chain l) = go (repeats l)
   where
-    go : (b : Bool) → all_longest (one (below l) ∷ cond b (many (place.Tail l)) (maybe (place.Tail l)) ∷ [])
+    go : (b : Bool)
+        → all_longest (one (below l) ∷ cond b (many (place.Tail l)) (maybe (place.Tail l)) ∷ [])
         ≡ true
     go true = refl
     go false = refl

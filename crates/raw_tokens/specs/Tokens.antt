@@ -108,7 +108,8 @@ chain_tokens (p ∷ ps) rest = arms_tokens ps (p.tokens place.Single rest)
 
 -- .. of a production with its parts
 abbrev pub form_tokens : Production → List Printed → List Token → List Token
-form_tokens p ps rest = if is_conditional p then chain_tokens ps rest else seq_tokens (body p) ps rest
+form_tokens p ps rest =
+    if is_conditional p then chain_tokens ps rest else seq_tokens (body p) ps rest
 
 abbrev pub way_tokens : Raw → (Nonterminal → List Token → List Token)
     → (List Token → List Token) → List Token → Way → List Token

@@ -71,7 +71,8 @@ spaced_first {P = P} (c ∷ cs) f s d less e = let same : c ≡ d = cc in subst 
 
 second_digit : (c d : ℕ) → is_double c d ≡ true → is_digit d ≡ false
 unfolding is_double is_digit
-second_digit c d h = false_from_ne_true (is_digit d) (λ e. no h (seconds is_digit c d doubles refl e))
+second_digit c d h =
+    false_from_ne_true (is_digit d) (λ e. no h (seconds is_digit c d doubles refl e))
 
 no_open : (c d : ℕ) → is_double c d ≡ true → c ≡ 40 → d ≡ 58 → ⊥
 unfolding is_double

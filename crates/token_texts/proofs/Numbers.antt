@@ -1,5 +1,6 @@
 -- Digits are read back as their number.
-use Rattle.std.proofs.Common.{◌≡◌, ℕ, ◌+◌, ◌-◌, ◌*◌, ◌^◌, ◌<◌, ◌≤◌, pos, List, [], ◌∷◌, ◌++◌, length}
+use Rattle.std.proofs.Common.{◌≡◌, ℕ, ◌+◌, ◌-◌, ◌*◌, ◌^◌, ◌<◌, ◌≤◌, pos}
+use Rattle.std.proofs.Common.{List, [], ◌∷◌, ◌++◌, length}
 use Rattle.std.proofs.Common.{true, false, Some, refl, ap, arith}
 use Rattle.std.proofs.Common.{decimal, nat_le}
 use Rattle.std.proofs.lemmas.Bool.{and_parts, leb-true}

@@ -39,7 +39,12 @@ pub record Front (ts : List ℕ) : Type 0 where
 pub name_front : (p n rest : List ℕ) → is_named p n ≡ true → Front (name_text p n ++ rest)
 name_front [] n rest h =
     let a = name_parts n h in
-    record { first = a.first; more = a.others ++ rest; is = ap (λ x. x ++ rest) a.is; starts = a.starts }
+    record {
+      first = a.first;
+      more = a.others ++ rest;
+      is = ap (λ x. x ++ rest) a.is;
+      starts = a.starts;
+    }
 name_front (c ∷ cs) n rest h =
     let a = name_parts (c ∷ cs) (and_parts (is_ncname_text (c ∷ cs)) (is_ncname_text n) h).0 in
     record {

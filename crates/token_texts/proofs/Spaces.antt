@@ -122,7 +122,8 @@ first_apart k _ rest (double {c = c} {d = d} h) = double_apart c d h
 
 gap_of : (gap here : List ℕ) → list_all is_space gap ≡ true → Gap false (gap ++ here) false here
 gap_of [] here a = none
-gap_of (c ∷ gap) here a = let parts = and_parts (is_space c) _ a in space parts.0 (gap_of gap here parts.1)
+gap_of (c ∷ gap) here a =
+    let parts = and_parts (is_space c) _ a in space parts.0 (gap_of gap here parts.1)
 
 size_of : (xs ys : List ℕ) → size (xs ++ ys) ≡ size xs + size ys
 unfolding size

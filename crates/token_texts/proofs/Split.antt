@@ -15,12 +15,14 @@ use Rattle.expr_terms.specs.declared.tokens.Token.{Token}
 use Rattle.expr_terms.specs.declared.tokens.Token.TheVariants as token
 use Rattle.query_pieces.specs.declared.contexts.Quote.TheVariants.{Double as double}
 use Rattle.query_pieces.specs.declared.contexts.Context.{Context}
-use Rattle.query_pieces.specs.declared.contexts.Context.TheVariants.{Enclosed as enclosed, Tag as tag}
+use Rattle.query_pieces.specs.declared.contexts.Context.TheVariants.{Enclosed as enclosed}
+use Rattle.query_pieces.specs.declared.contexts.Context.TheVariants.{Tag as tag}
 use Rattle.query_pieces.specs.declared.contexts.Context.TheVariants.{Attribute as attribute}
 use Rattle.query_pieces.specs.declared.contexts.Context.TheVariants.{Content as content}
 use Rattle.query_pieces.specs.declared.contexts.Before.{Before}
 use Rattle.query_pieces.specs.declared.contexts.Before.TheVariants.{Integer as integer}
-use Rattle.query_pieces.specs.declared.contexts.Before.TheVariants.{Slash as slash_key, Other as other}
+use Rattle.query_pieces.specs.declared.contexts.Before.TheVariants.{Slash as slash_key}
+use Rattle.query_pieces.specs.declared.contexts.Before.TheVariants.{Other as other}
 use Rattle.query_pieces.specs.declared.contexts.Change.{Change}
 use Rattle.query_pieces.specs.Points.{Point, start, in_expression, changed, change_of, before_of}
 use Rattle.query_pieces.specs.Fronts.{begins, eaten}
@@ -65,7 +67,8 @@ untouched other rest e = refl
 not_brace : (rest : List ℕ) → Spaced rest → eaten 123 rest ≡ None
 unfolding is_space
 not_brace [] s = refl
-not_brace (c ∷ cs) s = rw (false_from_ne_true (c == 123) (λ e. no (rw (eqb-true c 123 e) at s) refl)) refl
+not_brace (c ∷ cs) s =
+    rw (false_from_ne_true (c == 123) (λ e. no (rw (eqb-true c 123 e) at s) refl)) refl
 
 opens_not : (operand : Bool) (b : Before) (run rest : List ℕ) → begins starts_name rest ≡ false
     → opens operand b run rest ≡ false

@@ -8,8 +8,14 @@ use Rattle.expr_terms.specs.declared.tokens.Token.TheVariants as token
 use Rattle.query_pieces.specs.declared.contexts.Context.{Context}
 use Rattle.query_pieces.specs.declared.contexts.Change.{Change}
 use Rattle.query_pieces.specs.declared.contexts.Quote.TheVariants.{Double as double}
-use Rattle.query_pieces.specs.declared.contexts.Context.TheVariants.{Enclosed as enclosed, Tag as tag, Attribute as attribute, Content as content}
-use Rattle.query_pieces.specs.declared.contexts.Change.TheVariants.{Stays as stays, Enters as enters, Becomes as becomes, Leaves as leaves}
+use Rattle.query_pieces.specs.declared.contexts.Context.TheVariants.{Enclosed as enclosed}
+use Rattle.query_pieces.specs.declared.contexts.Context.TheVariants.{Tag as tag}
+use Rattle.query_pieces.specs.declared.contexts.Context.TheVariants.{Attribute as attribute}
+use Rattle.query_pieces.specs.declared.contexts.Context.TheVariants.{Content as content}
+use Rattle.query_pieces.specs.declared.contexts.Change.TheVariants.{Stays as stays}
+use Rattle.query_pieces.specs.declared.contexts.Change.TheVariants.{Enters as enters}
+use Rattle.query_pieces.specs.declared.contexts.Change.TheVariants.{Becomes as becomes}
+use Rattle.query_pieces.specs.declared.contexts.Change.TheVariants.{Leaves as leaves}
 use Rattle.query_pieces.specs.Points.{changed, in_expression, change_of}
 use Rattle.token_texts.specs.Spellings.{token_text, piece_text}
 

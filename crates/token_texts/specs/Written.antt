@@ -9,7 +9,9 @@ use Rattle.expr_terms.specs.declared.tokens.Token.TheVariants as token
 use Rattle.expr_tokens.specs.Words.{key_of_word}
 use Rattle.query_pieces.specs.declared.contexts.Context.{Context}
 use Rattle.query_pieces.specs.declared.contexts.Quote.TheVariants.{Double as double}
-use Rattle.query_pieces.specs.declared.contexts.Context.TheVariants.{Tag as tag, Attribute as attribute, Content as content}
+use Rattle.query_pieces.specs.declared.contexts.Context.TheVariants.{Tag as tag}
+use Rattle.query_pieces.specs.declared.contexts.Context.TheVariants.{Attribute as attribute}
+use Rattle.query_pieces.specs.declared.contexts.Context.TheVariants.{Content as content}
 use Rattle.query_pieces.specs.Points.{in_expression}
 use Rattle.query_pieces.specs.Elements.{is_content, is_value}
 use Rattle.token_texts.specs.Spellings.{is_doubled}

@@ -1,0 +1,92 @@
+-- Expressions as raw values: literals, lists, operators and filters.
+use Rattle.std.specs.Prelude.{pos, int_le, Bool, true, ◌&&◌, List, [], ◌∷◌}
+use Rattle.xt_syntax.specs.declared.exprs.Expr.{Expr}
+use Rattle.xt_syntax.specs.declared.exprs.Clause.TheOpen.{Int, Str, Context, Root, Comma}
+use Rattle.xt_syntax.specs.declared.exprs.Clause.TheOpen.{Or, And, General, Value, Is, Before}
+use Rattle.xt_syntax.specs.declared.exprs.Clause.TheOpen.{After, Range, Arith, Minus, Plus, Union}
+use Rattle.xt_syntax.specs.declared.exprs.Clause.TheOpen.{Intersect, Except, Filter}
+use Rattle.xt_syntax.specs.Layers.{Kinds, Steps, ExprLayer, expr_gives}
+use Rattle.expr_terms.specs.declared.keys.Key.TheVariants as key
+use Rattle.expr_terms.specs.declared.tokens.Token.TheVariants as token
+use Rattle.expr_terms.specs.declared.productions.Level.TheVariants as level
+use Rattle.expr_terms.specs.declared.productions.Production.{Production}
+use Rattle.expr_terms.specs.declared.productions.Production.TheVariants as production
+use Rattle.expr_terms.specs.declared.raws.Raw.{Raw}
+use Rattle.expr_terms.specs.declared.raws.Raw.TheVariants.{Leaf as leaf, Node as node}
+use Rattle.expr_raws.specs.Forms.{Form, primary, step, list, at, all_at, all_can}
+use Rattle.expr_raws.specs.Operators.{once, left, nothing, many, listed, signed, compare_key}
+use Rattle.expr_raws.specs.Operators.{value_key, arithmetic}
+
+abbrev pub leaf_form : Production → Bool → List Raw → Form
+leaf_form p can vs = record { raw = node p vs; place = primary; can = can }
+
+-- a[p]..
+abbrev pub filtered : Form → List Form → Form
+filtered a [] = nothing
+filtered a (p ∷ ps) = record {
+  raw = node production.FilterStep (at primary a ∷ all_at list (p ∷ ps));
+  place = step;
+  can = a.can && all_can (p ∷ ps);
+}
+
+abbrev pub forms : Kinds
+forms = record {
+  Clauses = Unit {0};
+  Exprs = Form;
+  Names = Unit {0};
+  Parts = Unit {0};
+  Arms = Unit {0};
+  Binds = Unit {0};
+  Attrs = Unit {0};
+  Flwors = Unit {0};
+  Orders = Unit {0};
+}
+
+-- `/` alone stands in parentheses
+abbrev pub form_step : ExprLayer forms → Form
+form_step (Int n) = leaf_form production.Number (int_le (pos 0) n) (leaf (token.Digits n) ∷ [])
+form_step (Str cs) = leaf_form production.Literal true (leaf (token.Quoted cs) ∷ [])
+form_step Context = leaf_form production.Context true []
+form_step Root = leaf_form production.Parens true (node production.Rooted [] ∷ [])
+form_step (Comma fs) = listed fs
+form_step (Or fs) = many level.Ors key.OrWord fs
+form_step (And fs) = many level.Ands key.AndWord fs
+form_step (General op a b) = once level.Compares (compare_key op) a b
+form_step (Value op a b) = once level.Compares (value_key op) a b
+form_step (Is a b) = once level.Compares key.IsWord a b
+form_step (Before a b) = once level.Compares key.Before a b
+form_step (After a b) = once level.Compares key.After a b
+form_step (Range a b) = once level.Ranges key.ToWord a b
+form_step (Arith op a b) = arithmetic op a b
+form_step (Minus a) = signed key.Minus a
+form_step (Plus a) = signed key.Plus a
+form_step (Union a b) = left level.Unions key.UnionWord a b
+form_step (Intersect a b) = left level.Crosses key.IntersectWord a b
+form_step (Except a b) = left level.Crosses key.ExceptWord a b
+form_step (Filter a ps) = filtered a ps
+form_step _ = nothing
+
+abbrev pub form_steps : Steps forms
+form_steps = record {
+  of_expr = form_step;
+  of_clause = λ x. tt;
+  of_name = λ x. tt;
+  of_part = λ x. tt;
+  of_arm = λ x. tt;
+  of_bind = λ x. tt;
+  of_attr = λ x. tt;
+  of_flwor = λ x. tt;
+  of_order = λ x. tt;
+}
+
+abbrev pub form_of : Expr → Form
+form_of = expr_gives forms form_steps
+
+-- the raw value of the expression
+abbrev pub raw_of : Expr → Raw
+raw_of e = (form_of e).raw
+
+-- whether it can be printed: all of its forms are among those above, integers have no sign, and
+-- lists other than `()`, `or` and `and` have two parts or more
+abbrev pub is_printable : Expr → Bool
+is_printable e = (form_of e).can
