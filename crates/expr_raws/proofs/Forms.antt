@@ -15,7 +15,8 @@ use Rattle.xt_syntax.specs.declared.exprs.Expr.TheVariants.{rolls-Is, rolls-Befo
 use Rattle.xt_syntax.specs.declared.exprs.Expr.TheVariants.{rolls-Range, rolls-Arith, rolls-Minus}
 use Rattle.xt_syntax.specs.declared.exprs.Expr.TheVariants.{rolls-Plus, rolls-Union}
 use Rattle.xt_syntax.specs.declared.exprs.Expr.TheVariants.{rolls-Intersect, rolls-Except}
-use Rattle.xt_syntax.specs.declared.exprs.Expr.TheVariants.{rolls-Filter}
+use Rattle.xt_syntax.specs.declared.exprs.Expr.TheVariants.{rolls-Filter, rolls-Var, rolls-Call}
+use Rattle.xt_syntax.specs.declared.exprs.Expr.TheVariants.{rolls-Step, rolls-Slash}
 use Rattle.xt_syntax.specs.declared.exprs.Arm.{Arm}
 use Rattle.xt_syntax.specs.declared.exprs.Clause.{Clause}
 use Rattle.xt_syntax.specs.declared.exprs.Order.{Order}
@@ -24,12 +25,14 @@ use Rattle.xt_syntax.specs.declared.exprs.Bind.{Bind}
 use Rattle.xt_syntax.specs.declared.exprs.NameSource.{NameSource}
 use Rattle.xt_syntax.specs.declared.exprs.DirectAttr.{DirectAttr}
 use Rattle.xt_syntax.specs.declared.exprs.Part.{Part}
+use Rattle.xt_syntax.specs.declared.prefixes.Prefixes.{Prefixes}
 use Rattle.xt_syntax.specs.declared.exprs.Clause.TheViews.{roll-Expr}
 use Rattle.xt_syntax.specs.declared.exprs.Clause.TheFolds.{fold-roll-Expr, map-Expr, ind-Expr}
 use Rattle.xt_syntax.specs.declared.exprs.Clause.TheOpen.{Expr-F, Int, Str, Context, Root, Comma}
 use Rattle.xt_syntax.specs.declared.exprs.Clause.TheOpen.{Or, And, General, Value, Is, Before}
 use Rattle.xt_syntax.specs.declared.exprs.Clause.TheOpen.{After, Range, Arith, Minus, Plus, Union}
 use Rattle.xt_syntax.specs.declared.exprs.Clause.TheOpen.{Intersect, Except, Filter}
+use Rattle.xt_syntax.specs.declared.exprs.Clause.TheOpen.{Var, Call, Step, Slash}
 use Rattle.xt_syntax.specs.Layers.{Kinds, ExprLayer, clause_gives, name_gives, part_gives}
 use Rattle.xt_syntax.specs.Layers.{arm_gives, bind_gives, attr_gives, flwor_gives, order_gives}
 use Rattle.expr_terms.specs.declared.keys.Key.{Key}
@@ -52,6 +55,17 @@ use Rattle.expr_raws.specs.Forms.{Form, below, single, list, primary, signs, at,
 use Rattle.expr_raws.specs.Operators.{key_leaf, tail, many, listed, signed, compare_key, value_key}
 use Rattle.expr_raws.specs.Operators.{arithmetic, once, left}
 use Rattle.expr_raws.specs.Raws.{forms, form_step, form_steps, form_of, filtered}
+use Rattle.xt_names.specs.declared.names.ExprName.{ExprName}
+use Rattle.xt_types.specs.declared.axes.Axis.{Axis}
+use Rattle.xt_types.specs.declared.node_tests.Test.{Test}
+use Rattle.std.proofs.Common.{Option, Some, None, is_some, not}
+use Rattle.xpath_lex.proofs.CharacterFacts.{not_true}
+use Rattle.expr_names.specs.Types.{type_named, call_type}
+use Rattle.expr_terms.specs.declared.tokens.Token.{Token}
+use Rattle.expr_raws.specs.Names.{name_token}
+use Rattle.expr_raws.specs.Paths.{with_token, call_with, test_form, stepped, slashed}
+use Rattle.expr_raws.proofs.Paths.{variable_means, name_found, test_means, axis_step_means}
+use Rattle.expr_raws.proofs.Paths.{slashed_means, call_none_means, call_means}
 use Rattle.expr_raws.proofs.Values.{value_leaf, value_node, parens_mean}
 use Rattle.expr_raws.proofs.Values.{at_means, Plain, tail_means, Leftly}
 use Rattle.expr_raws.proofs.Values.{chain_means, once_means, left_means}
@@ -79,37 +93,37 @@ plain P = map-Expr (pairs P).Clauses (pairs P).Exprs (pairs P).Names (pairs P).P
     (λ p. p.0) (λ p. p.0) (λ p. p.0) (λ p. p.0) (λ p. p.0) (λ p. p.0) (λ p. p.0) (λ p. p.0)
     (λ p. p.0)
 
-abbrev gives : Layer → Form
-gives x = form_step (map-Expr Clause Expr NameSource Part Arm Bind DirectAttr FlworOf Order
+abbrev gives : Prefixes → Layer → Form
+gives p x = form_step p (map-Expr Clause Expr NameSource Part Arm Bind DirectAttr FlworOf Order
     forms.Clauses forms.Exprs forms.Names forms.Parts forms.Arms forms.Binds forms.Attrs
-    forms.Flwors forms.Orders (clause_gives forms form_steps) form_of
-    (name_gives forms form_steps) (part_gives forms form_steps) (arm_gives forms form_steps)
-    (bind_gives forms form_steps) (attr_gives forms form_steps) (flwor_gives forms form_steps)
-    (order_gives forms form_steps) x)
+    forms.Flwors forms.Orders (clause_gives forms (form_steps p)) (form_of p)
+    (name_gives forms (form_steps p)) (part_gives forms (form_steps p)) (arm_gives forms (form_steps p))
+    (bind_gives forms (form_steps p)) (attr_gives forms (form_steps p)) (flwor_gives forms (form_steps p))
+    (order_gives forms (form_steps p)) x)
 
-rolled : (x : Layer) → form_of (roll-Expr x) ≡ gives x
-rolled x = fold-roll-Expr _ _ _ _ _ _ _ _ _ _ _ _ _ _ _ _ _ _ x
+rolled : (p : Prefixes) (x : Layer) → form_of p (roll-Expr x) ≡ gives p x
+rolled p x = fold-roll-Expr _ _ _ _ _ _ _ _ _ _ _ _ _ _ _ _ _ _ x
 
 module _ (s : Setting) where
   abbrev Means : Form → Expr → Type 0
   Means f e = f.can ≡ true → value_of s f.raw ≡ meant.Expr e
 
   abbrev P : Expr → Type 0
-  P e = Means (form_of e) e
+  P e = Means (form_of s.prefixes e) e
 
   abbrev bare : List ((e : Expr) × P e) → List Expr
   bare ys = map (λ y. y.0) ys
 
   abbrev their : List ((e : Expr) × P e) → List Form
-  their ys = map form_of (bare ys)
+  their ys = map (form_of s.prefixes) (bare ys)
 
   all_mean : (n : ℕ) (ys : List ((e : Expr) × P e)) → all_can (their ys) ≡ true
       → exprs_of (map (value_of s) (all_at n (their ys))) ≡ bare ys
   unfolding expr_of
   all_mean n [] c = refl
   all_mean n (y ∷ ys) c =
-      let h = and_parts (form_of y.0).can (all_can (their ys)) c in
-      ap₂ (λ e es. e ∷ es) (ap expr_of (at_means s n (form_of y.0) y.0 (y.1 h.0)))
+      let h = and_parts (form_of s.prefixes y.0).can (all_can (their ys)) c in
+      ap₂ (λ e es. e ∷ es) (ap expr_of (at_means s n (form_of s.prefixes y.0) y.0 (y.1 h.0)))
       (all_mean n ys h.1)
 
   all_tails : (l : Level) → Plain s l → (k : Key) (ys : List ((e : Expr) × P e))
@@ -118,8 +132,8 @@ module _ (s : Setting) where
   unfolding expr_of
   all_tails l plain k [] c = refl
   all_tails l plain k (y ∷ ys) c =
-      let h = and_parts (form_of y.0).can (all_can (their ys)) c in
-      ap₂ (λ e es. e ∷ es) (ap expr_of (tail_means s l plain k (form_of y.0) y.0 (y.1 h.0)))
+      let h = and_parts (form_of s.prefixes y.0).can (all_can (their ys)) c in
+      ap₂ (λ e es. e ∷ es) (ap expr_of (tail_means s l plain k (form_of s.prefixes y.0) y.0 (y.1 h.0)))
       (all_tails l plain k ys h.1)
 
   -- the levels
@@ -194,11 +208,11 @@ module _ (s : Setting) where
   ors_mean [] c = absurd (cc)
   ors_mean (y ∷ []) c = absurd (cc)
   ors_mean (y ∷ z ∷ ys) c =
-      let h = and_parts (form_of y.0).can (all_can (their (z ∷ ys))) c in
-      chain_means s level.Ors (at (below level.Ors) (form_of y.0)
+      let h = and_parts (form_of s.prefixes y.0).can (all_can (their (z ∷ ys))) c in
+      chain_means s level.Ors (at (below level.Ors) (form_of s.prefixes y.0)
       ∷ map (λ f. tail level.Ors key.OrWord f) (their (z ∷ ys)))
       ∙ ap₂ (λ e es. meant.Expr (expr.Or (e ∷ es)))
-      (ap expr_of (at_means s (below level.Ors) (form_of y.0) y.0 (y.1 h.0)))
+      (ap expr_of (at_means s (below level.Ors) (form_of s.prefixes y.0) y.0 (y.1 h.0)))
       (all_tails level.Ors plain_ors key.OrWord (z ∷ ys) h.1)
 
   ands_mean : (ys : List ((e : Expr) × P e))
@@ -207,51 +221,51 @@ module _ (s : Setting) where
   ands_mean [] c = absurd (cc)
   ands_mean (y ∷ []) c = absurd (cc)
   ands_mean (y ∷ z ∷ ys) c =
-      let h = and_parts (form_of y.0).can (all_can (their (z ∷ ys))) c in
-      chain_means s level.Ands (at (below level.Ands) (form_of y.0)
+      let h = and_parts (form_of s.prefixes y.0).can (all_can (their (z ∷ ys))) c in
+      chain_means s level.Ands (at (below level.Ands) (form_of s.prefixes y.0)
       ∷ map (λ f. tail level.Ands key.AndWord f) (their (z ∷ ys)))
       ∙ ap₂ (λ e es. meant.Expr (expr.And (e ∷ es)))
-      (ap expr_of (at_means s (below level.Ands) (form_of y.0) y.0 (y.1 h.0)))
+      (ap expr_of (at_means s (below level.Ands) (form_of s.prefixes y.0) y.0 (y.1 h.0)))
       (all_tails level.Ands plain_ands key.AndWord (z ∷ ys) h.1)
 
   filtered_means : (y : (e : Expr) × P e) (ys : List ((e : Expr) × P e))
-      → Means (filtered (form_of y.0) (their ys)) (expr.Filter y.0 (bare ys))
+      → Means (filtered (form_of s.prefixes y.0) (their ys)) (expr.Filter y.0 (bare ys))
   unfolding is_chain family_of value_in path_value expr_of
   filtered_means y [] c = absurd (cc)
   filtered_means y (z ∷ ys) c =
-      let h = and_parts (form_of y.0).can (all_can (their (z ∷ ys))) c in
+      let h = and_parts (form_of s.prefixes y.0).can (all_can (their (z ∷ ys))) c in
       value_node s production.FilterStep
-      (at primary (form_of y.0) ∷ all_at list (their (z ∷ ys)))
+      (at primary (form_of s.prefixes y.0) ∷ all_at list (their (z ∷ ys)))
       ∙ ap₂ (λ e es. meant.Expr (expr.Filter e es))
-      (ap expr_of (at_means s primary (form_of y.0) y.0 (y.1 h.0)))
+      (ap expr_of (at_means s primary (form_of s.prefixes y.0) y.0 (y.1 h.0)))
       (all_mean list (z ∷ ys) h.1)
 
-  minus_means : (y : (e : Expr) × P e) → Means (signed key.Minus (form_of y.0)) (expr.Minus y.0)
+  minus_means : (y : (e : Expr) × P e) → Means (signed key.Minus (form_of s.prefixes y.0)) (expr.Minus y.0)
   unfolding is_chain family_of value_in control_value operators.signed_by key_of key_in expr_or
   minus_means y c = value_node s production.Signed
-      (key_leaf key.Minus ∷ at signs (form_of y.0) ∷ [])
-      ∙ rw (value_leaf s (token.Key key.Minus), at_means s signs (form_of y.0) y.0 (y.1 c)) refl
+      (key_leaf key.Minus ∷ at signs (form_of s.prefixes y.0) ∷ [])
+      ∙ rw (value_leaf s (token.Key key.Minus), at_means s signs (form_of s.prefixes y.0) y.0 (y.1 c)) refl
 
-  plus_means : (y : (e : Expr) × P e) → Means (signed key.Plus (form_of y.0)) (expr.Plus y.0)
+  plus_means : (y : (e : Expr) × P e) → Means (signed key.Plus (form_of s.prefixes y.0)) (expr.Plus y.0)
   unfolding is_chain family_of value_in control_value operators.signed_by key_of key_in expr_or
   plus_means y c = value_node s production.Signed
-      (key_leaf key.Plus ∷ at signs (form_of y.0) ∷ [])
-      ∙ rw (value_leaf s (token.Key key.Plus), at_means s signs (form_of y.0) y.0 (y.1 c)) refl
+      (key_leaf key.Plus ∷ at signs (form_of s.prefixes y.0) ∷ [])
+      ∙ rw (value_leaf s (token.Key key.Plus), at_means s signs (form_of s.prefixes y.0) y.0 (y.1 c)) refl
 
   once_so : (l : Level) → Plain s l → Leftly s l → (k : Key) (y z : (e : Expr) × P e) (e : Expr)
       → operators.operated_by l k y.0 z.0 ≡ e
-      → Means (once l k (form_of y.0) (form_of z.0)) e
+      → Means (once l k (form_of s.prefixes y.0) (form_of s.prefixes z.0)) e
   once_so l plain leftly k y z e same c =
-      let h = and_parts (form_of y.0).can (form_of z.0).can c in
-      once_means s l plain leftly k (form_of y.0) (form_of z.0) y.0 z.0 (y.1 h.0) (z.1 h.1)
+      let h = and_parts (form_of s.prefixes y.0).can (form_of s.prefixes z.0).can c in
+      once_means s l plain leftly k (form_of s.prefixes y.0) (form_of s.prefixes z.0) y.0 z.0 (y.1 h.0) (z.1 h.1)
       ∙ ap (λ x. meant.Expr x) same
 
   left_so : (l : Level) → Plain s l → Leftly s l → (k : Key) (y z : (e : Expr) × P e) (e : Expr)
       → operators.operated_by l k y.0 z.0 ≡ e
-      → Means (left l k (form_of y.0) (form_of z.0)) e
+      → Means (left l k (form_of s.prefixes y.0) (form_of s.prefixes z.0)) e
   left_so l plain leftly k y z e same c =
-      let h = and_parts (form_of y.0).can (form_of z.0).can c in
-      left_means s l plain leftly k (form_of y.0) (form_of z.0) y.0 z.0 (y.1 h.0) (z.1 h.1)
+      let h = and_parts (form_of s.prefixes y.0).can (form_of s.prefixes z.0).can c in
+      left_means s l plain leftly k (form_of s.prefixes y.0) (form_of s.prefixes z.0) y.0 z.0 (y.1 h.0) (z.1 h.1)
       ∙ ap (λ x. meant.Expr x) same
 
   general_is : (op : CompareOp) (a b : Expr)
@@ -267,7 +281,7 @@ module _ (s : Setting) where
   value_is _ a b = refl
 
   arithmetic_means : (op : ArithOp) (y z : (e : Expr) × P e)
-      → Means (arithmetic op (form_of y.0) (form_of z.0)) (expr.Arith op y.0 z.0)
+      → Means (arithmetic op (form_of s.prefixes y.0) (form_of s.prefixes z.0)) (expr.Arith op y.0 z.0)
   unfolding operators.operated_by operators.combined
   arithmetic_means arith.Add y z = left_so level.Adds plain_adds left_adds key.Plus y z _ refl
   arithmetic_means arith.Sub y z = left_so level.Adds plain_adds left_adds key.Minus y z _ refl
@@ -279,38 +293,38 @@ module _ (s : Setting) where
       left_so level.Multiplies plain_multiplies left_multiplies key.ModWord y z _ refl
 
   is_means : (y z : (e : Expr) × P e)
-      → Means (once level.Compares key.IsWord (form_of y.0) (form_of z.0)) (expr.Is y.0 z.0)
+      → Means (once level.Compares key.IsWord (form_of s.prefixes y.0) (form_of s.prefixes z.0)) (expr.Is y.0 z.0)
   unfolding operators.operated_by operators.compared
   is_means y z = once_so level.Compares plain_compares left_compares key.IsWord y z _ refl
 
   before_means : (y z : (e : Expr) × P e)
-      → Means (once level.Compares key.Before (form_of y.0) (form_of z.0)) (expr.Before y.0 z.0)
+      → Means (once level.Compares key.Before (form_of s.prefixes y.0) (form_of s.prefixes z.0)) (expr.Before y.0 z.0)
   unfolding operators.operated_by operators.compared
   before_means y z = once_so level.Compares plain_compares left_compares key.Before y z _ refl
 
   after_means : (y z : (e : Expr) × P e)
-      → Means (once level.Compares key.After (form_of y.0) (form_of z.0)) (expr.After y.0 z.0)
+      → Means (once level.Compares key.After (form_of s.prefixes y.0) (form_of s.prefixes z.0)) (expr.After y.0 z.0)
   unfolding operators.operated_by operators.compared
   after_means y z = once_so level.Compares plain_compares left_compares key.After y z _ refl
 
   range_means : (y z : (e : Expr) × P e)
-      → Means (once level.Ranges key.ToWord (form_of y.0) (form_of z.0)) (expr.Range y.0 z.0)
+      → Means (once level.Ranges key.ToWord (form_of s.prefixes y.0) (form_of s.prefixes z.0)) (expr.Range y.0 z.0)
   unfolding operators.operated_by operators.combined
   range_means y z = once_so level.Ranges plain_ranges left_ranges key.ToWord y z _ refl
 
   union_means : (y z : (e : Expr) × P e)
-      → Means (left level.Unions key.UnionWord (form_of y.0) (form_of z.0)) (expr.Union y.0 z.0)
+      → Means (left level.Unions key.UnionWord (form_of s.prefixes y.0) (form_of s.prefixes z.0)) (expr.Union y.0 z.0)
   unfolding operators.operated_by operators.combined
   union_means y z = left_so level.Unions plain_unions left_unions key.UnionWord y z _ refl
 
   intersect_means : (y z : (e : Expr) × P e)
-      → Means (left level.Crosses key.IntersectWord (form_of y.0) (form_of z.0))
+      → Means (left level.Crosses key.IntersectWord (form_of s.prefixes y.0) (form_of s.prefixes z.0))
       (expr.Intersect y.0 z.0)
   unfolding operators.operated_by operators.combined
   intersect_means y z = left_so level.Crosses plain_crosses left_crosses key.IntersectWord y z _ refl
 
   except_means : (y z : (e : Expr) × P e)
-      → Means (left level.Crosses key.ExceptWord (form_of y.0) (form_of z.0))
+      → Means (left level.Crosses key.ExceptWord (form_of s.prefixes y.0) (form_of s.prefixes z.0))
       (expr.Except y.0 z.0)
   unfolding operators.operated_by operators.combined
   except_means y z = left_so level.Crosses plain_crosses left_crosses key.ExceptWord y z _ refl
@@ -335,7 +349,36 @@ module _ (s : Setting) where
   unfolding is_chain family_of value_in path_value
   root_means = value_node s production.Rooted []
 
-  one : (y : ExprLayer (pairs P)) → Means (gives (plain P y)) (roll-Expr (plain P y))
+  step_means : (on : Axis) (t : Test) (ys : List ((e : Expr) × P e))
+      → Means (stepped s.prefixes on t (their ys)) (expr.Step on t (bare ys))
+  step_means on t ys c =
+      let h = and_parts (test_form s.prefixes on t).can (all_can (their ys)) c in
+      axis_step_means s on t (test_form s.prefixes on t).raw (all_at list (their ys)) (bare ys)
+      (test_means s on t h.0) (all_mean list ys h.1)
+
+  slash_means : (y z : (e : Expr) × P e)
+      → Means (slashed (form_of s.prefixes y.0) (form_of s.prefixes z.0)) (expr.Slash y.0 z.0)
+  slash_means y z c =
+      let h = and_parts (form_of s.prefixes y.0).can (form_of s.prefixes z.0).can c in
+      slashed_means s (form_of s.prefixes y.0) (form_of s.prefixes z.0) y.0 z.0 (y.1 h.0)
+      (z.1 h.1)
+
+  called_means : (n : ExprName) (ys : List ((e : Expr) × P e)) (o : Option Token)
+      → name_token s.prefixes.bound s.prefixes.function_default n ≡ o
+      → Means (with_token o (call_with n (their ys))) (expr.Call n (bare ys))
+  called_means n ys None o c = absurd (cc)
+  called_means n [] (Some t) o c =
+      let h = and_parts (not (is_some (call_type (type_named n)))) (all_can (their [])) c in
+      call_none_means s n t (not_true h.0)
+      (name_found s.prefixes.bound s.prefixes.function_default n t o)
+  called_means n (y ∷ ys) (Some t) o c =
+      let h = and_parts (not (is_some (call_type (type_named n)))) (all_can (their (y ∷ ys))) c in
+      call_means s n t (at single (form_of s.prefixes y.0)) (all_at single (their ys))
+      (bare (y ∷ ys)) (not_true h.0)
+      (name_found s.prefixes.bound s.prefixes.function_default n t o)
+      (all_mean single (y ∷ ys) h.1)
+
+  one : (y : ExprLayer (pairs P)) → Means (gives s.prefixes (plain P y)) (roll-Expr (plain P y))
   one (Int n) c = int_means n ∙ ap (λ e. meant.Expr e) (sym (rolls-Int n))
   one (Str cs) c = str_means cs ∙ ap (λ e. meant.Expr e) (sym (rolls-Str cs))
   one Context c = context_means ∙ ap (λ e. meant.Expr e) (sym rolls-Context)
@@ -362,12 +405,18 @@ module _ (s : Setting) where
   one (Except y z) c = except_means y z c ∙ ap (λ e. meant.Expr e) (sym (rolls-Except y.0 z.0))
   one (Filter y ys) c =
       filtered_means y ys c ∙ ap (λ e. meant.Expr e) (sym (rolls-Filter y.0 (bare ys)))
+  one (Var n) c = variable_means s n c ∙ ap (λ e. meant.Expr e) (sym (rolls-Var n))
+  one (Call n ys) c =
+      called_means n ys _ refl c ∙ ap (λ e. meant.Expr e) (sym (rolls-Call n (bare ys)))
+  one (Step on t ys) c =
+      step_means on t ys c ∙ ap (λ e. meant.Expr e) (sym (rolls-Step on t (bare ys)))
+  one (Slash y z) c = slash_means y z c ∙ ap (λ e. meant.Expr e) (sym (rolls-Slash y.0 z.0))
   one _ c = absurd (cc)
 
   pub printable_means : (e : Expr) → P e
   printable_means = ind-Expr (λ _. Unit {0}) P (λ _. Unit {0}) (λ _. Unit {0}) (λ _. Unit {0})
       (λ _. Unit {0}) (λ _. Unit {0}) (λ _. Unit {0}) (λ _. Unit {0}) (λ x y is. tt)
-      (λ x y is. subst (λ z. Means (form_of (roll-Expr z)) (roll-Expr z)) is
-      (subst (λ f. Means f (roll-Expr (plain P y))) (sym (rolled (plain P y))) (one y)))
+      (λ x y is. subst (λ z. Means (form_of s.prefixes (roll-Expr z)) (roll-Expr z)) is
+      (subst (λ f. Means f (roll-Expr (plain P y))) (sym (rolled s.prefixes (plain P y))) (one y)))
       (λ x y is. tt) (λ x y is. tt) (λ x y is. tt) (λ x y is. tt) (λ x y is. tt) (λ x y is. tt)
       (λ x y is. tt)

@@ -99,7 +99,7 @@ module _ (s : Setting) where
   chain_on l e [] m = refl
   chain_on l e (n ∷ ms) m = chain_on l (operators.joined l e n) ms m
 
-  append_values : (us vs : List Raw)
+  pub append_values : (us vs : List Raw)
       → map (value_of s) (us ++ vs) ≡ map (value_of s) us ++ map (value_of s) vs
   append_values [] vs = refl
   append_values (u ∷ us) vs = ap (λ ms. value_of s u ∷ ms) (append_values us vs)

@@ -1,3 +1,5 @@
 pub mod Forms
 pub mod Operators
+pub mod Names
+pub mod Paths
 pub mod Raws

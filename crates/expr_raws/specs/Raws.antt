@@ -1,10 +1,12 @@
--- Expressions as raw values: literals, lists, operators and filters.
+-- Expressions as raw values: literals, variables, calls, paths, filters, operators and lists.
 use Rattle.std.specs.Prelude.{pos, int_le, Bool, true, ◌&&◌, List, [], ◌∷◌}
 use Rattle.xt_syntax.specs.declared.exprs.Expr.{Expr}
 use Rattle.xt_syntax.specs.declared.exprs.Clause.TheOpen.{Int, Str, Context, Root, Comma}
 use Rattle.xt_syntax.specs.declared.exprs.Clause.TheOpen.{Or, And, General, Value, Is, Before}
 use Rattle.xt_syntax.specs.declared.exprs.Clause.TheOpen.{After, Range, Arith, Minus, Plus, Union}
 use Rattle.xt_syntax.specs.declared.exprs.Clause.TheOpen.{Intersect, Except, Filter}
+use Rattle.xt_syntax.specs.declared.exprs.Clause.TheOpen.{Var, Call, Step, Slash}
+use Rattle.xt_syntax.specs.declared.prefixes.Prefixes.{Prefixes}
 use Rattle.xt_syntax.specs.Layers.{Kinds, Steps, ExprLayer, expr_gives}
 use Rattle.expr_terms.specs.declared.keys.Key.TheVariants as key
 use Rattle.expr_terms.specs.declared.tokens.Token.TheVariants as token
@@ -16,6 +18,7 @@ use Rattle.expr_terms.specs.declared.raws.Raw.TheVariants.{Leaf as leaf, Node as
 use Rattle.expr_raws.specs.Forms.{Form, primary, step, list, at, all_at, all_can}
 use Rattle.expr_raws.specs.Operators.{once, left, nothing, many, listed, signed, compare_key}
 use Rattle.expr_raws.specs.Operators.{value_key, arithmetic}
+use Rattle.expr_raws.specs.Paths.{variable, call, stepped, slashed}
 
 abbrev pub leaf_form : Production → Bool → List Raw → Form
 leaf_form p can vs = record { raw = node p vs; place = primary; can = can }
@@ -43,32 +46,36 @@ forms = record {
 }
 
 -- `/` alone stands in parentheses
-abbrev pub form_step : ExprLayer forms → Form
-form_step (Int n) = leaf_form production.Number (int_le (pos 0) n) (leaf (token.Digits n) ∷ [])
-form_step (Str cs) = leaf_form production.Literal true (leaf (token.Quoted cs) ∷ [])
-form_step Context = leaf_form production.Context true []
-form_step Root = leaf_form production.Parens true (node production.Rooted [] ∷ [])
-form_step (Comma fs) = listed fs
-form_step (Or fs) = many level.Ors key.OrWord fs
-form_step (And fs) = many level.Ands key.AndWord fs
-form_step (General op a b) = once level.Compares (compare_key op) a b
-form_step (Value op a b) = once level.Compares (value_key op) a b
-form_step (Is a b) = once level.Compares key.IsWord a b
-form_step (Before a b) = once level.Compares key.Before a b
-form_step (After a b) = once level.Compares key.After a b
-form_step (Range a b) = once level.Ranges key.ToWord a b
-form_step (Arith op a b) = arithmetic op a b
-form_step (Minus a) = signed key.Minus a
-form_step (Plus a) = signed key.Plus a
-form_step (Union a b) = left level.Unions key.UnionWord a b
-form_step (Intersect a b) = left level.Crosses key.IntersectWord a b
-form_step (Except a b) = left level.Crosses key.ExceptWord a b
-form_step (Filter a ps) = filtered a ps
-form_step _ = nothing
+abbrev pub form_step : Prefixes → ExprLayer forms → Form
+form_step p (Int n) = leaf_form production.Number (int_le (pos 0) n) (leaf (token.Digits n) ∷ [])
+form_step p (Str cs) = leaf_form production.Literal true (leaf (token.Quoted cs) ∷ [])
+form_step p Context = leaf_form production.Context true []
+form_step p Root = leaf_form production.Parens true (node production.Rooted [] ∷ [])
+form_step p (Comma fs) = listed fs
+form_step p (Or fs) = many level.Ors key.OrWord fs
+form_step p (And fs) = many level.Ands key.AndWord fs
+form_step p (General op a b) = once level.Compares (compare_key op) a b
+form_step p (Value op a b) = once level.Compares (value_key op) a b
+form_step p (Is a b) = once level.Compares key.IsWord a b
+form_step p (Before a b) = once level.Compares key.Before a b
+form_step p (After a b) = once level.Compares key.After a b
+form_step p (Range a b) = once level.Ranges key.ToWord a b
+form_step p (Arith op a b) = arithmetic op a b
+form_step p (Minus a) = signed key.Minus a
+form_step p (Plus a) = signed key.Plus a
+form_step p (Union a b) = left level.Unions key.UnionWord a b
+form_step p (Intersect a b) = left level.Crosses key.IntersectWord a b
+form_step p (Except a b) = left level.Crosses key.ExceptWord a b
+form_step p (Filter a fs) = filtered a fs
+form_step p (Var n) = variable p n
+form_step p (Call n fs) = call p n fs
+form_step p (Step on t fs) = stepped p on t fs
+form_step p (Slash a b) = slashed a b
+form_step p _ = nothing
 
-abbrev pub form_steps : Steps forms
-form_steps = record {
-  of_expr = form_step;
+abbrev pub form_steps : Prefixes → Steps forms
+form_steps p = record {
+  of_expr = form_step p;
   of_clause = λ x. tt;
   of_name = λ x. tt;
   of_part = λ x. tt;
@@ -79,14 +86,15 @@ form_steps = record {
   of_order = λ x. tt;
 }
 
-abbrev pub form_of : Expr → Form
-form_of = expr_gives forms form_steps
+abbrev pub form_of : Prefixes → Expr → Form
+form_of p = expr_gives forms (form_steps p)
 
--- the raw value of the expression
-abbrev pub raw_of : Expr → Raw
-raw_of e = (form_of e).raw
+-- the raw value of the expression under the prefixes
+abbrev pub raw_of : Prefixes → Expr → Raw
+raw_of p e = (form_of p e).raw
 
--- whether it can be printed: all of its forms are among those above, integers have no sign, and
--- lists other than `()`, `or` and `and` have two parts or more
-abbrev pub is_printable : Expr → Bool
-is_printable e = (form_of e).can
+-- Whether it can be printed: all of its forms are among those above, integers have no sign, lists
+-- other than `()`, `or` and `and` have two parts or more, filters have predicates, calls are of no
+-- atomic types, and each name has a prefix, or is as a name without one there.
+abbrev pub is_printable : Prefixes → Expr → Bool
+is_printable p e = (form_of p e).can

@@ -1,8 +1,8 @@
 //! Expressions as raw values, with parentheses only where the levels of operators need them
 //! (XPath 2.0, A.4). Definitions and a law alone.
 //!
-//! `specs/Raws` has the raw value of each expression whose forms are literals, lists, operators and
-//! filters, and says which of them can be printed. The law says that the raw
+//! `specs/Raws` has the raw value of each expression whose forms are literals, variables, calls,
+//! paths, filters, operators and lists, under prefixes, and says which of them can be printed. The law says that the raw
 //! value means the expression.
 #![tactic(auto)]
 
@@ -13,8 +13,9 @@ ghost use Rattle.expr_resolve.specs.declared.setting.Setting.{Setting};
 ghost use Rattle.expr_resolve.specs.Folds.{value_of};
 ghost use Rattle.expr_raws.specs.Raws.{raw_of, is_printable};
 
-/// The raw value of an expression that can be printed means the expression.
+/// The raw value of an expression that can be printed means the expression, under the same
+/// prefixes.
 pub fn raw_values_mean()
-    ensures { (s : Setting) (e : Expr) → is_printable e ≡ true
-        → value_of s (raw_of e) ≡ meant.Expr e }
+    ensures { (s : Setting) (e : Expr) → is_printable s.prefixes e ≡ true
+        → value_of s (raw_of s.prefixes e) ≡ meant.Expr e }
 {}
