@@ -1,11 +1,7 @@
 -- The raw value of an expression means it.
-use Rattle.std.proofs.Common.{◌≡◌, ℕ, ℤ, List, [], ◌∷◌, map, true, refl, sym}
-use Rattle.std.proofs.Common.{◌∙◌, ap, ap₂, subst}
+use Rattle.std.proofs.Common.{◌≡◌, ℕ, ℤ, List, [], ◌∷◌, Bool, refl, sym}
+use Rattle.std.proofs.Common.{◌∙◌, ap, subst}
 use Rattle.std.proofs.lemmas.Bool.{and_parts}
-use Rattle.xt_names.specs.declared.kinds.CompareOp.{CompareOp}
-use Rattle.xt_names.specs.declared.kinds.CompareOp.TheVariants as compare
-use Rattle.xt_names.specs.declared.kinds.ArithOp.{ArithOp}
-use Rattle.xt_names.specs.declared.kinds.ArithOp.TheVariants as arith
 use Rattle.xt_syntax.specs.declared.exprs.Expr.{Expr}
 use Rattle.xt_syntax.specs.declared.exprs.Expr.TheVariants as expr
 use Rattle.xt_syntax.specs.declared.exprs.Expr.TheVariants.{rolls-Int, rolls-Str, rolls-Context}
@@ -17,6 +13,8 @@ use Rattle.xt_syntax.specs.declared.exprs.Expr.TheVariants.{rolls-Plus, rolls-Un
 use Rattle.xt_syntax.specs.declared.exprs.Expr.TheVariants.{rolls-Intersect, rolls-Except}
 use Rattle.xt_syntax.specs.declared.exprs.Expr.TheVariants.{rolls-Filter, rolls-Var, rolls-Call}
 use Rattle.xt_syntax.specs.declared.exprs.Expr.TheVariants.{rolls-Step, rolls-Slash}
+use Rattle.xt_syntax.specs.declared.exprs.Expr.TheVariants.{rolls-InstanceOf, rolls-Treat}
+use Rattle.xt_syntax.specs.declared.exprs.Expr.TheVariants.{rolls-Castable, rolls-Cast}
 use Rattle.xt_syntax.specs.declared.exprs.Arm.{Arm}
 use Rattle.xt_syntax.specs.declared.exprs.Clause.{Clause}
 use Rattle.xt_syntax.specs.declared.exprs.Order.{Order}
@@ -33,28 +31,23 @@ use Rattle.xt_syntax.specs.declared.exprs.Clause.TheOpen.{Or, And, General, Valu
 use Rattle.xt_syntax.specs.declared.exprs.Clause.TheOpen.{After, Range, Arith, Minus, Plus, Union}
 use Rattle.xt_syntax.specs.declared.exprs.Clause.TheOpen.{Intersect, Except, Filter}
 use Rattle.xt_syntax.specs.declared.exprs.Clause.TheOpen.{Var, Call, Step, Slash}
+use Rattle.xt_syntax.specs.declared.exprs.Clause.TheOpen.{InstanceOf, Treat, Castable, Cast}
 use Rattle.xt_syntax.specs.Layers.{Kinds, ExprLayer, clause_gives, name_gives, part_gives}
 use Rattle.xt_syntax.specs.Layers.{arm_gives, bind_gives, attr_gives, flwor_gives, order_gives}
-use Rattle.expr_terms.specs.declared.keys.Key.{Key}
-use Rattle.expr_terms.specs.declared.keys.Key.TheVariants as key
 use Rattle.expr_terms.specs.declared.tokens.Token.TheVariants as token
-use Rattle.expr_terms.specs.declared.productions.Level.{Level}
 use Rattle.expr_terms.specs.declared.productions.Level.TheVariants as level
 use Rattle.expr_terms.specs.declared.productions.Production.TheVariants as production
 use Rattle.expr_terms.specs.declared.raws.Raw.TheVariants.{Leaf as leaf, Node as node}
 use Rattle.expr_meant.specs.declared.meant.Meant.TheVariants as meant
-use Rattle.expr_meant.specs.Parts.{expr_of, expr_or, exprs_of, key_of, key_in}
 use Rattle.expr_paths.specs.Primaries as primaries
 use Rattle.expr_paths.specs.Table.{path_value}
-use Rattle.expr_control.specs.Table.{control_value}
 use Rattle.expr_control.specs.Operators as operators
 use Rattle.expr_resolve.specs.declared.setting.Setting.{Setting}
 use Rattle.expr_resolve.specs.Tables.{is_chain, family_of, value_in}
 use Rattle.expr_resolve.specs.Folds.{value_of}
-use Rattle.expr_raws.specs.Forms.{Form, below, single, list, primary, signs, at, all_at, all_can}
-use Rattle.expr_raws.specs.Operators.{key_leaf, tail, many, listed, signed, compare_key, value_key}
-use Rattle.expr_raws.specs.Operators.{arithmetic, once, left}
-use Rattle.expr_raws.specs.Raws.{forms, form_step, form_steps, form_of, filtered}
+use Rattle.expr_raws.specs.Forms.{Form, single, list, at, all_at, all_can}
+use Rattle.expr_raws.specs.Operators.{compare_key, value_key}
+use Rattle.expr_raws.specs.Raws.{forms, form_step, form_steps, form_of}
 use Rattle.xt_names.specs.declared.names.ExprName.{ExprName}
 use Rattle.xt_types.specs.declared.axes.Axis.{Axis}
 use Rattle.xt_types.specs.declared.node_tests.Test.{Test}
@@ -62,13 +55,25 @@ use Rattle.std.proofs.Common.{Option, Some, None, is_some, not}
 use Rattle.xpath_lex.proofs.CharacterFacts.{not_true}
 use Rattle.expr_names.specs.Types.{type_named, call_type}
 use Rattle.expr_terms.specs.declared.tokens.Token.{Token}
+use Rattle.xt_names.specs.declared.kinds.AtomType.{AtomType}
+use Rattle.xt_types.specs.declared.types.SeqType.{SeqType}
+use Rattle.expr_raws.specs.Types.{sequence_form, of_type, single_form}
+use Rattle.expr_raws.proofs.Types.{sequence_means, single_means, of_type_means, instances_mean}
+use Rattle.expr_raws.proofs.Types.{treats_mean, castables_mean, casts_mean}
 use Rattle.expr_raws.specs.Names.{name_token}
 use Rattle.expr_raws.specs.Paths.{with_token, call_with, test_form, stepped, slashed}
 use Rattle.expr_raws.proofs.Paths.{variable_means, name_found, test_means, axis_step_means}
 use Rattle.expr_raws.proofs.Paths.{slashed_means, call_none_means, call_means}
 use Rattle.expr_raws.proofs.Values.{value_leaf, value_node, parens_mean}
-use Rattle.expr_raws.proofs.Values.{at_means, Plain, tail_means, Leftly}
-use Rattle.expr_raws.proofs.Values.{chain_means, once_means, left_means}
+use Rattle.expr_raws.proofs.Values.{Leftly}
+use Rattle.expr_raws.proofs.Parts.{Means, P, bare, their, all_mean}
+use Rattle.expr_raws.proofs.Operators.{plain_compares}
+use Rattle.expr_raws.proofs.Operators.{left_compares}
+use Rattle.expr_raws.proofs.Operators.{listed_means, ors_mean}
+use Rattle.expr_raws.proofs.Operators.{ands_mean, filtered_means, minus_means, plus_means}
+use Rattle.expr_raws.proofs.Operators.{once_so, general_is, value_is}
+use Rattle.expr_raws.proofs.Operators.{arithmetic_means, is_means, before_means, after_means}
+use Rattle.expr_raws.proofs.Operators.{range_means, union_means, intersect_means, except_means}
 
 abbrev pairs : (Expr → Type 0) → Kinds
 pairs P = record {
@@ -105,230 +110,6 @@ rolled : (p : Prefixes) (x : Layer) → form_of p (roll-Expr x) ≡ gives p x
 rolled p x = fold-roll-Expr _ _ _ _ _ _ _ _ _ _ _ _ _ _ _ _ _ _ x
 
 module _ (s : Setting) where
-  abbrev Means : Form → Expr → Type 0
-  Means f e = f.can ≡ true → value_of s f.raw ≡ meant.Expr e
-
-  abbrev P : Expr → Type 0
-  P e = Means (form_of s.prefixes e) e
-
-  abbrev bare : List ((e : Expr) × P e) → List Expr
-  bare ys = map (λ y. y.0) ys
-
-  abbrev their : List ((e : Expr) × P e) → List Form
-  their ys = map (form_of s.prefixes) (bare ys)
-
-  all_mean : (n : ℕ) (ys : List ((e : Expr) × P e)) → all_can (their ys) ≡ true
-      → exprs_of (map (value_of s) (all_at n (their ys))) ≡ bare ys
-  unfolding expr_of
-  all_mean n [] c = refl
-  all_mean n (y ∷ ys) c =
-      let h = and_parts (form_of s.prefixes y.0).can (all_can (their ys)) c in
-      ap₂ (λ e es. e ∷ es) (ap expr_of (at_means s n (form_of s.prefixes y.0) y.0 (y.1 h.0)))
-      (all_mean n ys h.1)
-
-  all_tails : (l : Level) → Plain s l → (k : Key) (ys : List ((e : Expr) × P e))
-      → all_can (their ys) ≡ true
-      → exprs_of (map (value_of s) (map (λ f. tail l k f) (their ys))) ≡ bare ys
-  unfolding expr_of
-  all_tails l plain k [] c = refl
-  all_tails l plain k (y ∷ ys) c =
-      let h = and_parts (form_of s.prefixes y.0).can (all_can (their ys)) c in
-      ap₂ (λ e es. e ∷ es) (ap expr_of (tail_means s l plain k (form_of s.prefixes y.0) y.0 (y.1 h.0)))
-      (all_tails l plain k ys h.1)
-
-  -- the levels
-  plain_ors : Plain s level.Ors
-  unfolding operators.operated
-  plain_ors ms = refl
-
-  plain_ands : Plain s level.Ands
-  unfolding operators.operated
-  plain_ands ms = refl
-
-  plain_compares : Plain s level.Compares
-  unfolding operators.operated
-  plain_compares ms = refl
-
-  plain_ranges : Plain s level.Ranges
-  unfolding operators.operated
-  plain_ranges ms = refl
-
-  plain_adds : Plain s level.Adds
-  unfolding operators.operated
-  plain_adds ms = refl
-
-  plain_multiplies : Plain s level.Multiplies
-  unfolding operators.operated
-  plain_multiplies ms = refl
-
-  plain_unions : Plain s level.Unions
-  unfolding operators.operated
-  plain_unions ms = refl
-
-  plain_crosses : Plain s level.Crosses
-  unfolding operators.operated
-  plain_crosses ms = refl
-
-  left_compares : Leftly s level.Compares
-  unfolding operators.chained
-  left_compares ms = refl
-
-  left_ranges : Leftly s level.Ranges
-  unfolding operators.chained
-  left_ranges ms = refl
-
-  left_adds : Leftly s level.Adds
-  unfolding operators.chained
-  left_adds ms = refl
-
-  left_multiplies : Leftly s level.Multiplies
-  unfolding operators.chained
-  left_multiplies ms = refl
-
-  left_unions : Leftly s level.Unions
-  unfolding operators.chained
-  left_unions ms = refl
-
-  left_crosses : Leftly s level.Crosses
-  unfolding operators.chained
-  left_crosses ms = refl
-
-  -- lists
-  listed_means : (ys : List ((e : Expr) × P e)) → Means (listed (their ys)) (expr.Comma (bare ys))
-  unfolding is_chain family_of value_in path_value control_value
-  listed_means [] c = value_node s production.Parens []
-  listed_means (y ∷ []) c = absurd (cc)
-  listed_means (y ∷ z ∷ ys) c = value_node s production.Listing
-      (all_at single (their (y ∷ z ∷ ys)))
-      ∙ ap (λ es. meant.Expr (expr.Comma es)) (all_mean single (y ∷ z ∷ ys) c)
-
-  ors_mean : (ys : List ((e : Expr) × P e))
-      → Means (many level.Ors key.OrWord (their ys)) (expr.Or (bare ys))
-  unfolding operators.chained expr_of
-  ors_mean [] c = absurd (cc)
-  ors_mean (y ∷ []) c = absurd (cc)
-  ors_mean (y ∷ z ∷ ys) c =
-      let h = and_parts (form_of s.prefixes y.0).can (all_can (their (z ∷ ys))) c in
-      chain_means s level.Ors (at (below level.Ors) (form_of s.prefixes y.0)
-      ∷ map (λ f. tail level.Ors key.OrWord f) (their (z ∷ ys)))
-      ∙ ap₂ (λ e es. meant.Expr (expr.Or (e ∷ es)))
-      (ap expr_of (at_means s (below level.Ors) (form_of s.prefixes y.0) y.0 (y.1 h.0)))
-      (all_tails level.Ors plain_ors key.OrWord (z ∷ ys) h.1)
-
-  ands_mean : (ys : List ((e : Expr) × P e))
-      → Means (many level.Ands key.AndWord (their ys)) (expr.And (bare ys))
-  unfolding operators.chained expr_of
-  ands_mean [] c = absurd (cc)
-  ands_mean (y ∷ []) c = absurd (cc)
-  ands_mean (y ∷ z ∷ ys) c =
-      let h = and_parts (form_of s.prefixes y.0).can (all_can (their (z ∷ ys))) c in
-      chain_means s level.Ands (at (below level.Ands) (form_of s.prefixes y.0)
-      ∷ map (λ f. tail level.Ands key.AndWord f) (their (z ∷ ys)))
-      ∙ ap₂ (λ e es. meant.Expr (expr.And (e ∷ es)))
-      (ap expr_of (at_means s (below level.Ands) (form_of s.prefixes y.0) y.0 (y.1 h.0)))
-      (all_tails level.Ands plain_ands key.AndWord (z ∷ ys) h.1)
-
-  filtered_means : (y : (e : Expr) × P e) (ys : List ((e : Expr) × P e))
-      → Means (filtered (form_of s.prefixes y.0) (their ys)) (expr.Filter y.0 (bare ys))
-  unfolding is_chain family_of value_in path_value expr_of
-  filtered_means y [] c = absurd (cc)
-  filtered_means y (z ∷ ys) c =
-      let h = and_parts (form_of s.prefixes y.0).can (all_can (their (z ∷ ys))) c in
-      value_node s production.FilterStep
-      (at primary (form_of s.prefixes y.0) ∷ all_at list (their (z ∷ ys)))
-      ∙ ap₂ (λ e es. meant.Expr (expr.Filter e es))
-      (ap expr_of (at_means s primary (form_of s.prefixes y.0) y.0 (y.1 h.0)))
-      (all_mean list (z ∷ ys) h.1)
-
-  minus_means : (y : (e : Expr) × P e) → Means (signed key.Minus (form_of s.prefixes y.0)) (expr.Minus y.0)
-  unfolding is_chain family_of value_in control_value operators.signed_by key_of key_in expr_or
-  minus_means y c = value_node s production.Signed
-      (key_leaf key.Minus ∷ at signs (form_of s.prefixes y.0) ∷ [])
-      ∙ rw (value_leaf s (token.Key key.Minus), at_means s signs (form_of s.prefixes y.0) y.0 (y.1 c)) refl
-
-  plus_means : (y : (e : Expr) × P e) → Means (signed key.Plus (form_of s.prefixes y.0)) (expr.Plus y.0)
-  unfolding is_chain family_of value_in control_value operators.signed_by key_of key_in expr_or
-  plus_means y c = value_node s production.Signed
-      (key_leaf key.Plus ∷ at signs (form_of s.prefixes y.0) ∷ [])
-      ∙ rw (value_leaf s (token.Key key.Plus), at_means s signs (form_of s.prefixes y.0) y.0 (y.1 c)) refl
-
-  once_so : (l : Level) → Plain s l → Leftly s l → (k : Key) (y z : (e : Expr) × P e) (e : Expr)
-      → operators.operated_by l k y.0 z.0 ≡ e
-      → Means (once l k (form_of s.prefixes y.0) (form_of s.prefixes z.0)) e
-  once_so l plain leftly k y z e same c =
-      let h = and_parts (form_of s.prefixes y.0).can (form_of s.prefixes z.0).can c in
-      once_means s l plain leftly k (form_of s.prefixes y.0) (form_of s.prefixes z.0) y.0 z.0 (y.1 h.0) (z.1 h.1)
-      ∙ ap (λ x. meant.Expr x) same
-
-  left_so : (l : Level) → Plain s l → Leftly s l → (k : Key) (y z : (e : Expr) × P e) (e : Expr)
-      → operators.operated_by l k y.0 z.0 ≡ e
-      → Means (left l k (form_of s.prefixes y.0) (form_of s.prefixes z.0)) e
-  left_so l plain leftly k y z e same c =
-      let h = and_parts (form_of s.prefixes y.0).can (form_of s.prefixes z.0).can c in
-      left_means s l plain leftly k (form_of s.prefixes y.0) (form_of s.prefixes z.0) y.0 z.0 (y.1 h.0) (z.1 h.1)
-      ∙ ap (λ x. meant.Expr x) same
-
-  general_is : (op : CompareOp) (a b : Expr)
-      → operators.operated_by level.Compares (compare_key op) a b ≡ expr.General op a b
-  unfolding operators.operated_by operators.compared
-  general_is compare.Eq a b = refl
-  general_is _ a b = refl
-
-  value_is : (op : CompareOp) (a b : Expr)
-      → operators.operated_by level.Compares (value_key op) a b ≡ expr.Value op a b
-  unfolding operators.operated_by operators.compared
-  value_is compare.Eq a b = refl
-  value_is _ a b = refl
-
-  arithmetic_means : (op : ArithOp) (y z : (e : Expr) × P e)
-      → Means (arithmetic op (form_of s.prefixes y.0) (form_of s.prefixes z.0)) (expr.Arith op y.0 z.0)
-  unfolding operators.operated_by operators.combined
-  arithmetic_means arith.Add y z = left_so level.Adds plain_adds left_adds key.Plus y z _ refl
-  arithmetic_means arith.Sub y z = left_so level.Adds plain_adds left_adds key.Minus y z _ refl
-  arithmetic_means arith.Mul y z =
-      left_so level.Multiplies plain_multiplies left_multiplies key.Star y z _ refl
-  arithmetic_means arith.Idiv y z =
-      left_so level.Multiplies plain_multiplies left_multiplies key.IdivWord y z _ refl
-  arithmetic_means arith.Mod y z =
-      left_so level.Multiplies plain_multiplies left_multiplies key.ModWord y z _ refl
-
-  is_means : (y z : (e : Expr) × P e)
-      → Means (once level.Compares key.IsWord (form_of s.prefixes y.0) (form_of s.prefixes z.0)) (expr.Is y.0 z.0)
-  unfolding operators.operated_by operators.compared
-  is_means y z = once_so level.Compares plain_compares left_compares key.IsWord y z _ refl
-
-  before_means : (y z : (e : Expr) × P e)
-      → Means (once level.Compares key.Before (form_of s.prefixes y.0) (form_of s.prefixes z.0)) (expr.Before y.0 z.0)
-  unfolding operators.operated_by operators.compared
-  before_means y z = once_so level.Compares plain_compares left_compares key.Before y z _ refl
-
-  after_means : (y z : (e : Expr) × P e)
-      → Means (once level.Compares key.After (form_of s.prefixes y.0) (form_of s.prefixes z.0)) (expr.After y.0 z.0)
-  unfolding operators.operated_by operators.compared
-  after_means y z = once_so level.Compares plain_compares left_compares key.After y z _ refl
-
-  range_means : (y z : (e : Expr) × P e)
-      → Means (once level.Ranges key.ToWord (form_of s.prefixes y.0) (form_of s.prefixes z.0)) (expr.Range y.0 z.0)
-  unfolding operators.operated_by operators.combined
-  range_means y z = once_so level.Ranges plain_ranges left_ranges key.ToWord y z _ refl
-
-  union_means : (y z : (e : Expr) × P e)
-      → Means (left level.Unions key.UnionWord (form_of s.prefixes y.0) (form_of s.prefixes z.0)) (expr.Union y.0 z.0)
-  unfolding operators.operated_by operators.combined
-  union_means y z = left_so level.Unions plain_unions left_unions key.UnionWord y z _ refl
-
-  intersect_means : (y z : (e : Expr) × P e)
-      → Means (left level.Crosses key.IntersectWord (form_of s.prefixes y.0) (form_of s.prefixes z.0))
-      (expr.Intersect y.0 z.0)
-  unfolding operators.operated_by operators.combined
-  intersect_means y z = left_so level.Crosses plain_crosses left_crosses key.IntersectWord y z _ refl
-
-  except_means : (y z : (e : Expr) × P e)
-      → Means (left level.Crosses key.ExceptWord (form_of s.prefixes y.0) (form_of s.prefixes z.0))
-      (expr.Except y.0 z.0)
-  unfolding operators.operated_by operators.combined
-  except_means y z = left_so level.Crosses plain_crosses left_crosses key.ExceptWord y z _ refl
-
   int_means : (n : ℤ) → value_of s (node production.Number (leaf (token.Digits n) ∷ []))
       ≡ meant.Expr (expr.Int n)
   unfolding is_chain family_of value_in path_value primaries.literal_of primaries.literal_in
@@ -349,74 +130,136 @@ module _ (s : Setting) where
   unfolding is_chain family_of value_in path_value
   root_means = value_node s production.Rooted []
 
-  step_means : (on : Axis) (t : Test) (ys : List ((e : Expr) × P e))
-      → Means (stepped s.prefixes on t (their ys)) (expr.Step on t (bare ys))
-  step_means on t ys c =
-      let h = and_parts (test_form s.prefixes on t).can (all_can (their ys)) c in
-      axis_step_means s on t (test_form s.prefixes on t).raw (all_at list (their ys)) (bare ys)
-      (test_means s on t h.0) (all_mean list ys h.1)
+  left_instances : Leftly s level.Instances
+  unfolding operators.chained
+  left_instances ms = refl
 
-  slash_means : (y z : (e : Expr) × P e)
-      → Means (slashed (form_of s.prefixes y.0) (form_of s.prefixes z.0)) (expr.Slash y.0 z.0)
+  left_treats : Leftly s level.Treats
+  unfolding operators.chained
+  left_treats ms = refl
+
+  left_castables : Leftly s level.Castables
+  unfolding operators.chained
+  left_castables ms = refl
+
+  left_casts : Leftly s level.Casts
+  unfolding operators.chained
+  left_casts ms = refl
+
+  instance_means : (y : (e : Expr) × P s e) (t : SeqType)
+      → Means s (of_type level.Instances (form_of s.prefixes y.0) (sequence_form s.prefixes t))
+      (expr.InstanceOf y.0 t)
+  unfolding operators.joined operators.of_type
+  instance_means y t c =
+      let f = sequence_form s.prefixes t in
+      let h = and_parts (form_of s.prefixes y.0).can f.can c in
+      of_type_means s level.Instances left_instances (form_of s.prefixes y.0) f y.0 _ _ (y.1 h.0)
+      (instances_mean s f.raw t (sequence_means s t h.1)) refl
+
+  treat_means : (y : (e : Expr) × P s e) (t : SeqType)
+      → Means s (of_type level.Treats (form_of s.prefixes y.0) (sequence_form s.prefixes t))
+      (expr.Treat y.0 t)
+  unfolding operators.joined operators.of_type
+  treat_means y t c =
+      let f = sequence_form s.prefixes t in
+      let h = and_parts (form_of s.prefixes y.0).can f.can c in
+      of_type_means s level.Treats left_treats (form_of s.prefixes y.0) f y.0 _ _ (y.1 h.0)
+      (treats_mean s f.raw t (sequence_means s t h.1)) refl
+
+  castable_means : (y : (e : Expr) × P s e) (k : AtomType) (b : Bool)
+      → Means s (of_type level.Castables (form_of s.prefixes y.0) (single_form s.prefixes k b))
+      (expr.Castable y.0 k b)
+  unfolding operators.joined operators.of_single
+  castable_means y k b c =
+      let f = single_form s.prefixes k b in
+      let h = and_parts (form_of s.prefixes y.0).can f.can c in
+      of_type_means s level.Castables left_castables (form_of s.prefixes y.0) f y.0 _ _ (y.1 h.0)
+      (castables_mean s f.raw k b (single_means s k b _ refl h.1)) refl
+
+  cast_means : (y : (e : Expr) × P s e) (k : AtomType) (b : Bool)
+      → Means s (of_type level.Casts (form_of s.prefixes y.0) (single_form s.prefixes k b))
+      (expr.Cast y.0 k b)
+  unfolding operators.joined operators.of_single
+  cast_means y k b c =
+      let f = single_form s.prefixes k b in
+      let h = and_parts (form_of s.prefixes y.0).can f.can c in
+      of_type_means s level.Casts left_casts (form_of s.prefixes y.0) f y.0 _ _ (y.1 h.0)
+      (casts_mean s f.raw k b (single_means s k b _ refl h.1)) refl
+
+  step_means : (on : Axis) (t : Test) (ys : List ((e : Expr) × P s e))
+      → Means s (stepped s.prefixes on t (their s ys)) (expr.Step on t (bare s ys))
+  step_means on t ys c =
+      let h = and_parts (test_form s.prefixes on t).can (all_can (their s ys)) c in
+      axis_step_means s on t (test_form s.prefixes on t).raw (all_at list (their s ys)) (bare s ys)
+      (test_means s on t h.0) (all_mean s list ys h.1)
+
+  slash_means : (y z : (e : Expr) × P s e)
+      → Means s (slashed (form_of s.prefixes y.0) (form_of s.prefixes z.0)) (expr.Slash y.0 z.0)
   slash_means y z c =
       let h = and_parts (form_of s.prefixes y.0).can (form_of s.prefixes z.0).can c in
       slashed_means s (form_of s.prefixes y.0) (form_of s.prefixes z.0) y.0 z.0 (y.1 h.0)
       (z.1 h.1)
 
-  called_means : (n : ExprName) (ys : List ((e : Expr) × P e)) (o : Option Token)
+  called_means : (n : ExprName) (ys : List ((e : Expr) × P s e)) (o : Option Token)
       → name_token s.prefixes.bound s.prefixes.function_default n ≡ o
-      → Means (with_token o (call_with n (their ys))) (expr.Call n (bare ys))
+      → Means s (with_token o (call_with n (their s ys))) (expr.Call n (bare s ys))
   called_means n ys None o c = absurd (cc)
   called_means n [] (Some t) o c =
-      let h = and_parts (not (is_some (call_type (type_named n)))) (all_can (their [])) c in
+      let h = and_parts (not (is_some (call_type (type_named n)))) (all_can (their s [])) c in
       call_none_means s n t (not_true h.0)
       (name_found s.prefixes.bound s.prefixes.function_default n t o)
   called_means n (y ∷ ys) (Some t) o c =
-      let h = and_parts (not (is_some (call_type (type_named n)))) (all_can (their (y ∷ ys))) c in
-      call_means s n t (at single (form_of s.prefixes y.0)) (all_at single (their ys))
-      (bare (y ∷ ys)) (not_true h.0)
+      let h = and_parts (not (is_some (call_type (type_named n)))) (all_can (their s (y ∷ ys))) c in
+      call_means s n t (at single (form_of s.prefixes y.0)) (all_at single (their s ys))
+      (bare s (y ∷ ys)) (not_true h.0)
       (name_found s.prefixes.bound s.prefixes.function_default n t o)
-      (all_mean single (y ∷ ys) h.1)
+      (all_mean s single (y ∷ ys) h.1)
 
-  one : (y : ExprLayer (pairs P)) → Means (gives s.prefixes (plain P y)) (roll-Expr (plain P y))
+  one : (y : ExprLayer (pairs (P s))) → Means s (gives s.prefixes (plain (P s) y)) (roll-Expr (plain (P s) y))
   one (Int n) c = int_means n ∙ ap (λ e. meant.Expr e) (sym (rolls-Int n))
   one (Str cs) c = str_means cs ∙ ap (λ e. meant.Expr e) (sym (rolls-Str cs))
   one Context c = context_means ∙ ap (λ e. meant.Expr e) (sym rolls-Context)
   one Root c = parens_mean s (node production.Rooted []) expr.Root root_means
       ∙ ap (λ e. meant.Expr e) (sym rolls-Root)
-  one (Comma ys) c = listed_means ys c ∙ ap (λ e. meant.Expr e) (sym (rolls-Comma (bare ys)))
-  one (Or ys) c = ors_mean ys c ∙ ap (λ e. meant.Expr e) (sym (rolls-Or (bare ys)))
-  one (And ys) c = ands_mean ys c ∙ ap (λ e. meant.Expr e) (sym (rolls-And (bare ys)))
-  one (General op y z) c = once_so level.Compares plain_compares left_compares (compare_key op) y z
-      _ (general_is op y.0 z.0) c ∙ ap (λ e. meant.Expr e) (sym (rolls-General op y.0 z.0))
-  one (Value op y z) c = once_so level.Compares plain_compares left_compares (value_key op) y z
-      _ (value_is op y.0 z.0) c ∙ ap (λ e. meant.Expr e) (sym (rolls-Value op y.0 z.0))
-  one (Is y z) c = is_means y z c ∙ ap (λ e. meant.Expr e) (sym (rolls-Is y.0 z.0))
-  one (Before y z) c = before_means y z c ∙ ap (λ e. meant.Expr e) (sym (rolls-Before y.0 z.0))
-  one (After y z) c = after_means y z c ∙ ap (λ e. meant.Expr e) (sym (rolls-After y.0 z.0))
-  one (Range y z) c = range_means y z c ∙ ap (λ e. meant.Expr e) (sym (rolls-Range y.0 z.0))
+  one (Comma ys) c = listed_means s ys c ∙ ap (λ e. meant.Expr e) (sym (rolls-Comma (bare s ys)))
+  one (Or ys) c = ors_mean s ys c ∙ ap (λ e. meant.Expr e) (sym (rolls-Or (bare s ys)))
+  one (And ys) c = ands_mean s ys c ∙ ap (λ e. meant.Expr e) (sym (rolls-And (bare s ys)))
+  one (General op y z) c = once_so s level.Compares (plain_compares s) (left_compares s) (compare_key op) y z
+      _ (general_is s op y.0 z.0) c ∙ ap (λ e. meant.Expr e) (sym (rolls-General op y.0 z.0))
+  one (Value op y z) c = once_so s level.Compares (plain_compares s) (left_compares s) (value_key op) y z
+      _ (value_is s op y.0 z.0) c ∙ ap (λ e. meant.Expr e) (sym (rolls-Value op y.0 z.0))
+  one (Is y z) c = is_means s y z c ∙ ap (λ e. meant.Expr e) (sym (rolls-Is y.0 z.0))
+  one (Before y z) c = before_means s y z c ∙ ap (λ e. meant.Expr e) (sym (rolls-Before y.0 z.0))
+  one (After y z) c = after_means s y z c ∙ ap (λ e. meant.Expr e) (sym (rolls-After y.0 z.0))
+  one (Range y z) c = range_means s y z c ∙ ap (λ e. meant.Expr e) (sym (rolls-Range y.0 z.0))
   one (Arith op y z) c =
-      arithmetic_means op y z c ∙ ap (λ e. meant.Expr e) (sym (rolls-Arith op y.0 z.0))
-  one (Minus y) c = minus_means y c ∙ ap (λ e. meant.Expr e) (sym (rolls-Minus y.0))
-  one (Plus y) c = plus_means y c ∙ ap (λ e. meant.Expr e) (sym (rolls-Plus y.0))
-  one (Union y z) c = union_means y z c ∙ ap (λ e. meant.Expr e) (sym (rolls-Union y.0 z.0))
+      arithmetic_means s op y z c ∙ ap (λ e. meant.Expr e) (sym (rolls-Arith op y.0 z.0))
+  one (Minus y) c = minus_means s y c ∙ ap (λ e. meant.Expr e) (sym (rolls-Minus y.0))
+  one (Plus y) c = plus_means s y c ∙ ap (λ e. meant.Expr e) (sym (rolls-Plus y.0))
+  one (Union y z) c = union_means s y z c ∙ ap (λ e. meant.Expr e) (sym (rolls-Union y.0 z.0))
   one (Intersect y z) c =
-      intersect_means y z c ∙ ap (λ e. meant.Expr e) (sym (rolls-Intersect y.0 z.0))
-  one (Except y z) c = except_means y z c ∙ ap (λ e. meant.Expr e) (sym (rolls-Except y.0 z.0))
+      intersect_means s y z c ∙ ap (λ e. meant.Expr e) (sym (rolls-Intersect y.0 z.0))
+  one (Except y z) c = except_means s y z c ∙ ap (λ e. meant.Expr e) (sym (rolls-Except y.0 z.0))
   one (Filter y ys) c =
-      filtered_means y ys c ∙ ap (λ e. meant.Expr e) (sym (rolls-Filter y.0 (bare ys)))
+      filtered_means s y ys c ∙ ap (λ e. meant.Expr e) (sym (rolls-Filter y.0 (bare s ys)))
+  one (InstanceOf y t) c = instance_means y t c
+      ∙ ap (λ e. meant.Expr e) (sym (rolls-InstanceOf y.0 t))
+  one (Treat y t) c = treat_means y t c ∙ ap (λ e. meant.Expr e) (sym (rolls-Treat y.0 t))
+  one (Castable y k b) c =
+      castable_means y k b c ∙ ap (λ e. meant.Expr e) (sym (rolls-Castable y.0 k b))
+  one (Cast y k b) c = cast_means y k b c ∙ ap (λ e. meant.Expr e) (sym (rolls-Cast y.0 k b))
   one (Var n) c = variable_means s n c ∙ ap (λ e. meant.Expr e) (sym (rolls-Var n))
   one (Call n ys) c =
-      called_means n ys _ refl c ∙ ap (λ e. meant.Expr e) (sym (rolls-Call n (bare ys)))
+      called_means n ys _ refl c ∙ ap (λ e. meant.Expr e) (sym (rolls-Call n (bare s ys)))
   one (Step on t ys) c =
-      step_means on t ys c ∙ ap (λ e. meant.Expr e) (sym (rolls-Step on t (bare ys)))
+      step_means on t ys c ∙ ap (λ e. meant.Expr e) (sym (rolls-Step on t (bare s ys)))
   one (Slash y z) c = slash_means y z c ∙ ap (λ e. meant.Expr e) (sym (rolls-Slash y.0 z.0))
   one _ c = absurd (cc)
 
-  pub printable_means : (e : Expr) → P e
-  printable_means = ind-Expr (λ _. Unit {0}) P (λ _. Unit {0}) (λ _. Unit {0}) (λ _. Unit {0})
+  pub printable_means : (e : Expr) → P s e
+  printable_means = ind-Expr (λ _. Unit {0}) (P s) (λ _. Unit {0}) (λ _. Unit {0}) (λ _. Unit {0})
       (λ _. Unit {0}) (λ _. Unit {0}) (λ _. Unit {0}) (λ _. Unit {0}) (λ x y is. tt)
-      (λ x y is. subst (λ z. Means (form_of s.prefixes (roll-Expr z)) (roll-Expr z)) is
-      (subst (λ f. Means f (roll-Expr (plain P y))) (sym (rolled s.prefixes (plain P y))) (one y)))
+      (λ x y is. subst (λ z. Means s (form_of s.prefixes (roll-Expr z)) (roll-Expr z)) is
+      (subst (λ f. Means s f (roll-Expr (plain (P s) y))) (sym (rolled s.prefixes (plain (P s) y))) (one y)))
       (λ x y is. tt) (λ x y is. tt) (λ x y is. tt) (λ x y is. tt) (λ x y is. tt) (λ x y is. tt)
       (λ x y is. tt)

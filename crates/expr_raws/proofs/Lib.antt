@@ -1,3 +1,6 @@
 pub mod Values
 pub mod Paths
+pub mod Types
+pub mod Parts
+pub mod Operators
 pub mod Forms

@@ -52,7 +52,7 @@ use Rattle.expr_raws.specs.Paths.{slashed}
 use Rattle.expr_raws.proofs.Values.{value_leaf, value_node, at_means, append_values}
 use Rattle.expr_raws.proofs.Values.{parens_mean}
 
-first_sound : (f : Token → Bool) (ts : List Token) (t : Token) → first_that f ts ≡ Some t
+pub first_sound : (f : Token → Bool) (ts : List Token) (t : Token) → first_that f ts ≡ Some t
     → f t ≡ true
 first_sound f [] t e = absurd (cc)
 first_sound f (u ∷ ts) t e = go (f u) refl e (λ h. first_sound f ts t h)
@@ -116,11 +116,11 @@ module _ (s : Setting) where
   abbrev pub TestMeans : Axis → Test → Form → Type 0
   TestMeans on t f = test_on s.prefixes.bound s.prefixes.element_default on (value_of s f.raw) ≡ t
 
-  plain_means : (on : Axis) (k : Key) → test_on s.prefixes.bound s.prefixes.element_default on
-      (value_of s (node production.PlainKind (key_leaf k ∷ []))) ≡ plain_kind_of k
-  unfolding is_chain family_of value_in path_value key_of key_in test_on
-  plain_means on k = ap (λ m. test_on s.prefixes.bound s.prefixes.element_default on m)
-      (value_node s production.PlainKind (key_leaf k ∷ [])) ∙ rw (value_leaf s (token.Key k)) refl
+  plain_kind_means : (k : Key) → value_of s (node production.PlainKind (key_leaf k ∷ []))
+      ≡ meant.Kind (plain_kind_of k)
+  unfolding is_chain family_of value_in path_value key_of key_in
+  plain_kind_means k = value_node s production.PlainKind (key_leaf k ∷ [])
+      ∙ rw (value_leaf s (token.Key k)) refl
 
   named_means : (on : Axis) (n : NameTest) (o : Option Token)
       → test_token s.prefixes.bound s.prefixes.element_default on n ≡ o
@@ -133,57 +133,74 @@ module _ (s : Setting) where
       ∙ ap (λ x. test.Named x)
       (test_found s.prefixes.bound s.prefixes.element_default on n t e)
 
-  element_means : (on : Axis) (n : NameTest) (o : Option Token)
+  element_means : (n : NameTest) (o : Option Token)
       → test_token s.prefixes.bound s.prefixes.element_default axis.Child n ≡ o
       → (with_token o (named_test key.ElementWord)).can ≡ true
-      → TestMeans on (test.Elem n) (with_token o (named_test key.ElementWord))
-  unfolding is_chain family_of value_in path_value key_of key_in test_on name_test_of named_kind_of defaulted
-  element_means on n None e c = absurd (cc)
-  element_means on n (Some t) e c =
-      ap (λ m. test_on s.prefixes.bound s.prefixes.element_default on m)
-      (value_node s production.NamedKind (key_leaf key.ElementWord ∷ leaf t ∷ []))
+      → value_of s (with_token o (named_test key.ElementWord)).raw ≡ meant.Kind (test.Elem n)
+  unfolding is_chain family_of value_in path_value key_of key_in name_test_of named_kind_of defaulted
+  element_means n None e c = absurd (cc)
+  element_means n (Some t) e c =
+      value_node s production.NamedKind (key_leaf key.ElementWord ∷ leaf t ∷ [])
       ∙ rw (value_leaf s (token.Key key.ElementWord), value_leaf s t)
-      (ap (λ x. test.Elem x)
+      (ap (λ x. meant.Kind (test.Elem x))
       (test_found s.prefixes.bound s.prefixes.element_default axis.Child n t e))
 
-  attribute_means : (on : Axis) (n : NameTest) (o : Option Token)
+  attribute_means : (n : NameTest) (o : Option Token)
       → test_token s.prefixes.bound s.prefixes.element_default axis.Attribute n ≡ o
       → (with_token o (named_test key.AttributeWord)).can ≡ true
-      → TestMeans on (test.Attr n) (with_token o (named_test key.AttributeWord))
-  unfolding is_chain family_of value_in path_value key_of key_in test_on name_test_of named_kind_of defaulted
-  attribute_means on n None e c = absurd (cc)
-  attribute_means on n (Some t) e c =
-      ap (λ m. test_on s.prefixes.bound s.prefixes.element_default on m)
-      (value_node s production.NamedKind (key_leaf key.AttributeWord ∷ leaf t ∷ []))
+      → value_of s (with_token o (named_test key.AttributeWord)).raw ≡ meant.Kind (test.Attr n)
+  unfolding is_chain family_of value_in path_value key_of key_in name_test_of named_kind_of defaulted
+  attribute_means n None e c = absurd (cc)
+  attribute_means n (Some t) e c =
+      value_node s production.NamedKind (key_leaf key.AttributeWord ∷ leaf t ∷ [])
       ∙ rw (value_leaf s (token.Key key.AttributeWord), value_leaf s t)
-      (ap (λ x. test.Attr x)
+      (ap (λ x. meant.Kind (test.Attr x))
       (test_found s.prefixes.bound s.prefixes.element_default axis.Attribute n t e))
 
-  any_pi_means : (on : Axis) → test_on s.prefixes.bound s.prefixes.element_default on
-      (value_of s (node production.PiKind [])) ≡ test.Pi None
-  unfolding is_chain family_of value_in path_value test_on
-  any_pi_means on = ap (λ m. test_on s.prefixes.bound s.prefixes.element_default on m)
-      (value_node s production.PiKind [])
+  any_pi_means : value_of s (node production.PiKind []) ≡ meant.Kind (test.Pi None)
+  unfolding is_chain family_of value_in path_value
+  any_pi_means = value_node s production.PiKind []
 
-  pi_means : (on : Axis) (cs : List ℕ) → test_on s.prefixes.bound s.prefixes.element_default on
-      (value_of s (node production.PiKind (leaf (token.Quoted cs) ∷ []))) ≡ test.Pi (Some cs)
-  unfolding is_chain family_of value_in path_value test_on target_of target_in
-  pi_means on cs = ap (λ m. test_on s.prefixes.bound s.prefixes.element_default on m)
-      (value_node s production.PiKind (leaf (token.Quoted cs) ∷ []))
+  pi_means : (cs : List ℕ) → value_of s (node production.PiKind (leaf (token.Quoted cs) ∷ []))
+      ≡ meant.Kind (test.Pi (Some cs))
+  unfolding is_chain family_of value_in path_value target_of target_in
+  pi_means cs = value_node s production.PiKind (leaf (token.Quoted cs) ∷ [])
       ∙ rw (value_leaf s (token.Quoted cs)) refl
+
+  abbrev pub IsKind : Test → Type 0
+  IsKind (test.Named n) = ⊥
+  IsKind _ = Unit {0}
+
+  -- a kind test
+  pub kind_means : (on : Axis) (t : Test) → IsKind t → (test_form s.prefixes on t).can ≡ true
+      → value_of s (test_form s.prefixes on t).raw ≡ meant.Kind t
+  unfolding plain_kind_of
+  kind_means on (test.Named n) i c = absurd i
+  kind_means on test.Node i c = plain_kind_means key.NodeWord
+  kind_means on test.Text i c = plain_kind_means key.TextWord
+  kind_means on test.Comment i c = plain_kind_means key.CommentWord
+  kind_means on test.Doc i c = plain_kind_means key.DocumentNodeWord
+  kind_means on (test.Pi None) i c = any_pi_means
+  kind_means on (test.Pi (Some cs)) i c = pi_means cs
+  kind_means on (test.Elem n) i c = element_means n _ refl c
+  kind_means on (test.Attr n) i c = attribute_means n _ refl c
+
+  on_kind : (on : Axis) (t : Test) (v : Raw) → value_of s v ≡ meant.Kind t
+      → test_on s.prefixes.bound s.prefixes.element_default on (value_of s v) ≡ t
+  unfolding test_on
+  on_kind on t v h =
+      ap (λ m. test_on s.prefixes.bound s.prefixes.element_default on m) h
 
   pub test_means : (on : Axis) (t : Test) → (test_form s.prefixes on t).can ≡ true
       → TestMeans on t (test_form s.prefixes on t)
-  unfolding plain_kind_of
   test_means on (test.Named n) c = named_means on n _ refl c
-  test_means on test.Node c = plain_means on key.NodeWord
-  test_means on test.Text c = plain_means on key.TextWord
-  test_means on test.Comment c = plain_means on key.CommentWord
-  test_means on test.Doc c = plain_means on key.DocumentNodeWord
-  test_means on (test.Pi None) c = any_pi_means on
-  test_means on (test.Pi (Some cs)) c = pi_means on cs
-  test_means on (test.Elem n) c = element_means on n _ refl c
-  test_means on (test.Attr n) c = attribute_means on n _ refl c
+  test_means on test.Node c = on_kind on test.Node _ (kind_means on test.Node tt c)
+  test_means on test.Text c = on_kind on test.Text _ (kind_means on test.Text tt c)
+  test_means on test.Comment c = on_kind on test.Comment _ (kind_means on test.Comment tt c)
+  test_means on test.Doc c = on_kind on test.Doc _ (kind_means on test.Doc tt c)
+  test_means on (test.Pi o) c = on_kind on (test.Pi o) _ (kind_means on (test.Pi o) tt c)
+  test_means on (test.Elem n) c = on_kind on (test.Elem n) _ (kind_means on (test.Elem n) tt c)
+  test_means on (test.Attr n) c = on_kind on (test.Attr n) _ (kind_means on (test.Attr n) tt c)
 
   -- axis::test[p]..
   pub axis_step_means : (on : Axis) (t : Test) (v : Raw) (vs : List Raw) (es : List Expr)

@@ -2,4 +2,5 @@ pub mod Forms
 pub mod Operators
 pub mod Names
 pub mod Paths
+pub mod Types
 pub mod Raws

@@ -6,6 +6,7 @@ use Rattle.xt_syntax.specs.declared.exprs.Clause.TheOpen.{Or, And, General, Valu
 use Rattle.xt_syntax.specs.declared.exprs.Clause.TheOpen.{After, Range, Arith, Minus, Plus, Union}
 use Rattle.xt_syntax.specs.declared.exprs.Clause.TheOpen.{Intersect, Except, Filter}
 use Rattle.xt_syntax.specs.declared.exprs.Clause.TheOpen.{Var, Call, Step, Slash}
+use Rattle.xt_syntax.specs.declared.exprs.Clause.TheOpen.{InstanceOf, Treat, Castable, Cast}
 use Rattle.xt_syntax.specs.declared.prefixes.Prefixes.{Prefixes}
 use Rattle.xt_syntax.specs.Layers.{Kinds, Steps, ExprLayer, expr_gives}
 use Rattle.expr_terms.specs.declared.keys.Key.TheVariants as key
@@ -19,6 +20,7 @@ use Rattle.expr_raws.specs.Forms.{Form, primary, step, list, at, all_at, all_can
 use Rattle.expr_raws.specs.Operators.{once, left, nothing, many, listed, signed, compare_key}
 use Rattle.expr_raws.specs.Operators.{value_key, arithmetic}
 use Rattle.expr_raws.specs.Paths.{variable, call, stepped, slashed}
+use Rattle.expr_raws.specs.Types.{sequence_form, of_type, single_form}
 
 abbrev pub leaf_form : Production → Bool → List Raw → Form
 leaf_form p can vs = record { raw = node p vs; place = primary; can = can }
@@ -67,6 +69,10 @@ form_step p (Union a b) = left level.Unions key.UnionWord a b
 form_step p (Intersect a b) = left level.Crosses key.IntersectWord a b
 form_step p (Except a b) = left level.Crosses key.ExceptWord a b
 form_step p (Filter a fs) = filtered a fs
+form_step p (InstanceOf a t) = of_type level.Instances a (sequence_form p t)
+form_step p (Treat a t) = of_type level.Treats a (sequence_form p t)
+form_step p (Castable a k empty) = of_type level.Castables a (single_form p k empty)
+form_step p (Cast a k empty) = of_type level.Casts a (single_form p k empty)
 form_step p (Var n) = variable p n
 form_step p (Call n fs) = call p n fs
 form_step p (Step on t fs) = stepped p on t fs
