@@ -66,6 +66,17 @@ use Rattle.expr_raws.proofs.Paths.{variable_means, name_found, test_means, axis_
 use Rattle.expr_raws.proofs.Paths.{slashed_means, call_none_means, call_means}
 use Rattle.expr_raws.proofs.Values.{value_leaf, value_node, parens_mean}
 use Rattle.expr_raws.proofs.Values.{Leftly}
+use Rattle.xt_syntax.specs.declared.exprs.Clause.TheOpen.{DocC, TextC, CommentC}
+use Rattle.xt_syntax.specs.declared.exprs.Expr.TheVariants.{rolls-DocC, rolls-TextC}
+use Rattle.xt_syntax.specs.declared.exprs.Expr.TheVariants.{rolls-CommentC}
+use Rattle.expr_elements.specs.Computed.{enclosing_by}
+use Rattle.expr_elements.specs.Table.{element_value}
+use Rattle.expr_raws.specs.Raws.{enclosing}
+use Rattle.expr_terms.specs.declared.keys.Key.{Key}
+use Rattle.expr_meant.specs.Parts.{key_of, key_in, expr_or}
+use Rattle.expr_raws.specs.Operators.{key_leaf}
+use Rattle.expr_raws.proofs.Values.{at_means}
+use Rattle.expr_terms.specs.declared.keys.Key.TheVariants as key
 use Rattle.expr_raws.proofs.Parts.{Means, P, bare, their, all_mean}
 use Rattle.expr_raws.proofs.Operators.{plain_compares}
 use Rattle.expr_raws.proofs.Operators.{left_compares}
@@ -102,8 +113,10 @@ abbrev gives : Prefixes → Layer → Form
 gives p x = form_step p (map-Expr Clause Expr NameSource Part Arm Bind DirectAttr FlworOf Order
     forms.Clauses forms.Exprs forms.Names forms.Parts forms.Arms forms.Binds forms.Attrs
     forms.Flwors forms.Orders (clause_gives forms (form_steps p)) (form_of p)
-    (name_gives forms (form_steps p)) (part_gives forms (form_steps p)) (arm_gives forms (form_steps p))
-    (bind_gives forms (form_steps p)) (attr_gives forms (form_steps p)) (flwor_gives forms (form_steps p))
+    (name_gives forms (form_steps p)) (part_gives forms (form_steps p)) (arm_gives forms
+    (form_steps p))
+    (bind_gives forms (form_steps p)) (attr_gives forms (form_steps p)) (flwor_gives forms
+    (form_steps p))
     (order_gives forms (form_steps p)) x)
 
 rolled : (p : Prefixes) (x : Layer) → form_of p (roll-Expr x) ≡ gives p x
@@ -215,7 +228,31 @@ module _ (s : Setting) where
       (name_found s.prefixes.bound s.prefixes.function_default n t o)
       (all_mean s single (y ∷ ys) h.1)
 
-  one : (y : ExprLayer (pairs (P s))) → Means s (gives s.prefixes (plain (P s) y)) (roll-Expr (plain (P s) y))
+  enclosing_means : (k : Key) (y : (e : Expr) × P s e) (e : Expr) → enclosing_by k y.0 ≡ e
+      → Means s (enclosing k (form_of s.prefixes y.0)) e
+  unfolding is_chain family_of value_in element_value key_of key_in expr_or
+  enclosing_means k y e h c =
+      value_node s production.Enclosing (key_leaf k ∷ at list (form_of s.prefixes y.0) ∷ [])
+      ∙ rw (value_leaf s (token.Key k), at_means s list (form_of s.prefixes y.0) y.0 (y.1 c))
+      (ap (λ x. meant.Expr x) h)
+
+  document_means : (y : (e : Expr) × P s e)
+      → Means s (enclosing key.DocumentWord (form_of s.prefixes y.0)) (expr.DocC y.0)
+  unfolding enclosing_by
+  document_means y c = enclosing_means key.DocumentWord y (expr.DocC y.0) refl c
+
+  text_means : (y : (e : Expr) × P s e)
+      → Means s (enclosing key.TextWord (form_of s.prefixes y.0)) (expr.TextC y.0)
+  unfolding enclosing_by
+  text_means y c = enclosing_means key.TextWord y (expr.TextC y.0) refl c
+
+  comment_means : (y : (e : Expr) × P s e)
+      → Means s (enclosing key.CommentWord (form_of s.prefixes y.0)) (expr.CommentC y.0)
+  unfolding enclosing_by
+  comment_means y c = enclosing_means key.CommentWord y (expr.CommentC y.0) refl c
+
+  one : (y : ExprLayer (pairs (P s))) → Means s (gives s.prefixes (plain (P s) y)) (roll-Expr
+      (plain (P s) y))
   one (Int n) c = int_means n ∙ ap (λ e. meant.Expr e) (sym (rolls-Int n))
   one (Str cs) c = str_means cs ∙ ap (λ e. meant.Expr e) (sym (rolls-Str cs))
   one Context c = context_means ∙ ap (λ e. meant.Expr e) (sym rolls-Context)
@@ -224,9 +261,11 @@ module _ (s : Setting) where
   one (Comma ys) c = listed_means s ys c ∙ ap (λ e. meant.Expr e) (sym (rolls-Comma (bare s ys)))
   one (Or ys) c = ors_mean s ys c ∙ ap (λ e. meant.Expr e) (sym (rolls-Or (bare s ys)))
   one (And ys) c = ands_mean s ys c ∙ ap (λ e. meant.Expr e) (sym (rolls-And (bare s ys)))
-  one (General op y z) c = once_so s level.Compares (plain_compares s) (left_compares s) (compare_key op) y z
+  one (General op y z) c = once_so s level.Compares (plain_compares s) (left_compares s)
+      (compare_key op) y z
       _ (general_is s op y.0 z.0) c ∙ ap (λ e. meant.Expr e) (sym (rolls-General op y.0 z.0))
-  one (Value op y z) c = once_so s level.Compares (plain_compares s) (left_compares s) (value_key op) y z
+  one (Value op y z) c = once_so s level.Compares (plain_compares s) (left_compares s) (value_key
+      op) y z
       _ (value_is s op y.0 z.0) c ∙ ap (λ e. meant.Expr e) (sym (rolls-Value op y.0 z.0))
   one (Is y z) c = is_means s y z c ∙ ap (λ e. meant.Expr e) (sym (rolls-Is y.0 z.0))
   one (Before y z) c = before_means s y z c ∙ ap (λ e. meant.Expr e) (sym (rolls-Before y.0 z.0))
@@ -248,6 +287,9 @@ module _ (s : Setting) where
   one (Castable y k b) c =
       castable_means y k b c ∙ ap (λ e. meant.Expr e) (sym (rolls-Castable y.0 k b))
   one (Cast y k b) c = cast_means y k b c ∙ ap (λ e. meant.Expr e) (sym (rolls-Cast y.0 k b))
+  one (DocC y) c = document_means y c ∙ ap (λ e. meant.Expr e) (sym (rolls-DocC y.0))
+  one (TextC y) c = text_means y c ∙ ap (λ e. meant.Expr e) (sym (rolls-TextC y.0))
+  one (CommentC y) c = comment_means y c ∙ ap (λ e. meant.Expr e) (sym (rolls-CommentC y.0))
   one (Var n) c = variable_means s n c ∙ ap (λ e. meant.Expr e) (sym (rolls-Var n))
   one (Call n ys) c =
       called_means n ys _ refl c ∙ ap (λ e. meant.Expr e) (sym (rolls-Call n (bare s ys)))
@@ -260,6 +302,7 @@ module _ (s : Setting) where
   printable_means = ind-Expr (λ _. Unit {0}) (P s) (λ _. Unit {0}) (λ _. Unit {0}) (λ _. Unit {0})
       (λ _. Unit {0}) (λ _. Unit {0}) (λ _. Unit {0}) (λ _. Unit {0}) (λ x y is. tt)
       (λ x y is. subst (λ z. Means s (form_of s.prefixes (roll-Expr z)) (roll-Expr z)) is
-      (subst (λ f. Means s f (roll-Expr (plain (P s) y))) (sym (rolled s.prefixes (plain (P s) y))) (one y)))
+      (subst (λ f. Means s f (roll-Expr (plain (P s) y))) (sym (rolled s.prefixes (plain (P s)
+      y))) (one y)))
       (λ x y is. tt) (λ x y is. tt) (λ x y is. tt) (λ x y is. tt) (λ x y is. tt) (λ x y is. tt)
       (λ x y is. tt)

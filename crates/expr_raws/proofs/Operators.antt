@@ -100,7 +100,8 @@ module _ (s : Setting) where
   left_crosses ms = refl
 
   -- lists
-  pub listed_means : (ys : List ((e : Expr) × P s e)) → Means s (listed (their s ys)) (expr.Comma (bare s ys))
+  pub listed_means : (ys : List ((e : Expr) × P s e))
+      → Means s (listed (their s ys)) (expr.Comma (bare s ys))
   unfolding is_chain family_of value_in path_value control_value
   listed_means [] c = value_node s production.Parens []
   listed_means (y ∷ []) c = absurd (cc)
@@ -146,32 +147,46 @@ module _ (s : Setting) where
       (ap expr_of (at_means s primary (form_of s.prefixes y.0) y.0 (y.1 h.0)))
       (all_mean s list (z ∷ ys) h.1)
 
-  pub minus_means : (y : (e : Expr) × P s e) → Means s (signed key.Minus (form_of s.prefixes y.0)) (expr.Minus y.0)
+  pub minus_means : (y : (e : Expr) × P s e) → Means s (signed key.Minus (form_of s.prefixes
+      y.0)) (expr.Minus y.0)
   unfolding is_chain family_of value_in control_value operators.signed_by key_of key_in expr_or
   minus_means y c = value_node s production.Signed
       (key_leaf key.Minus ∷ at signs (form_of s.prefixes y.0) ∷ [])
-      ∙ rw (value_leaf s (token.Key key.Minus), at_means s signs (form_of s.prefixes y.0) y.0 (y.1 c)) refl
+      ∙ rw (
+        value_leaf s (token.Key key.Minus),
+        at_means s signs (form_of s.prefixes y.0) y.0
+            (y.1 c),
+      ) refl
 
-  pub plus_means : (y : (e : Expr) × P s e) → Means s (signed key.Plus (form_of s.prefixes y.0)) (expr.Plus y.0)
+  pub plus_means : (y : (e : Expr) × P s e) → Means s (signed key.Plus (form_of s.prefixes y.0))
+      (expr.Plus y.0)
   unfolding is_chain family_of value_in control_value operators.signed_by key_of key_in expr_or
   plus_means y c = value_node s production.Signed
       (key_leaf key.Plus ∷ at signs (form_of s.prefixes y.0) ∷ [])
-      ∙ rw (value_leaf s (token.Key key.Plus), at_means s signs (form_of s.prefixes y.0) y.0 (y.1 c)) refl
+      ∙ rw (
+        value_leaf s (token.Key key.Plus),
+        at_means s signs (form_of s.prefixes y.0) y.0 (y.1
+            c),
+      ) refl
 
-  pub once_so : (l : Level) → Plain s l → Leftly s l → (k : Key) (y z : (e : Expr) × P s e) (e : Expr)
+  pub once_so : (l : Level) → Plain s l → Leftly s l
+      → (k : Key) (y z : (e : Expr) × P s e) (e : Expr)
       → operators.operated_by l k y.0 z.0 ≡ e
       → Means s (once l k (form_of s.prefixes y.0) (form_of s.prefixes z.0)) e
   once_so l plain leftly k y z e same c =
       let h = and_parts (form_of s.prefixes y.0).can (form_of s.prefixes z.0).can c in
-      once_means s l plain leftly k (form_of s.prefixes y.0) (form_of s.prefixes z.0) y.0 z.0 (y.1 h.0) (z.1 h.1)
+      once_means s l plain leftly k (form_of s.prefixes y.0) (form_of s.prefixes z.0) y.0 z.0
+      (y.1 h.0) (z.1 h.1)
       ∙ ap (λ x. meant.Expr x) same
 
-  pub left_so : (l : Level) → Plain s l → Leftly s l → (k : Key) (y z : (e : Expr) × P s e) (e : Expr)
+  pub left_so : (l : Level) → Plain s l → Leftly s l
+      → (k : Key) (y z : (e : Expr) × P s e) (e : Expr)
       → operators.operated_by l k y.0 z.0 ≡ e
       → Means s (left l k (form_of s.prefixes y.0) (form_of s.prefixes z.0)) e
   left_so l plain leftly k y z e same c =
       let h = and_parts (form_of s.prefixes y.0).can (form_of s.prefixes z.0).can c in
-      left_means s l plain leftly k (form_of s.prefixes y.0) (form_of s.prefixes z.0) y.0 z.0 (y.1 h.0) (z.1 h.1)
+      left_means s l plain leftly k (form_of s.prefixes y.0) (form_of s.prefixes z.0) y.0 z.0
+      (y.1 h.0) (z.1 h.1)
       ∙ ap (λ x. meant.Expr x) same
 
   pub general_is : (op : CompareOp) (a b : Expr)
@@ -187,7 +202,8 @@ module _ (s : Setting) where
   value_is _ a b = refl
 
   pub arithmetic_means : (op : ArithOp) (y z : (e : Expr) × P s e)
-      → Means s (arithmetic op (form_of s.prefixes y.0) (form_of s.prefixes z.0)) (expr.Arith op y.0 z.0)
+      → Means s (arithmetic op (form_of s.prefixes y.0) (form_of s.prefixes z.0)) (expr.Arith op
+      y.0 z.0)
   unfolding operators.operated_by operators.combined
   arithmetic_means arith.Add y z = left_so level.Adds plain_adds left_adds key.Plus y z _ refl
   arithmetic_means arith.Sub y z = left_so level.Adds plain_adds left_adds key.Minus y z _ refl
@@ -199,38 +215,46 @@ module _ (s : Setting) where
       left_so level.Multiplies plain_multiplies left_multiplies key.ModWord y z _ refl
 
   pub is_means : (y z : (e : Expr) × P s e)
-      → Means s (once level.Compares key.IsWord (form_of s.prefixes y.0) (form_of s.prefixes z.0)) (expr.Is y.0 z.0)
+      → Means s (once level.Compares key.IsWord (form_of s.prefixes y.0) (form_of s.prefixes
+      z.0)) (expr.Is y.0 z.0)
   unfolding operators.operated_by operators.compared
   is_means y z = once_so level.Compares plain_compares left_compares key.IsWord y z _ refl
 
   pub before_means : (y z : (e : Expr) × P s e)
-      → Means s (once level.Compares key.Before (form_of s.prefixes y.0) (form_of s.prefixes z.0)) (expr.Before y.0 z.0)
+      → Means s (once level.Compares key.Before (form_of s.prefixes y.0) (form_of s.prefixes
+      z.0)) (expr.Before y.0 z.0)
   unfolding operators.operated_by operators.compared
   before_means y z = once_so level.Compares plain_compares left_compares key.Before y z _ refl
 
   pub after_means : (y z : (e : Expr) × P s e)
-      → Means s (once level.Compares key.After (form_of s.prefixes y.0) (form_of s.prefixes z.0)) (expr.After y.0 z.0)
+      → Means s (once level.Compares key.After (form_of s.prefixes y.0) (form_of s.prefixes z.0))
+      (expr.After y.0 z.0)
   unfolding operators.operated_by operators.compared
   after_means y z = once_so level.Compares plain_compares left_compares key.After y z _ refl
 
   pub range_means : (y z : (e : Expr) × P s e)
-      → Means s (once level.Ranges key.ToWord (form_of s.prefixes y.0) (form_of s.prefixes z.0)) (expr.Range y.0 z.0)
+      → Means s (once level.Ranges key.ToWord (form_of s.prefixes y.0) (form_of s.prefixes z.0))
+      (expr.Range y.0 z.0)
   unfolding operators.operated_by operators.combined
   range_means y z = once_so level.Ranges plain_ranges left_ranges key.ToWord y z _ refl
 
   pub union_means : (y z : (e : Expr) × P s e)
-      → Means s (left level.Unions key.UnionWord (form_of s.prefixes y.0) (form_of s.prefixes z.0)) (expr.Union y.0 z.0)
+      → Means s (left level.Unions key.UnionWord (form_of s.prefixes y.0) (form_of s.prefixes
+      z.0)) (expr.Union y.0 z.0)
   unfolding operators.operated_by operators.combined
   union_means y z = left_so level.Unions plain_unions left_unions key.UnionWord y z _ refl
 
   pub intersect_means : (y z : (e : Expr) × P s e)
-      → Means s (left level.Crosses key.IntersectWord (form_of s.prefixes y.0) (form_of s.prefixes z.0))
+      → Means s (left level.Crosses key.IntersectWord (form_of s.prefixes y.0) (form_of
+      s.prefixes z.0))
       (expr.Intersect y.0 z.0)
   unfolding operators.operated_by operators.combined
-  intersect_means y z = left_so level.Crosses plain_crosses left_crosses key.IntersectWord y z _ refl
+  intersect_means y z = left_so level.Crosses plain_crosses left_crosses key.IntersectWord y z _
+      refl
 
   pub except_means : (y z : (e : Expr) × P s e)
-      → Means s (left level.Crosses key.ExceptWord (form_of s.prefixes y.0) (form_of s.prefixes z.0))
+      → Means s (left level.Crosses key.ExceptWord (form_of s.prefixes y.0) (form_of s.prefixes
+      z.0))
       (expr.Except y.0 z.0)
   unfolding operators.operated_by operators.combined
   except_means y z = left_so level.Crosses plain_crosses left_crosses key.ExceptWord y z _ refl

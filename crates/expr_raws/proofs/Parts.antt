@@ -43,5 +43,6 @@ module _ (s : Setting) where
   all_tails l plain k [] c = refl
   all_tails l plain k (y ∷ ys) c =
       let h = and_parts (form_of s.prefixes y.0).can (all_can (their ys)) c in
-      ap₂ (λ e es. e ∷ es) (ap expr_of (tail_means s l plain k (form_of s.prefixes y.0) y.0 (y.1 h.0)))
+      ap₂ (λ e es. e ∷ es) (ap expr_of (tail_means s l plain k (form_of s.prefixes y.0) y.0 (y.1
+      h.0)))
       (all_tails l plain k ys h.1)

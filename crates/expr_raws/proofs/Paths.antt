@@ -2,6 +2,7 @@
 use Rattle.std.proofs.Common.{◌≡◌, ℕ, List, [], ◌∷◌, ◌++◌, map, Bool, true, false, cond, refl}
 use Rattle.std.proofs.Common.{sym, ◌∙◌, ap, ap₂, subst, Option, Some, None, is_some}
 use Rattle.std.proofs.lemmas.Bool.{and_parts}
+use Rattle.std.proofs.Common.{◌&&◌}
 use Rattle.std.proofs.lemmas.Slice.Eq.{bytes_eq-Decides}
 use Rattle.std.specs.Str.{bytes_eq}
 use Rattle.xt_names.specs.declared.names.Binding.{Binding}
@@ -14,7 +15,8 @@ use Rattle.xt_types.specs.declared.node_tests.Test.{Test}
 use Rattle.xt_types.specs.declared.node_tests.Test.TheVariants as test
 use Rattle.xt_syntax.specs.declared.exprs.Expr.{Expr}
 use Rattle.xt_syntax.specs.declared.exprs.Expr.TheVariants as expr
-use Rattle.expr_names.specs.Names.{uri_in, name_test}
+use Rattle.expr_raws.specs.Names.{no_codes}
+use Rattle.expr_names.specs.Names.{uri_in, name_test, undeclared_in, test_broken}
 use Rattle.expr_terms.specs.declared.keys.Key.{Key}
 use Rattle.expr_terms.specs.declared.keys.Key.TheVariants as key
 use Rattle.expr_terms.specs.declared.tokens.Token.{Token}
@@ -73,7 +75,9 @@ pub name_is : (bound : List Binding) (default : List ℕ) (n : ExprName) (t : To
 unfolding written_of
 name_is bound default n t e =
     same_names (record { uri = uri_in bound default (written_in t); local = (written_in t).local })
-    n e
+    n (and_parts (bytes_eq (uri_in bound default (written_in t)) n.uri
+    && bytes_eq (written_in t).local n.local)
+    (no_codes (undeclared_in bound (written_in t))) e).0
 
 same_tests : (a b : NameTest) → same_test a b ≡ true → a ≡ b
 same_tests name.Any name.Any e = refl
@@ -85,9 +89,12 @@ same_tests _ _ e = absurd (cc)
 test_found : (bound : List Binding) (default : List ℕ) (on : Axis) (n : NameTest) (t : Token)
     → test_token bound default on n ≡ Some t
     → defaulted default on (name_test bound (written_test_in t)) ≡ n
-test_found bound default on n t e = same_tests (defaulted default on (name_test bound
-    (written_test_in t))) n
-    (first_sound (tests bound default on n) (test_spellings bound n) t e)
+test_found bound default on n t e =
+    let means : Bool =
+    same_test (defaulted default on (name_test bound (written_test_in t))) n in
+    same_tests (defaulted default on (name_test bound (written_test_in t))) n
+    (and_parts means (no_codes (test_broken bound (written_test_in t)))
+    (first_sound (tests bound default on n) (test_spellings bound n) t e)).0
 
 pub name_found : (bound : List Binding) (default : List ℕ) (n : ExprName) (t : Token)
     → name_token bound default n ≡ Some t → name_of bound default (meant.Token t) ≡ n

@@ -14,6 +14,10 @@ use Rattle.xt_types.specs.declared.types.ItemType.TheVariants as item
 use Rattle.xt_types.specs.declared.types.SeqType.{SeqType}
 use Rattle.xt_types.specs.declared.types.SeqType.TheVariants as sequence
 use Rattle.xt_syntax.specs.declared.exprs.Expr.{Expr}
+use Rattle.std.proofs.lemmas.Bool.{and_parts}
+use Rattle.expr_meant.specs.Names.{written_in}
+use Rattle.expr_names.specs.Names.{undeclared_in}
+use Rattle.expr_raws.specs.Names.{no_codes}
 use Rattle.expr_names.specs.Types.{type_or_any}
 use Rattle.expr_terms.specs.declared.keys.Key.{Key}
 use Rattle.expr_terms.specs.declared.keys.Key.TheVariants as key
@@ -58,8 +62,11 @@ atom_is k (Some a) e = same_atoms a k e
 
 type_found : (bound : List Binding) (k : AtomType) (t : Token) → type_token bound k ≡ Some t
     → type_of bound (meant.Token t) ≡ k
-type_found bound k t e = atom_is k (named_type bound (meant.Token t)) (first_sound (types bound k)
-    (map (λ (b : Binding). token.Qname b.prefix (local_name k)) bound) t e)
+type_found bound k t e = atom_is k (named_type bound (meant.Token t))
+    (and_parts (is_atom k (named_type bound (meant.Token t)))
+    (no_codes (undeclared_in bound (written_in t)))
+    (first_sound (types bound k)
+    (map (λ (b : Binding). token.Qname b.prefix (local_name k)) bound) t e)).0
 
 module _ (s : Setting) where
   -- as the type of an item, whatever is behind it
@@ -70,7 +77,11 @@ module _ (s : Setting) where
   of_meant : (m : Meant) (i : ItemType) (v : Raw) → value_of s v ≡ m
       → item_of s.prefixes.bound m ≡ i
       → sequence_of s.prefixes.bound m ≡ sequence.Of i count.One → ItemMeans i v
-  of_meant m i v h a b = (ap (item_of s.prefixes.bound) h ∙ a, ap (sequence_of s.prefixes.bound) h ∙ b)
+  of_meant m i v h a b = (
+    ap (item_of s.prefixes.bound) h
+        ∙ a,
+    ap (sequence_of s.prefixes.bound) h ∙ b,
+  )
 
   any_means : ItemMeans item.Any (node production.AnyItem [])
   unfolding is_chain family_of value_in control_value item_of sequence_of
@@ -94,8 +105,10 @@ module _ (s : Setting) where
       → ItemMeans i (item_form s.prefixes i).raw
   item_means item.Any c = any_means
   item_means (item.Kind (test.Named n)) c = absurd (cc)
-  item_means (item.Kind test.Node) c = kind_item test.Node _ (kind_means s axis.Child test.Node tt c)
-  item_means (item.Kind test.Text) c = kind_item test.Text _ (kind_means s axis.Child test.Text tt c)
+  item_means (item.Kind test.Node) c = kind_item test.Node _ (kind_means s axis.Child test.Node
+      tt c)
+  item_means (item.Kind test.Text) c = kind_item test.Text _ (kind_means s axis.Child test.Text
+      tt c)
   item_means (item.Kind test.Comment) c =
       kind_item test.Comment _ (kind_means s axis.Child test.Comment tt c)
   item_means (item.Kind test.Doc) c = kind_item test.Doc _ (kind_means s axis.Child test.Doc tt c)

@@ -37,7 +37,8 @@ module _ (s : Setting) where
   found-roll x = fold-roll-Raw _ _ x
 
   pub value_leaf : (t : Token) → value_of s (leaf t) ≡ meant.Token t
-  value_leaf t = ap (λ v. value_of s v) (sym (rolls-Leaf t)) ∙ ap (λ f. f.value) (found-roll (Leaf t))
+  value_leaf t = ap (λ v. value_of s v) (sym (rolls-Leaf t))
+      ∙ ap (λ f. f.value) (found-roll (Leaf t))
 
   values_are : (vs : List Raw) → values (map (found_of s) vs) ≡ map (value_of s) vs
   values_are [] = refl

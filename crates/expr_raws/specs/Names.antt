@@ -7,7 +7,8 @@ use Rattle.xt_names.specs.declared.names.ExprName.{ExprName}
 use Rattle.xt_types.specs.declared.axes.Axis.{Axis}
 use Rattle.xt_types.specs.declared.node_tests.NameTest.{NameTest}
 use Rattle.xt_types.specs.declared.node_tests.NameTest.TheVariants as name
-use Rattle.expr_names.specs.Names.{uri_in, name_test}
+use Rattle.xt_names.specs.declared.codes.Code.{Code}
+use Rattle.expr_names.specs.Names.{uri_in, name_test, undeclared_in, test_broken}
 use Rattle.expr_terms.specs.declared.keys.Key.TheVariants as key
 use Rattle.expr_terms.specs.declared.tokens.Token.{Token}
 use Rattle.expr_terms.specs.declared.tokens.Token.TheVariants as token
@@ -26,10 +27,15 @@ spellings bound local = word_term local ∷ map (λ (b : Binding). token.Qname b
 abbrev pub same_name : ExprName → ExprName → Bool
 same_name a b = bytes_eq a.uri b.uri && bytes_eq a.local b.local
 
--- whether the token means the name, where names without a prefix have this uri
+abbrev pub no_codes : List Code → Bool
+no_codes [] = true
+no_codes (c ∷ cs) = false
+
+-- whether the token means the name, where names without a prefix have this uri, and its prefix is
+-- declared
 abbrev pub names : List Binding → List ℕ → ExprName → Token → Bool
-names bound default n t = bytes_eq (uri_in bound default (written_in t)) n.uri
-    && bytes_eq (written_in t).local n.local
+names bound default n t = (bytes_eq (uri_in bound default (written_in t)) n.uri
+    && bytes_eq (written_in t).local n.local) && no_codes (undeclared_in bound (written_in t))
 
 abbrev pub name_token : List Binding → List ℕ → ExprName → Option Token
 name_token bound default n = first_that (names bound default n) (spellings bound n.local)
@@ -51,6 +57,7 @@ test_spellings bound (name.Exact n) = spellings bound n.local
 abbrev pub tests : List Binding → List ℕ → Axis → NameTest → Token → Bool
 tests bound default on n t =
     same_test (defaulted default on (name_test bound (written_test_in t))) n
+    && no_codes (test_broken bound (written_test_in t))
 
 abbrev pub test_token : List Binding → List ℕ → Axis → NameTest → Option Token
 test_token bound default on n = first_that (tests bound default on n) (test_spellings bound n)

@@ -7,6 +7,9 @@ use Rattle.xt_syntax.specs.declared.exprs.Clause.TheOpen.{After, Range, Arith, M
 use Rattle.xt_syntax.specs.declared.exprs.Clause.TheOpen.{Intersect, Except, Filter}
 use Rattle.xt_syntax.specs.declared.exprs.Clause.TheOpen.{Var, Call, Step, Slash}
 use Rattle.xt_syntax.specs.declared.exprs.Clause.TheOpen.{InstanceOf, Treat, Castable, Cast}
+use Rattle.xt_syntax.specs.declared.exprs.Clause.TheOpen.{DocC, TextC, CommentC}
+use Rattle.expr_terms.specs.declared.keys.Key.{Key}
+use Rattle.expr_raws.specs.Operators.{key_leaf}
 use Rattle.xt_syntax.specs.declared.prefixes.Prefixes.{Prefixes}
 use Rattle.xt_syntax.specs.Layers.{Kinds, Steps, ExprLayer, expr_gives}
 use Rattle.expr_terms.specs.declared.keys.Key.TheVariants as key
@@ -32,6 +35,14 @@ filtered a (p ∷ ps) = record {
   raw = node production.FilterStep (at primary a ∷ all_at list (p ∷ ps));
   place = step;
   can = a.can && all_can (p ∷ ps);
+}
+
+-- document { a }, text { a }, comment { a }
+abbrev pub enclosing : Key → Form → Form
+enclosing k a = record {
+  raw = node production.Enclosing (key_leaf k ∷ at list a ∷ []);
+  place = primary;
+  can = a.can;
 }
 
 abbrev pub forms : Kinds
@@ -73,6 +84,9 @@ form_step p (InstanceOf a t) = of_type level.Instances a (sequence_form p t)
 form_step p (Treat a t) = of_type level.Treats a (sequence_form p t)
 form_step p (Castable a k empty) = of_type level.Castables a (single_form p k empty)
 form_step p (Cast a k empty) = of_type level.Casts a (single_form p k empty)
+form_step p (DocC a) = enclosing key.DocumentWord a
+form_step p (TextC a) = enclosing key.TextWord a
+form_step p (CommentC a) = enclosing key.CommentWord a
 form_step p (Var n) = variable p n
 form_step p (Call n fs) = call p n fs
 form_step p (Step on t fs) = stepped p on t fs

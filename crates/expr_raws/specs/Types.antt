@@ -25,7 +25,9 @@ use Rattle.expr_meant.specs.declared.meant.Meant.TheVariants as meant
 use Rattle.expr_rules.specs.Known.{named_type}
 use Rattle.expr_raws.specs.Forms.{Form, of_level, below, at}
 use Rattle.expr_raws.specs.Operators.{key_leaf, nothing}
-use Rattle.expr_raws.specs.Names.{first_that}
+use Rattle.expr_meant.specs.Names.{written_in}
+use Rattle.expr_names.specs.Names.{undeclared_in}
+use Rattle.expr_raws.specs.Names.{first_that, no_codes}
 use Rattle.expr_raws.specs.Paths.{with_token, test_of, leaf_test, test_form}
 
 abbrev pub local_name : AtomType → List ℕ
@@ -49,9 +51,10 @@ abbrev pub is_atom : AtomType → Option AtomType → Bool
 is_atom k None = false
 is_atom k (Some a) = same_atom a k
 
--- whether the token names the atomic type
+-- whether the token names the atomic type, and its prefix is declared
 abbrev pub types : List Binding → AtomType → Token → Bool
-types bound k t = is_atom k (named_type bound (meant.Token t))
+types bound k t =
+    is_atom k (named_type bound (meant.Token t)) && no_codes (undeclared_in bound (written_in t))
 
 abbrev pub type_token : List Binding → AtomType → Option Token
 type_token bound k = first_that (types bound k)

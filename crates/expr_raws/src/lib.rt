@@ -2,8 +2,8 @@
 //! (XPath 2.0, A.4). Definitions and a law alone.
 //!
 //! `specs/Raws` has the raw value of each expression whose forms are literals, variables, calls,
-//! paths, filters, operators, also on types, and lists, under prefixes, and says which can be printed. The law says that the raw
-//! value means the expression.
+//! paths, filters, lists and operators, also on types, and says which of them can be printed under
+//! prefixes. The law says that the raw value means the expression.
 #![tactic(auto)]
 
 ghost use Rattle.std.specs.Prelude.{◌≡◌, true};
