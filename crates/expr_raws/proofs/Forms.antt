@@ -77,6 +77,16 @@ use Rattle.expr_meant.specs.Parts.{key_of, key_in, expr_or}
 use Rattle.expr_raws.specs.Operators.{key_leaf}
 use Rattle.expr_raws.proofs.Values.{at_means}
 use Rattle.expr_terms.specs.declared.keys.Key.TheVariants as key
+use Rattle.xt_syntax.specs.declared.exprs.Clause.TheOpen.{If, Arm-F}
+use Rattle.xt_syntax.specs.declared.exprs.Clause.TheViews.{roll-Arm}
+use Rattle.xt_syntax.specs.declared.exprs.Clause.TheFolds.{fold-roll-Arm, map-Arm}
+use Rattle.xt_syntax.specs.declared.exprs.Expr.TheVariants.{rolls-If}
+use Rattle.xt_syntax.specs.Layers.{ArmLayer}
+use Rattle.std.proofs.Common.{◌&&◌, map}
+use Rattle.expr_terms.specs.Raws.{as_inner_chain}
+use Rattle.expr_terms.specs.declared.raws.Raw.TheViews.{out-Raw}
+use Rattle.expr_raws.specs.Operators.{ArmForm, conditional, has_arms, arms_can}
+use Rattle.expr_raws.proofs.Conditionals.{ArmMeans, conditional_means}
 use Rattle.expr_raws.proofs.Parts.{Means, P, bare, their, all_mean}
 use Rattle.expr_raws.proofs.Operators.{plain_compares}
 use Rattle.expr_raws.proofs.Operators.{left_compares}
@@ -86,13 +96,13 @@ use Rattle.expr_raws.proofs.Operators.{once_so, general_is, value_is}
 use Rattle.expr_raws.proofs.Operators.{arithmetic_means, is_means, before_means, after_means}
 use Rattle.expr_raws.proofs.Operators.{range_means, union_means, intersect_means, except_means}
 
-abbrev pairs : (Expr → Type 0) → Kinds
-pairs P = record {
+abbrev pairs : (Expr → Type 0) → (Arm → Type 0) → Kinds
+pairs P Q = record {
   Clauses = Clause × Unit {0};
   Exprs = (e : Expr) × P e;
   Names = NameSource × Unit {0};
   Parts = Part × Unit {0};
-  Arms = Arm × Unit {0};
+  Arms = (a : Arm) × Q a;
   Binds = Bind × Unit {0};
   Attrs = DirectAttr × Unit {0};
   Flwors = FlworOf × Unit {0};
@@ -102,9 +112,17 @@ pairs P = record {
 abbrev Layer : Type 0
 Layer = Expr-F Clause Expr NameSource Part Arm Bind DirectAttr FlworOf Order
 
-abbrev plain : (P : Expr → Type 0) → ExprLayer (pairs P) → Layer
-plain P = map-Expr (pairs P).Clauses (pairs P).Exprs (pairs P).Names (pairs P).Parts
-    (pairs P).Arms (pairs P).Binds (pairs P).Attrs (pairs P).Flwors (pairs P).Orders
+abbrev plain : (P : Expr → Type 0) (Q : Arm → Type 0) → ExprLayer (pairs P Q) → Layer
+plain P Q = map-Expr (pairs P Q).Clauses (pairs P Q).Exprs (pairs P Q).Names (pairs P Q).Parts
+    (pairs P Q).Arms (pairs P Q).Binds (pairs P Q).Attrs (pairs P Q).Flwors (pairs P Q).Orders
+    Clause Expr NameSource Part Arm Bind DirectAttr FlworOf Order
+    (λ p. p.0) (λ p. p.0) (λ p. p.0) (λ p. p.0) (λ p. p.0) (λ p. p.0) (λ p. p.0) (λ p. p.0)
+    (λ p. p.0)
+
+abbrev plain_arm : (P : Expr → Type 0) (Q : Arm → Type 0) → ArmLayer (pairs P Q)
+    → Arm-F Clause Expr NameSource Part Arm Bind DirectAttr FlworOf Order
+plain_arm P Q = map-Arm (pairs P Q).Clauses (pairs P Q).Exprs (pairs P Q).Names (pairs P Q).Parts
+    (pairs P Q).Arms (pairs P Q).Binds (pairs P Q).Attrs (pairs P Q).Flwors (pairs P Q).Orders
     Clause Expr NameSource Part Arm Bind DirectAttr FlworOf Order
     (λ p. p.0) (λ p. p.0) (λ p. p.0) (λ p. p.0) (λ p. p.0) (λ p. p.0) (λ p. p.0) (λ p. p.0)
     (λ p. p.0)
@@ -122,7 +140,18 @@ gives p x = form_step p (map-Expr Clause Expr NameSource Part Arm Bind DirectAtt
 rolled : (p : Prefixes) (x : Layer) → form_of p (roll-Expr x) ≡ gives p x
 rolled p x = fold-roll-Expr _ _ _ _ _ _ _ _ _ _ _ _ _ _ _ _ _ _ x
 
+abbrev arm_form : Prefixes → Arm → ArmForm
+arm_form p a = arm_gives forms (form_steps p) a
+
+rolled_arm : (p : Prefixes) (x : Arm-F Clause Expr NameSource Part Arm Bind DirectAttr FlworOf
+    Order) → arm_form p (roll-Arm x)
+    ≡ record { test = form_of p x.test; first = form_of p x.then }
+rolled_arm p x = fold-roll-Arm _ _ _ _ _ _ _ _ _ _ _ _ _ _ _ _ _ _ x
+
 module _ (s : Setting) where
+  abbrev Q : Arm → Type 0
+  Q a = ArmMeans s (arm_form s.prefixes a) a
+
   int_means : (n : ℤ) → value_of s (node production.Number (leaf (token.Digits n) ∷ []))
       ≡ meant.Expr (expr.Int n)
   unfolding is_chain family_of value_in path_value primaries.literal_of primaries.literal_in
@@ -251,8 +280,21 @@ module _ (s : Setting) where
   unfolding enclosing_by
   comment_means y c = enclosing_means key.CommentWord y (expr.CommentC y.0) refl c
 
-  one : (y : ExprLayer (pairs (P s))) → Means s (gives s.prefixes (plain (P s) y)) (roll-Expr
-      (plain (P s) y))
+  if_means : (arms : List ((a : Arm) × Q a)) (y : (e : Expr) × P s e)
+      → Means s (conditional (map (arm_form s.prefixes) (map (λ a. a.0) arms))
+      (form_of s.prefixes y.0)) (expr.If (map (λ a. a.0) arms) y.0)
+  if_means arms y c =
+      let fs : List ArmForm = map (arm_form s.prefixes) (map (λ a. a.0) arms) in
+      let f = form_of s.prefixes y.0 in
+      let last : Bool = not (is_some (as_inner_chain (out-Raw (at single f)))) in
+      let h = and_parts (has_arms fs) (arms_can fs && (f.can && last)) c in
+      let i = and_parts (arms_can fs) (f.can && last) h.1 in
+      let j = and_parts f.can last i.1 in
+      conditional_means s Q (arm_form s.prefixes) (λ a m. m) arms (at single f) y.0 i.0
+      (at_means s single f y.0 (y.1 j.0))
+
+  one : (y : ExprLayer (pairs (P s) Q)) → Means s (gives s.prefixes (plain (P s) Q y)) (roll-Expr
+      (plain (P s) Q y))
   one (Int n) c = int_means n ∙ ap (λ e. meant.Expr e) (sym (rolls-Int n))
   one (Str cs) c = str_means cs ∙ ap (λ e. meant.Expr e) (sym (rolls-Str cs))
   one Context c = context_means ∙ ap (λ e. meant.Expr e) (sym rolls-Context)
@@ -290,6 +332,8 @@ module _ (s : Setting) where
   one (DocC y) c = document_means y c ∙ ap (λ e. meant.Expr e) (sym (rolls-DocC y.0))
   one (TextC y) c = text_means y c ∙ ap (λ e. meant.Expr e) (sym (rolls-TextC y.0))
   one (CommentC y) c = comment_means y c ∙ ap (λ e. meant.Expr e) (sym (rolls-CommentC y.0))
+  one (If arms y) c = if_means arms y c
+      ∙ ap (λ e. meant.Expr e) (sym (rolls-If (map (λ a. a.0) arms) y.0))
   one (Var n) c = variable_means s n c ∙ ap (λ e. meant.Expr e) (sym (rolls-Var n))
   one (Call n ys) c =
       called_means n ys _ refl c ∙ ap (λ e. meant.Expr e) (sym (rolls-Call n (bare s ys)))
@@ -298,11 +342,16 @@ module _ (s : Setting) where
   one (Slash y z) c = slash_means y z c ∙ ap (λ e. meant.Expr e) (sym (rolls-Slash y.0 z.0))
   one _ c = absurd (cc)
 
+  arm_step : (x : Arm-F Clause Expr NameSource Part Arm Bind DirectAttr FlworOf Order)
+      (y : ArmLayer (pairs (P s) Q)) → plain_arm (P s) Q y ≡ x → Q (roll-Arm x)
+  arm_step x y is = rw (← is, rolled_arm s.prefixes (plain_arm (P s) Q y))
+      (record { test = y.test.1; first = y.then.1 })
+
   pub printable_means : (e : Expr) → P s e
-  printable_means = ind-Expr (λ _. Unit {0}) (P s) (λ _. Unit {0}) (λ _. Unit {0}) (λ _. Unit {0})
+  printable_means = ind-Expr (λ _. Unit {0}) (P s) (λ _. Unit {0}) (λ _. Unit {0}) Q
       (λ _. Unit {0}) (λ _. Unit {0}) (λ _. Unit {0}) (λ _. Unit {0}) (λ x y is. tt)
       (λ x y is. subst (λ z. Means s (form_of s.prefixes (roll-Expr z)) (roll-Expr z)) is
-      (subst (λ f. Means s f (roll-Expr (plain (P s) y))) (sym (rolled s.prefixes (plain (P s)
-      y))) (one y)))
-      (λ x y is. tt) (λ x y is. tt) (λ x y is. tt) (λ x y is. tt) (λ x y is. tt) (λ x y is. tt)
+      (subst (λ f. Means s f (roll-Expr (plain (P s) Q y)))
+      (sym (rolled s.prefixes (plain (P s) Q y))) (one y)))
+      (λ x y is. tt) (λ x y is. tt) arm_step (λ x y is. tt) (λ x y is. tt) (λ x y is. tt)
       (λ x y is. tt)

@@ -1,6 +1,7 @@
 pub mod Values
 pub mod Paths
 pub mod Types
+pub mod Conditionals
 pub mod Parts
 pub mod Operators
 pub mod Forms

@@ -1,6 +1,7 @@
 -- Operators, lists and conditionals as raw values (XPath 2.0, 3.3 to 3.8).
 use Rattle.std.specs.Prelude.{Bool, true, false, ◌&&◌, List, [], ◌∷◌, ◌++◌, map}
-use Rattle.std.specs.Prelude.{nat_eq, if◌then◌else◌}
+use Rattle.std.specs.Prelude.{nat_eq, if◌then◌else◌, not, reverse, is_some}
+use Rattle.expr_terms.specs.Raws.{as_inner_chain}
 use Rattle.xt_names.specs.declared.kinds.CompareOp.{CompareOp}
 use Rattle.xt_names.specs.declared.kinds.CompareOp.TheVariants as compare
 use Rattle.xt_names.specs.declared.kinds.ArithOp.{ArithOp}
@@ -109,3 +110,29 @@ arithmetic arith.Sub a b = left level.Adds key.Minus a b
 arithmetic arith.Mul a b = left level.Multiplies key.Star a b
 arithmetic arith.Idiv a b = left level.Multiplies key.IdivWord a b
 arithmetic arith.Mod a b = left level.Multiplies key.ModWord a b
+
+-- `if (test) then first`
+pub record ArmForm : Type 0 where
+  pub test : Form
+  pub first : Form
+
+abbrev pub arm_parts : List ArmForm → Raw → List Raw
+arm_parts [] v = v ∷ []
+arm_parts (a ∷ arms) v = at list a.test ∷ at single a.first ∷ arm_parts arms v
+
+abbrev pub arms_can : List ArmForm → Bool
+arms_can [] = true
+arms_can (a ∷ arms) = a.test.can && (a.first.can && arms_can arms)
+
+abbrev pub has_arms : List ArmForm → Bool
+has_arms [] = false
+has_arms (a ∷ arms) = true
+
+-- A conditional has its parts in reverse order; what stands behind its last `else` is none.
+abbrev pub conditional : List ArmForm → Form → Form
+conditional arms e = record {
+  raw = node production.Conditional (reverse (arm_parts arms (at single e)));
+  place = single;
+  can = has_arms arms && (arms_can arms
+      && (e.can && not (is_some (as_inner_chain (out-Raw (at single e))))));
+}

@@ -1,4 +1,5 @@
--- Expressions as raw values: literals, variables, calls, paths, filters, operators and lists.
+-- Expressions as raw values: all forms but quantifiers, FLWOR
+-- expressions and constructors with names.
 use Rattle.std.specs.Prelude.{pos, int_le, Bool, true, ◌&&◌, List, [], ◌∷◌}
 use Rattle.xt_syntax.specs.declared.exprs.Expr.{Expr}
 use Rattle.xt_syntax.specs.declared.exprs.Clause.TheOpen.{Int, Str, Context, Root, Comma}
@@ -7,7 +8,7 @@ use Rattle.xt_syntax.specs.declared.exprs.Clause.TheOpen.{After, Range, Arith, M
 use Rattle.xt_syntax.specs.declared.exprs.Clause.TheOpen.{Intersect, Except, Filter}
 use Rattle.xt_syntax.specs.declared.exprs.Clause.TheOpen.{Var, Call, Step, Slash}
 use Rattle.xt_syntax.specs.declared.exprs.Clause.TheOpen.{InstanceOf, Treat, Castable, Cast}
-use Rattle.xt_syntax.specs.declared.exprs.Clause.TheOpen.{DocC, TextC, CommentC}
+use Rattle.xt_syntax.specs.declared.exprs.Clause.TheOpen.{DocC, TextC, CommentC, If}
 use Rattle.expr_terms.specs.declared.keys.Key.{Key}
 use Rattle.expr_raws.specs.Operators.{key_leaf}
 use Rattle.xt_syntax.specs.declared.prefixes.Prefixes.{Prefixes}
@@ -22,6 +23,7 @@ use Rattle.expr_terms.specs.declared.raws.Raw.TheVariants.{Leaf as leaf, Node as
 use Rattle.expr_raws.specs.Forms.{Form, primary, step, list, at, all_at, all_can}
 use Rattle.expr_raws.specs.Operators.{once, left, nothing, many, listed, signed, compare_key}
 use Rattle.expr_raws.specs.Operators.{value_key, arithmetic}
+use Rattle.expr_raws.specs.Operators.{ArmForm, conditional}
 use Rattle.expr_raws.specs.Paths.{variable, call, stepped, slashed}
 use Rattle.expr_raws.specs.Types.{sequence_form, of_type, single_form}
 
@@ -51,7 +53,7 @@ forms = record {
   Exprs = Form;
   Names = Unit {0};
   Parts = Unit {0};
-  Arms = Unit {0};
+  Arms = ArmForm;
   Binds = Unit {0};
   Attrs = Unit {0};
   Flwors = Unit {0};
@@ -67,6 +69,7 @@ form_step p Root = leaf_form production.Parens true (node production.Rooted [] �
 form_step p (Comma fs) = listed fs
 form_step p (Or fs) = many level.Ors key.OrWord fs
 form_step p (And fs) = many level.Ands key.AndWord fs
+form_step p (If arms e) = conditional arms e
 form_step p (General op a b) = once level.Compares (compare_key op) a b
 form_step p (Value op a b) = once level.Compares (value_key op) a b
 form_step p (Is a b) = once level.Compares key.IsWord a b
@@ -99,7 +102,7 @@ form_steps p = record {
   of_clause = λ x. tt;
   of_name = λ x. tt;
   of_part = λ x. tt;
-  of_arm = λ x. tt;
+  of_arm = λ a. record { test = a.test; first = a.then };
   of_bind = λ x. tt;
   of_attr = λ x. tt;
   of_flwor = λ x. tt;
@@ -114,7 +117,7 @@ abbrev pub raw_of : Prefixes → Expr → Raw
 raw_of p e = (form_of p e).raw
 
 -- Whether it can be printed: all of its forms are among those above, integers have no sign, lists
--- other than `()`, `or` and `and` have two parts or more, filters have predicates, calls are of no
--- atomic types, and each name has a prefix, or is as a name without one there.
+-- other than `()`, `or` and `and` have two parts or more, filters have predicates, conditionals have
+-- arms and end in none, calls are of no atomic types, and each name and type has a token.
 abbrev pub is_printable : Prefixes → Expr → Bool
 is_printable p e = (form_of p e).can

@@ -1,9 +1,9 @@
 //! Expressions as raw values, with parentheses only where the levels of operators need them
 //! (XPath 2.0, A.4). Definitions and a law alone.
 //!
-//! `specs/Raws` has the raw value of each expression whose forms are literals, variables, calls,
-//! paths, filters, lists and operators, also on types, and says which of them can be printed under
-//! prefixes. The law says that the raw value means the expression.
+//! `specs/Raws` has the raw value of each expression under prefixes, and says which can be printed:
+//! all forms but quantifiers, FLWOR expressions and constructors with names. The law says that the
+//! raw value means the expression.
 #![tactic(auto)]
 
 ghost use Rattle.std.specs.Prelude.{◌≡◌, true};
