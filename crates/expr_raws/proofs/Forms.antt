@@ -87,6 +87,16 @@ use Rattle.expr_terms.specs.Raws.{as_inner_chain}
 use Rattle.expr_terms.specs.declared.raws.Raw.TheViews.{out-Raw}
 use Rattle.expr_raws.specs.Operators.{ArmForm, conditional, has_arms, arms_can}
 use Rattle.expr_raws.proofs.Conditionals.{ArmMeans, conditional_means}
+use Rattle.xt_syntax.specs.declared.exprs.Clause.TheOpen.{ElemC, AttrC, PiC, Fixed, Computed}
+use Rattle.xt_syntax.specs.declared.exprs.Clause.TheOpen.{NameSource-F}
+use Rattle.xt_syntax.specs.declared.exprs.Clause.TheViews.{roll-NameSource}
+use Rattle.xt_syntax.specs.declared.exprs.Clause.TheFolds.{fold-roll-NameSource, map-NameSource}
+use Rattle.xt_syntax.specs.declared.exprs.Expr.TheVariants.{rolls-ElemC, rolls-AttrC, rolls-PiC}
+use Rattle.xt_syntax.specs.declared.exprs.NameSource.TheVariants.{rolls-Fixed, rolls-Computed}
+use Rattle.xt_syntax.specs.Layers.{NameLayer}
+use Rattle.expr_raws.specs.Makers.{NameForm}
+use Rattle.expr_raws.specs.Raws.{name_step}
+use Rattle.expr_raws.proofs.Makers.{NameMeans, element_means, attribute_means, instruction_means}
 use Rattle.expr_raws.proofs.Parts.{Means, P, bare, their, all_mean}
 use Rattle.expr_raws.proofs.Operators.{plain_compares}
 use Rattle.expr_raws.proofs.Operators.{left_compares}
@@ -96,11 +106,11 @@ use Rattle.expr_raws.proofs.Operators.{once_so, general_is, value_is}
 use Rattle.expr_raws.proofs.Operators.{arithmetic_means, is_means, before_means, after_means}
 use Rattle.expr_raws.proofs.Operators.{range_means, union_means, intersect_means, except_means}
 
-abbrev pairs : (Expr → Type 0) → (Arm → Type 0) → Kinds
-pairs P Q = record {
+abbrev pairs : (Expr → Type 0) → (Arm → Type 0) → (NameSource → Type 0) → Kinds
+pairs P Q N = record {
   Clauses = Clause × Unit {0};
   Exprs = (e : Expr) × P e;
-  Names = NameSource × Unit {0};
+  Names = (n : NameSource) × N n;
   Parts = Part × Unit {0};
   Arms = (a : Arm) × Q a;
   Binds = Bind × Unit {0};
@@ -112,17 +122,33 @@ pairs P Q = record {
 abbrev Layer : Type 0
 Layer = Expr-F Clause Expr NameSource Part Arm Bind DirectAttr FlworOf Order
 
-abbrev plain : (P : Expr → Type 0) (Q : Arm → Type 0) → ExprLayer (pairs P Q) → Layer
-plain P Q = map-Expr (pairs P Q).Clauses (pairs P Q).Exprs (pairs P Q).Names (pairs P Q).Parts
-    (pairs P Q).Arms (pairs P Q).Binds (pairs P Q).Attrs (pairs P Q).Flwors (pairs P Q).Orders
+abbrev plain : (P : Expr → Type 0) (Q : Arm → Type 0) (N : NameSource → Type 0)
+    → ExprLayer (pairs P Q N) → Layer
+plain P Q N = map-Expr (pairs P Q N).Clauses (pairs P Q N).Exprs (pairs P Q N).Names (pairs P Q
+    N).Parts
+    (pairs P Q N).Arms (pairs P Q N).Binds (pairs P Q N).Attrs (pairs P Q N).Flwors (pairs P Q
+    N).Orders
     Clause Expr NameSource Part Arm Bind DirectAttr FlworOf Order
     (λ p. p.0) (λ p. p.0) (λ p. p.0) (λ p. p.0) (λ p. p.0) (λ p. p.0) (λ p. p.0) (λ p. p.0)
     (λ p. p.0)
 
-abbrev plain_arm : (P : Expr → Type 0) (Q : Arm → Type 0) → ArmLayer (pairs P Q)
+abbrev plain_arm : (P : Expr → Type 0) (Q : Arm → Type 0) (N : NameSource → Type 0)
+    → ArmLayer (pairs P Q N)
     → Arm-F Clause Expr NameSource Part Arm Bind DirectAttr FlworOf Order
-plain_arm P Q = map-Arm (pairs P Q).Clauses (pairs P Q).Exprs (pairs P Q).Names (pairs P Q).Parts
-    (pairs P Q).Arms (pairs P Q).Binds (pairs P Q).Attrs (pairs P Q).Flwors (pairs P Q).Orders
+plain_arm P Q N = map-Arm (pairs P Q N).Clauses (pairs P Q N).Exprs (pairs P Q N).Names (pairs P
+    Q N).Parts
+    (pairs P Q N).Arms (pairs P Q N).Binds (pairs P Q N).Attrs (pairs P Q N).Flwors (pairs P Q
+    N).Orders
+    Clause Expr NameSource Part Arm Bind DirectAttr FlworOf Order
+    (λ p. p.0) (λ p. p.0) (λ p. p.0) (λ p. p.0) (λ p. p.0) (λ p. p.0) (λ p. p.0) (λ p. p.0)
+    (λ p. p.0)
+
+abbrev plain_name : (P : Expr → Type 0) (Q : Arm → Type 0) (N : NameSource → Type 0)
+    → NameLayer (pairs P Q N)
+    → NameSource-F Clause Expr NameSource Part Arm Bind DirectAttr FlworOf Order
+plain_name P Q N = map-NameSource (pairs P Q N).Clauses (pairs P Q N).Exprs (pairs P Q N).Names
+    (pairs P Q N).Parts (pairs P Q N).Arms (pairs P Q N).Binds (pairs P Q N).Attrs
+    (pairs P Q N).Flwors (pairs P Q N).Orders
     Clause Expr NameSource Part Arm Bind DirectAttr FlworOf Order
     (λ p. p.0) (λ p. p.0) (λ p. p.0) (λ p. p.0) (λ p. p.0) (λ p. p.0) (λ p. p.0) (λ p. p.0)
     (λ p. p.0)
@@ -148,9 +174,30 @@ rolled_arm : (p : Prefixes) (x : Arm-F Clause Expr NameSource Part Arm Bind Dire
     ≡ record { test = form_of p x.test; first = form_of p x.then }
 rolled_arm p x = fold-roll-Arm _ _ _ _ _ _ _ _ _ _ _ _ _ _ _ _ _ _ x
 
+abbrev name_form : Prefixes → NameSource → NameForm
+name_form p n = name_gives forms (form_steps p) n
+
+abbrev gives_name : Prefixes
+    → NameSource-F Clause Expr NameSource Part Arm Bind DirectAttr FlworOf Order → NameForm
+gives_name p x = name_step (map-NameSource Clause Expr NameSource Part Arm Bind DirectAttr
+    FlworOf Order forms.Clauses forms.Exprs forms.Names forms.Parts forms.Arms forms.Binds
+    forms.Attrs forms.Flwors forms.Orders (clause_gives forms (form_steps p)) (form_of p)
+    (name_gives forms (form_steps p)) (part_gives forms (form_steps p))
+    (arm_gives forms (form_steps p)) (bind_gives forms (form_steps p))
+    (attr_gives forms (form_steps p)) (flwor_gives forms (form_steps p))
+    (order_gives forms (form_steps p)) x)
+
+rolled_name : (p : Prefixes)
+    (x : NameSource-F Clause Expr NameSource Part Arm Bind DirectAttr FlworOf Order)
+    → name_form p (roll-NameSource x) ≡ gives_name p x
+rolled_name p x = fold-roll-NameSource _ _ _ _ _ _ _ _ _ _ _ _ _ _ _ _ _ _ x
+
 module _ (s : Setting) where
   abbrev Q : Arm → Type 0
   Q a = ArmMeans s (arm_form s.prefixes a) a
+
+  abbrev N : NameSource → Type 0
+  N n = NameMeans s (name_form s.prefixes n) n
 
   int_means : (n : ℤ) → value_of s (node production.Number (leaf (token.Digits n) ∷ []))
       ≡ meant.Expr (expr.Int n)
@@ -293,8 +340,9 @@ module _ (s : Setting) where
       conditional_means s Q (arm_form s.prefixes) (λ a m. m) arms (at single f) y.0 i.0
       (at_means s single f y.0 (y.1 j.0))
 
-  one : (y : ExprLayer (pairs (P s) Q)) → Means s (gives s.prefixes (plain (P s) Q y)) (roll-Expr
-      (plain (P s) Q y))
+  one : (y : ExprLayer (pairs (P s) Q N)) → Means s (gives s.prefixes (plain (P s) Q N y))
+      (roll-Expr
+      (plain (P s) Q N y))
   one (Int n) c = int_means n ∙ ap (λ e. meant.Expr e) (sym (rolls-Int n))
   one (Str cs) c = str_means cs ∙ ap (λ e. meant.Expr e) (sym (rolls-Str cs))
   one Context c = context_means ∙ ap (λ e. meant.Expr e) (sym rolls-Context)
@@ -329,6 +377,12 @@ module _ (s : Setting) where
   one (Castable y k b) c =
       castable_means y k b c ∙ ap (λ e. meant.Expr e) (sym (rolls-Castable y.0 k b))
   one (Cast y k b) c = cast_means y k b c ∙ ap (λ e. meant.Expr e) (sym (rolls-Cast y.0 k b))
+  one (ElemC n y) c = element_means s (name_form s.prefixes n.0) (form_of s.prefixes y.0) n.0 y.0
+      n.1 y.1 c ∙ ap (λ e. meant.Expr e) (sym (rolls-ElemC n.0 y.0))
+  one (AttrC n y) c = attribute_means s (name_form s.prefixes n.0) (form_of s.prefixes y.0) n.0 y.0
+      n.1 y.1 c ∙ ap (λ e. meant.Expr e) (sym (rolls-AttrC n.0 y.0))
+  one (PiC n y) c = instruction_means s (name_form s.prefixes n.0) (form_of s.prefixes y.0) n.0 y.0
+      n.1 y.1 c ∙ ap (λ e. meant.Expr e) (sym (rolls-PiC n.0 y.0))
   one (DocC y) c = document_means y c ∙ ap (λ e. meant.Expr e) (sym (rolls-DocC y.0))
   one (TextC y) c = text_means y c ∙ ap (λ e. meant.Expr e) (sym (rolls-TextC y.0))
   one (CommentC y) c = comment_means y c ∙ ap (λ e. meant.Expr e) (sym (rolls-CommentC y.0))
@@ -343,15 +397,26 @@ module _ (s : Setting) where
   one _ c = absurd (cc)
 
   arm_step : (x : Arm-F Clause Expr NameSource Part Arm Bind DirectAttr FlworOf Order)
-      (y : ArmLayer (pairs (P s) Q)) → plain_arm (P s) Q y ≡ x → Q (roll-Arm x)
-  arm_step x y is = rw (← is, rolled_arm s.prefixes (plain_arm (P s) Q y))
+      (y : ArmLayer (pairs (P s) Q N)) → plain_arm (P s) Q N y ≡ x → Q (roll-Arm x)
+  arm_step x y is = rw (← is, rolled_arm s.prefixes (plain_arm (P s) Q N y))
       (record { test = y.test.1; first = y.then.1 })
 
+  one_name : (y : NameLayer (pairs (P s) Q N)) → NameMeans s
+      (gives_name s.prefixes (plain_name (P s) Q N y)) (roll-NameSource (plain_name (P s) Q N y))
+  one_name (Fixed n) = rolls-Fixed n
+  one_name (Computed y) = (y.0, rolls-Computed y.0, y.1)
+
+  name_means : (x : NameSource-F Clause Expr NameSource Part Arm Bind DirectAttr FlworOf Order)
+      (y : NameLayer (pairs (P s) Q N)) → plain_name (P s) Q N y ≡ x → N (roll-NameSource x)
+  name_means x y is = subst (λ z. N (roll-NameSource z)) is
+      (subst (λ f. NameMeans s f (roll-NameSource (plain_name (P s) Q N y)))
+      (sym (rolled_name s.prefixes (plain_name (P s) Q N y))) (one_name y))
+
   pub printable_means : (e : Expr) → P s e
-  printable_means = ind-Expr (λ _. Unit {0}) (P s) (λ _. Unit {0}) (λ _. Unit {0}) Q
+  printable_means = ind-Expr (λ _. Unit {0}) (P s) N (λ _. Unit {0}) Q
       (λ _. Unit {0}) (λ _. Unit {0}) (λ _. Unit {0}) (λ _. Unit {0}) (λ x y is. tt)
       (λ x y is. subst (λ z. Means s (form_of s.prefixes (roll-Expr z)) (roll-Expr z)) is
-      (subst (λ f. Means s f (roll-Expr (plain (P s) Q y)))
-      (sym (rolled s.prefixes (plain (P s) Q y))) (one y)))
-      (λ x y is. tt) (λ x y is. tt) arm_step (λ x y is. tt) (λ x y is. tt) (λ x y is. tt)
+      (subst (λ f. Means s f (roll-Expr (plain (P s) Q N y)))
+      (sym (rolled s.prefixes (plain (P s) Q N y))) (one y)))
+      name_means (λ x y is. tt) arm_step (λ x y is. tt) (λ x y is. tt) (λ x y is. tt)
       (λ x y is. tt)

@@ -140,29 +140,33 @@ module _ (s : Setting) where
       ∙ ap (λ x. test.Named x)
       (test_found s.prefixes.bound s.prefixes.element_default on n t e)
 
+  named_kind_means : (k : Key) (t : Token)
+      → value_of s (node production.NamedKind (key_leaf k ∷ leaf t ∷ []))
+      ≡ meant.Kind (named_kind_of s.prefixes.element_default k
+      (name_test_of s.prefixes.bound (meant.Token t)))
+  unfolding is_chain family_of value_in path_value key_of key_in
+  named_kind_means k t = value_node s production.NamedKind (key_leaf k ∷ leaf t ∷ [])
+      ∙ rw (value_leaf s (token.Key k), value_leaf s t) refl
+
   element_means : (n : NameTest) (o : Option Token)
       → test_token s.prefixes.bound s.prefixes.element_default axis.Child n ≡ o
       → (with_token o (named_test key.ElementWord)).can ≡ true
       → value_of s (with_token o (named_test key.ElementWord)).raw ≡ meant.Kind (test.Elem n)
-  unfolding is_chain family_of value_in path_value key_of key_in name_test_of named_kind_of defaulted
+  unfolding name_test_of named_kind_of defaulted
   element_means n None e c = absurd (cc)
   element_means n (Some t) e c =
-      value_node s production.NamedKind (key_leaf key.ElementWord ∷ leaf t ∷ [])
-      ∙ rw (value_leaf s (token.Key key.ElementWord), value_leaf s t)
-      (ap (λ x. meant.Kind (test.Elem x))
-      (test_found s.prefixes.bound s.prefixes.element_default axis.Child n t e))
+      named_kind_means key.ElementWord t ∙ ap (λ x. meant.Kind (test.Elem x))
+      (test_found s.prefixes.bound s.prefixes.element_default axis.Child n t e)
 
   attribute_means : (n : NameTest) (o : Option Token)
       → test_token s.prefixes.bound s.prefixes.element_default axis.Attribute n ≡ o
       → (with_token o (named_test key.AttributeWord)).can ≡ true
       → value_of s (with_token o (named_test key.AttributeWord)).raw ≡ meant.Kind (test.Attr n)
-  unfolding is_chain family_of value_in path_value key_of key_in name_test_of named_kind_of defaulted
+  unfolding name_test_of named_kind_of defaulted
   attribute_means n None e c = absurd (cc)
   attribute_means n (Some t) e c =
-      value_node s production.NamedKind (key_leaf key.AttributeWord ∷ leaf t ∷ [])
-      ∙ rw (value_leaf s (token.Key key.AttributeWord), value_leaf s t)
-      (ap (λ x. meant.Kind (test.Attr x))
-      (test_found s.prefixes.bound s.prefixes.element_default axis.Attribute n t e))
+      named_kind_means key.AttributeWord t ∙ ap (λ x. meant.Kind (test.Attr x))
+      (test_found s.prefixes.bound s.prefixes.element_default axis.Attribute n t e)
 
   any_pi_means : value_of s (node production.PiKind []) ≡ meant.Kind (test.Pi None)
   unfolding is_chain family_of value_in path_value

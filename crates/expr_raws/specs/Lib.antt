@@ -3,4 +3,5 @@ pub mod Operators
 pub mod Names
 pub mod Paths
 pub mod Types
+pub mod Makers
 pub mod Raws

@@ -1,5 +1,5 @@
--- Expressions as raw values: all forms but quantifiers, FLWOR
--- expressions and constructors with names.
+-- Expressions as raw values: all forms but quantifiers, FLWOR expressions and
+-- direct elements.
 use Rattle.std.specs.Prelude.{pos, int_le, Bool, true, ◌&&◌, List, [], ◌∷◌}
 use Rattle.xt_syntax.specs.declared.exprs.Expr.{Expr}
 use Rattle.xt_syntax.specs.declared.exprs.Clause.TheOpen.{Int, Str, Context, Root, Comma}
@@ -24,6 +24,9 @@ use Rattle.expr_raws.specs.Forms.{Form, primary, step, list, at, all_at, all_can
 use Rattle.expr_raws.specs.Operators.{once, left, nothing, many, listed, signed, compare_key}
 use Rattle.expr_raws.specs.Operators.{value_key, arithmetic}
 use Rattle.expr_raws.specs.Operators.{ArmForm, conditional}
+use Rattle.xt_syntax.specs.declared.exprs.Clause.TheOpen.{ElemC, AttrC, PiC, Fixed, Computed}
+use Rattle.xt_syntax.specs.Layers.{NameLayer}
+use Rattle.expr_raws.specs.Makers.{NameForm, fixed, computed, element, attribute, instruction}
 use Rattle.expr_raws.specs.Paths.{variable, call, stepped, slashed}
 use Rattle.expr_raws.specs.Types.{sequence_form, of_type, single_form}
 
@@ -51,7 +54,7 @@ abbrev pub forms : Kinds
 forms = record {
   Clauses = Unit {0};
   Exprs = Form;
-  Names = Unit {0};
+  Names = NameForm;
   Parts = Unit {0};
   Arms = ArmForm;
   Binds = Unit {0};
@@ -87,6 +90,9 @@ form_step p (InstanceOf a t) = of_type level.Instances a (sequence_form p t)
 form_step p (Treat a t) = of_type level.Treats a (sequence_form p t)
 form_step p (Castable a k empty) = of_type level.Castables a (single_form p k empty)
 form_step p (Cast a k empty) = of_type level.Casts a (single_form p k empty)
+form_step p (ElemC n a) = element p n a
+form_step p (AttrC n a) = attribute p n a
+form_step p (PiC n a) = instruction p n a
 form_step p (DocC a) = enclosing key.DocumentWord a
 form_step p (TextC a) = enclosing key.TextWord a
 form_step p (CommentC a) = enclosing key.CommentWord a
@@ -96,11 +102,15 @@ form_step p (Step on t fs) = stepped p on t fs
 form_step p (Slash a b) = slashed a b
 form_step p _ = nothing
 
+abbrev pub name_step : NameLayer forms → NameForm
+name_step (Fixed n) = fixed n
+name_step (Computed f) = computed f
+
 abbrev pub form_steps : Prefixes → Steps forms
 form_steps p = record {
   of_expr = form_step p;
   of_clause = λ x. tt;
-  of_name = λ x. tt;
+  of_name = name_step;
   of_part = λ x. tt;
   of_arm = λ a. record { test = a.test; first = a.then };
   of_bind = λ x. tt;

@@ -2,7 +2,7 @@
 //! (XPath 2.0, A.4). Definitions and a law alone.
 //!
 //! `specs/Raws` has the raw value of each expression under prefixes, and says which can be printed:
-//! all forms but quantifiers, FLWOR expressions and constructors with names. The law says that the
+//! all forms but quantifiers, FLWOR expressions and direct elements. The law says that the
 //! raw value means the expression.
 #![tactic(auto)]
 
