@@ -127,7 +127,7 @@ abbrev pub raw_of : Prefixes → Expr → Raw
 raw_of p e = (form_of p e).raw
 
 -- Whether it can be printed: all of its forms are among those above, integers have no sign, lists
--- other than `()`, `or` and `and` have two parts or more, filters have predicates, conditionals have
--- arms and end in none, calls are of no atomic types, and each name and type has a token.
+-- other than `()`, `or` and `and` have two parts or more, filters have predicates, conditionals
+-- have arms and end in none, calls are of no atomic types, and each name and type has a token.
 abbrev pub is_printable : Prefixes → Expr → Bool
 is_printable p e = (form_of p e).can
