@@ -1,0 +1,9 @@
+pub mod Places
+pub mod Built
+pub mod Begins
+pub mod Parts
+pub mod Chains
+pub mod Derive
+pub mod Follows
+pub mod Before
+pub mod Nodes
