@@ -25,6 +25,7 @@ use Rattle.operator_values.specs.Operands.{atom_of}
 use Rattle.outcomes.specs.Outcome.{Outcome, Ends, and_then, step_outcome, for_each}
 use Rattle.sort_meaning.specs.Sorted.{Placed}
 use Rattle.expr_meaning.specs.Env.{Program, Env, Group, Meaning}
+use Rattle.expr_meaning.specs.Documents.{document_in}
 use Rattle.expr_meaning.specs.Values.{of_focus}
 use Rattle.expr_meaning.specs.Paths.{root_place}
 
@@ -45,23 +46,25 @@ pub data Called : Type 0 where
   key : Called
   declared : Called
 
--- a function of the library of functions, by its local name
-abbrev pub is_fn : ExprName → ℕ → List ℕ → ℕ → Bool
-is_fn name arity local wanted =
-    is_in_fn name && bytes_eq name.local local && arity == wanted
-
 abbrev pub of_library : Option Builtin → Called
 of_library None = declared
 of_library (Some f) = library f
 
-unfoldable pub called : ExprName → ℕ → Called
-called name arity =
-    if is_fn name arity (codes "doc") 1 || is_fn name arity (codes "document") 1 then document
-    else if is_fn name arity (codes "current") 0 then current
-    else if is_fn name arity (codes "current-group") 0 then current_group
-    else if is_fn name arity (codes "current-grouping-key") 0 then current_key
-    else if is_fn name arity (codes "key") 2 then key
+abbrev pub is_local : ExprName → ℕ → List ℕ → ℕ → Bool
+is_local name arity local wanted = bytes_eq name.local local && arity == wanted
+
+-- in the namespace of the library of functions
+abbrev pub called_in_library : ExprName → ℕ → Called
+called_in_library name arity =
+    if is_local name arity (codes "doc") 1 || is_local name arity (codes "document") 1 then document
+    else if is_local name arity (codes "current") 0 then current
+    else if is_local name arity (codes "current-group") 0 then current_group
+    else if is_local name arity (codes "current-grouping-key") 0 then current_key
+    else if is_local name arity (codes "key") 2 then key
     else of_library (found name arity)
+
+unfoldable pub called : ExprName → ℕ → Called
+called name arity = if is_in_fn name then called_in_library name arity else declared
 
 -- What a function reads of the focus where it is called without an argument: the position, the
 -- size, the string value of the item, or the item.
@@ -107,7 +110,7 @@ library_value f focus args = result_then (with_focus f focus args) (function_val
 -- doc() and document()
 abbrev pub named_document : Program → Option (List ℕ) → Result (List Item) Code
 named_document program None = Ok []
-named_document program (Some name) = program.document name
+named_document program (Some name) = document_in program.documents name
 
 abbrev pub document_value : Program → List Item → Result (List Item) Code
 document_value program xs = result_then (optional_text_argument xs) (named_document program)

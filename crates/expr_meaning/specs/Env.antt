@@ -9,6 +9,7 @@ use Rattle.xt_names.specs.declared.names.ExprName.{ExprName}
 use Rattle.xt_names.specs.declared.names.Binding.{Binding as Namespace}
 use Rattle.xt_atoms.specs.declared.atoms.Atom.{Atom as AtomValue}
 use Rattle.xt_tree.specs.Place.{Place}
+use Rattle.doc_set.specs.Sets.{DocumentSet}
 use Rattle.xdm_items.specs.declared.items.Item.{Item}
 use Rattle.outcomes.specs.Outcome.{Outcome}
 use Rattle.sort_meaning.specs.Sorted.{Placed}
@@ -73,12 +74,12 @@ Calls = ExprName → List (List Item) → ℕ → Outcome (List Item)
 abbrev pub Keys : Type 0
 Keys = List ℕ → List AtomValue → Place → ℕ → Outcome (List Item)
 
--- What is fixed while an expression runs: what calls, key() and doc() do, the globals evaluated so
--- far, and the namespaces that computed names may use.
+-- What is fixed while an expression runs: what calls and key() do, the documents that doc() finds, the
+-- globals evaluated so far, and the namespaces that computed names may use.
 pub record Program : Type 0 where
   pub calls : Calls
   pub keys : Keys
-  pub document : List ℕ → Result (List Item) Code
+  pub documents : DocumentSet
   pub globals : List Binding
   pub namespaces : List Namespace
   pub element_default : List ℕ

@@ -8,3 +8,4 @@ pub mod Names
 pub mod Making
 pub mod Meaning
 pub mod Queries
+pub mod Documents

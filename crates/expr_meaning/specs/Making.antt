@@ -1,5 +1,5 @@
 -- Constructors (XQuery 1.0, 3.7).
-use Rattle.std.specs.Prelude.{ℕ, ◌+◌, List, [], ◌∷◌, ◌++◌, map}
+use Rattle.std.specs.Prelude.{ℕ, ◌+◌, List, [], ◌∷◌, ◌++◌, map, Option, Some, None}
 use Rattle.xt_names.specs.declared.names.Name.{Name}
 use Rattle.xt_tree.specs.declared.trees.Tree.{Tree}
 use Rattle.xt_tree.specs.declared.trees.Tree.TheVariants as tree
@@ -70,19 +70,24 @@ pub data PartMeaning : Type 0 where
 abbrev pub literal_node : Tree → Item
 literal_node t = Node (new_root 0 t)
 
+-- the text of a run of atoms, if one stands before, with the text of one more behind a space
+abbrev pub with_text : Option (List ℕ) → List ℕ → Option (List ℕ)
+with_text None text = Some text
+with_text (Some run) text = Some (run ++ 32 ∷ text)
+
+abbrev pub text_item : Option (List ℕ) → List Item
+text_item None = []
+text_item (Some text) = literal_node (tree.Text text) ∷ []
+
+-- the items, and before them the text of a run of atoms that stands right before
+abbrev pub joined_behind : Option (List ℕ) → List Item → List Item
+joined_behind run [] = text_item run
+joined_behind run (Atom a ∷ xs) = joined_behind (with_text run (text_of a)) xs
+joined_behind run (Node n ∷ xs) = text_item run ++ Node n ∷ joined_behind None xs
+
 -- each longest run of atoms as one text, with a space between the atoms
-abbrev pub text_item : List (List ℕ) → List Item
-text_item [] = []
-text_item (t ∷ ts) = literal_node (tree.Text (joined_with (32 ∷ []) (t ∷ ts))) ∷ []
-
--- .. behind these texts of atoms, which stand right before the items
-abbrev pub joined_behind : List (List ℕ) → List Item → List Item
-joined_behind texts [] = text_item texts
-joined_behind texts (Atom a ∷ xs) = joined_behind (texts ++ text_of a ∷ []) xs
-joined_behind texts (Node n ∷ xs) = text_item texts ++ Node n ∷ joined_behind [] xs
-
 unfoldable pub joined_atoms : List Item → List Item
-joined_atoms xs = joined_behind [] xs
+joined_atoms xs = joined_behind None xs
 
 -- the text of an attribute's part
 abbrev pub attribute_part : Env → PartMeaning → ℕ → Outcome (List ℕ)

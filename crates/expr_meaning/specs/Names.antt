@@ -1,5 +1,5 @@
 -- Names that are computed (XQuery 1.0, 3.7.3.1, 3.7.3.2 and 3.7.3.5).
-use Rattle.std.specs.Prelude.{ℕ, List, [], ◌∷◌, ◌++◌, ◌&&◌, codes}
+use Rattle.std.specs.Prelude.{ℕ, List, [], ◌∷◌, ◌&&◌, codes}
 use Rattle.std.specs.Prelude.{if◌then◌else◌, Option, Some, None, Result, Ok, Err}
 use Rattle.std.specs.Str.{bytes_eq, str_to_ascii_lowercase}
 use Rattle.xt_names.specs.Allowed.{is_empty_text, xml_uri}
@@ -15,24 +15,27 @@ use Rattle.xt_atoms.specs.declared.atoms.Atom.TheVariants as atom
 use Rattle.xt_atoms.specs.AtomTexts.{lexical_qname}
 use Rattle.text_operations.specs.Searches.{text_before, text_after}
 use Rattle.xdm_items.specs.declared.items.Item.{Item}
-use Rattle.expr_names.specs.Names.{uri_of}
 use Rattle.function_arguments.specs.Arguments.{and_then as result_then}
 use Rattle.outcomes.specs.Outcome.{Outcome, Ends, and_then, step_outcome}
 use Rattle.operator_values.specs.Operands.{atom_of}
 use Rattle.expr_meaning.specs.Env.{Program, Env, Meaning}
 
 -- the namespaces that every query has
-abbrev pub namespace : List ℕ → List ℕ → Namespace
-namespace prefix uri = record { prefix = prefix; uri = uri }
+unfoldable pub predeclared : List ℕ → List ℕ
+predeclared prefix =
+    if bytes_eq prefix (codes "xml") then xml_uri
+    else if bytes_eq prefix (codes "xs") then codes "http://www.w3.org/2001/XMLSchema"
+    else if bytes_eq prefix (codes "xsi") then codes "http://www.w3.org/2001/XMLSchema-instance"
+    else if bytes_eq prefix (codes "fn") then codes "http://www.w3.org/2005/xpath-functions"
+    else if bytes_eq prefix (codes "local")
+    then codes "http://www.w3.org/2005/xquery-local-functions"
+    else []
 
-abbrev pub every_query_has : List Namespace
-every_query_has =
-    namespace (codes "xml") xml_uri
-    ∷ namespace (codes "xs") (codes "http://www.w3.org/2001/XMLSchema")
-    ∷ namespace (codes "xsi") (codes "http://www.w3.org/2001/XMLSchema-instance")
-    ∷ namespace (codes "fn") (codes "http://www.w3.org/2005/xpath-functions")
-    ∷ namespace (codes "local") (codes "http://www.w3.org/2005/xquery-local-functions")
-    ∷ []
+-- the uri of the first binding of the prefix, or of what every query has; empty where there is none
+abbrev pub namespace_of : List Namespace → List ℕ → List ℕ
+namespace_of [] prefix = predeclared prefix
+namespace_of (b ∷ bs) prefix =
+    if bytes_eq b.prefix prefix then b.uri else namespace_of bs prefix
 
 abbrev pub no_name : Code
 no_name = QueryDynamic XQDY0074
@@ -54,14 +57,14 @@ without_prefix default text =
 abbrev pub name_of_parts : List Namespace → List ℕ → List ℕ → Option (List ℕ) →
     Option (List ℕ) → Result Name Code
 name_of_parts namespaces default text (Some prefix) (Some local) =
-    in_namespace prefix (uri_of namespaces prefix) local
+    in_namespace prefix (namespace_of namespaces prefix) local
 name_of_parts namespaces default text (Some prefix) None = Err no_name
 name_of_parts namespaces default text None local = without_prefix default text
 
 -- the name that the text spells; `default` is the namespace of one without a prefix
 unfoldable pub name_of_text : List Namespace → List ℕ → List ℕ → Result Name Code
 name_of_text namespaces default text =
-    name_of_parts (namespaces ++ every_query_has) default text
+    name_of_parts namespaces default text
     (text_before (codes ":") text) (text_after (codes ":") text)
 
 -- one atom that is a name or a text

@@ -10,6 +10,7 @@ use Rattle.xt_names.specs.declared.codes.QueryStaticCode.TheVariants.{XPST0017}
 use Rattle.xt_names.specs.declared.names.ExprName.{ExprName}
 use Rattle.xt_types.specs.declared.types.SeqType.{SeqType}
 use Rattle.xt_atoms.specs.declared.atoms.Atom.TheVariants as atom
+use Rattle.doc_set.specs.Sets.{DocumentSet}
 use Rattle.xdm_items.specs.declared.items.Item.{Item}
 use Rattle.xdm_items.specs.declared.items.Item.TheVariants.{Atom}
 use Rattle.xdm_items.specs.Conversion.{converted}
@@ -31,7 +32,7 @@ Given = List ℕ × List ℕ
 -- what is fixed while a query runs
 pub record Run : Type 0 where
   pub query : Query
-  pub document : List ℕ → Result (List Item) Code
+  pub documents : DocumentSet
   pub given : List Given
 
 -- converted to the type, if there is one
@@ -63,7 +64,7 @@ abbrev pub program_of : Run → List Binding → Calls → Program
 program_of run globals calls = record {
   calls = calls;
   keys = λ name values root k. Ends [] k;
-  document = run.document;
+  documents = run.documents;
   globals = globals;
   namespaces = run.query.prefixes;
   element_default = run.query.element_default;
