@@ -18,6 +18,7 @@ mod types;
 
 pub use comparisons::{general, single};
 pub use node_operators::{after, before, is};
-pub use node_sets::{except, intersect, union};
+pub use node_sets::{are_nodes, except, in_order, intersect, union};
 pub use numbers::{arithmetic, negated, range, signed};
+pub use operands::atom_of;
 pub use types::{cast_list, castable_list, instance, treated};

@@ -28,8 +28,8 @@ fn is_node(item: &Item) -> bool
     }
 }
 
-/// Whether all items are nodes.
-fn are_nodes(items: &[Item]) -> bool
+/// Whether all items are nodes (XPath 2.0, 2.4.1).
+pub fn are_nodes(items: &[Item]) -> bool
     ensures { result ≡ list_all is_node items.now }
 {
     for item in items {
@@ -40,8 +40,8 @@ fn are_nodes(items: &[Item]) -> bool
     true
 }
 
-/// The same items in document order, each once.
-fn in_order(alloc: Global, items: ItemList) -> Result<ItemList, AllocError>
+/// The same nodes in document order, each once (XPath 2.0, 2.4.1).
+pub fn in_order(alloc: Global, items: ItemList) -> Result<ItemList, AllocError>
     ensures { IfOk result (λ nodes. nodes ≡ in_document_order items) }
 {
     let nodes = Seq::of_list(items).in_document_order(alloc)?;

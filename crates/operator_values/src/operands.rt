@@ -12,8 +12,8 @@ use xt_tree::Node;
 /// The error of an operand that has another type than is asked for.
 pub(crate) const WRONG_TYPE: ValueFault = ValueFault::Error(Code::Dynamic(DynamicCode::XPTY0004));
 
-/// The typed value of the item.
-pub(crate) fn atom_of(alloc: Global, item: &Item) -> Result<Atom, AllocError>
+/// The typed value of the item, which is one atom (XPath 2.0, 2.4.2).
+pub fn atom_of(alloc: Global, item: &Item) -> Result<Atom, AllocError>
     ensures { IfOk result (λ atom. atom ≡ atom_of item.now) }
 {
     match item {
