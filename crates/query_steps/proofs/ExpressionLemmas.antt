@@ -108,7 +108,7 @@ frames_inner k q r o ts h =
 abbrev pub Ended : Reading → Reader → Type 0
 Ended x r = (fs : List Frame) → Tracks r fs [] → x ≡ within r.limit (finish fs)
 
-nothing_of : (k : ℕ) (o : Option Raw) → Nothing ≡ within k o → o ≡ None
+pub nothing_of : (k : ℕ) (o : Option Raw) → Nothing ≡ within k o → o ≡ None
 nothing_of k None e = refl
 nothing_of k (Some w) e = go (nat_le (raw_nest_of w) k) e
   where
@@ -116,11 +116,11 @@ nothing_of k (Some w) e = go (nat_le (raw_nest_of w) k) e
     go true e = absurd cc
     go false e = absurd cc
 
-record Shallow (k : ℕ) (o : Option Raw) (v : Raw) : Type 0 where
-  is : o ≡ Some v
-  nests : raw_nest_of v ≤ k
+pub record Shallow (k : ℕ) (o : Option Raw) (v : Raw) : Type 0 where
+  pub is : o ≡ Some v
+  pub nests : raw_nest_of v ≤ k
 
-value_of : (k : ℕ) (o : Option Raw) (v : Raw) → Value v ≡ within k o → Shallow k o v
+pub value_of : (k : ℕ) (o : Option Raw) (v : Raw) → Value v ≡ within k o → Shallow k o v
 value_of k None v e = absurd cc
 value_of k (Some w) v e = go (nat_le (raw_nest_of w) k) refl e
   where
@@ -135,12 +135,12 @@ value_of k (Some w) v e = go (nat_le (raw_nest_of w) k) refl e
     }
     go false f e = absurd cc
 
-record Deeper (k : ℕ) (o : Option Raw) : Type 0 where
-  value : Raw
-  is : o ≡ Some value
-  nests : k < raw_nest_of value
+pub record Deeper (k : ℕ) (o : Option Raw) : Type 0 where
+  pub value : Raw
+  pub is : o ≡ Some value
+  pub nests : k < raw_nest_of value
 
-deep_of : (k : ℕ) (o : Option Raw) → TooDeep ≡ within k o → Deeper k o
+pub deep_of : (k : ℕ) (o : Option Raw) → TooDeep ≡ within k o → Deeper k o
 deep_of k None e = absurd cc
 deep_of k (Some w) e = go (nat_le (raw_nest_of w) k) refl e
   where

@@ -17,7 +17,7 @@ use std::alloc::{AllocError, Global};
 
 /// Leads the token into the expression.
 #[tactic(auto, using(crate::proofs::ExpressionLemmas::expressions))]
-fn lead(
+pub fn lead(
     alloc: Global,
     reader: Reader,
     token: &Token,
