@@ -135,7 +135,7 @@ default_flat [] = none_flat
 default_flat (v ∷ []) = none_flat
 default_flat (v ∷ e ∷ []) = none_flat
 default_flat (v ∷ e ∷ u ∷ []) =
-    cond_flat (is_named (codes "namespace") e && fits_quoted u) _ _
+    cond_flat (fits_key key.NamespaceWord e && fits_quoted u) _ _
     (cond_flat (fits_key key.ElementWord v) (Some (declared.ElementDefault (text_of u))) _
     (one_flat (declared.ElementDefault (text_of u)) refl)
     (if_flat (is_named (codes "function") v) (declared.FunctionDefault (text_of u)) refl))
