@@ -1,3 +1,4 @@
 pub mod SuitLemmas
 pub mod OrderLemmas
 pub mod StandingLemmas
+pub mod OneLemmas

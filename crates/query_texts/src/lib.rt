@@ -9,9 +9,11 @@
 //! Example: `declare variable $a := 1; $a + 1` is a query with one declaration.
 #![tactic(auto)]
 
+mod laws;
 mod orders;
 mod readings;
 mod texts;
 
+pub use laws::spells_one;
 pub use readings::QueryReading;
 pub use texts::read_query;
