@@ -5,12 +5,7 @@ use std::alloc::AllocGlobal;
 use std::process::Abort;
 
 // the first text, calls so many levels deep with their argument, and the last text
-fn with_calls(
-    rt: &(impl Abort + AllocGlobal),
-    front: &str,
-    levels: usize,
-    back: &str,
-) -> String {
+fn with_calls(rt: &(impl Abort + AllocGlobal), front: &str, levels: usize, back: &str) -> String {
     let mut out = String::new(rt.alloc());
     put(rt, &mut out, front);
     for _ in 1..levels {

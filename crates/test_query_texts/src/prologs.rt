@@ -9,10 +9,7 @@ fn declarations(rt: HostRuntime) {
             "xquery version '1.0' encoding 'Utf-8'; 1",
             "version(1.0) number",
         ),
-        (
-            "declare namespace p = 'u'; 1",
-            "namespace(p ) to(u) number",
-        ),
+        ("declare namespace p = 'u'; 1", "namespace(p ) to(u) number"),
         (
             "declare default element namespace 'u'; 1",
             "elements(u) number",
@@ -30,26 +27,17 @@ fn declarations(rt: HostRuntime) {
             "setter number",
         ),
         ("declare option p:o 'x'; 1", "option(p:o) to(x) number"),
-        (
-            "declare variable $a := 1; $a",
-            "variable(a) reference",
-        ),
+        ("declare variable $a := 1; $a", "variable(a) reference"),
         (
             "declare variable $a as xs:integer* := 1 < 2; <b/>",
             "variable(a) element",
         ),
-        (
-            "declare variable $a := <b>;</b>; 1",
-            "variable(a) number",
-        ),
+        ("declare variable $a := <b>;</b>; 1", "variable(a) number"),
         (
             "declare variable $p:a as item()+ external; 1",
             "external(p:a) number",
         ),
-        (
-            "declare function p:f() { 1 }; p:f()",
-            "function(p:f) call",
-        ),
+        ("declare function p:f() { 1 }; p:f()", "function(p:f) call"),
         (
             "declare function f($a, $b as item()) as node()* \
              { element c { <d e='{ {1} }'>{ 2 }</d> } }; 1",

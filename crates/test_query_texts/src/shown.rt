@@ -68,7 +68,13 @@ fn put_declared(rt: &(impl Abort + AllocGlobal), out: &mut String, declared: &De
         Declared::Variable(typed, Some(_)) => put_named(rt, out, "variable", &typed.name, ""),
         Declared::Function(name, params, _, _) => {
             let count = params.len();
-            put_named(rt, out, "function", name, if count == 0 { "" } else { " .." });
+            put_named(
+                rt,
+                out,
+                "function",
+                name,
+                if count == 0 { "" } else { " .." },
+            );
         }
     }
 }
