@@ -312,7 +312,7 @@ namespace_heads (p ∷ x ∷ u ∷ []) d e =
 namespace_heads (p ∷ x ∷ u ∷ y ∷ us) d e = absurd (none-some _ e)
 
 default_in : (b c f g : Bool) (a n u : Token) (d : Declared)
-    → (is_named (codes "namespace") n && fits_quoted u) ≡ b → fits_key key.ElementWord a ≡ c
+    → (fits_key key.NamespaceWord n && fits_quoted u) ≡ b → fits_key key.ElementWord a ≡ c
     → is_named (codes "function") a ≡ f
     → (fits_key key.OrderWord a && (fits_key key.EmptyWord n && fits_key key.LeastWord u)) ≡ g
     → cond b (cond c (Some (declared.ElementDefault (text_of u)))
@@ -320,13 +320,13 @@ default_in : (b c f g : Bool) (a n u : Token) (d : Declared)
     (cond g (Some declared.Setter) None) ≡ Some d
     → heads (a ∷ n ∷ u ∷ []) ≡ true
 default_in true true f g a n u d e h i j r =
-    let p = and_parts (is_named (codes "namespace") n) (fits_quoted u) e in
+    let p = and_parts (fits_key key.NamespaceWord n) (fits_quoted u) e in
     both_true _ _ (key_head key.ElementWord a refl h)
-    (both_true _ _ (named_head _ n p.0) (both_true _ _ (quoted_head u p.1) refl))
+    (both_true _ _ (key_head key.NamespaceWord n refl p.0) (both_true _ _ (quoted_head u p.1) refl))
 default_in true false true g a n u d e h i j r =
-    let p = and_parts (is_named (codes "namespace") n) (fits_quoted u) e in
+    let p = and_parts (fits_key key.NamespaceWord n) (fits_quoted u) e in
     both_true _ _ (named_head _ a i)
-    (both_true _ _ (named_head _ n p.0) (both_true _ _ (quoted_head u p.1) refl))
+    (both_true _ _ (key_head key.NamespaceWord n refl p.0) (both_true _ _ (quoted_head u p.1) refl))
 default_in true false false g a n u d e h i j r = absurd (none-some _ r)
 default_in false c f true a n u d e h i j r =
     let p = and_parts (fits_key key.OrderWord a) _ j in

@@ -4,7 +4,9 @@ use Rattle.std.proofs.Common.{List, [], ◌∷◌, ◌++◌, refl, sym, ◌∙�
 use Rattle.std.proofs.Common.{Option, Some, None, option_and_then}
 use Rattle.std.proofs.lemmas.Option.{none-some, same_Some}
 use Rattle.std.specs.Str.{bytes_eq}
+use Rattle.expr_terms.specs.declared.keys.Key.{Key}
 use Rattle.expr_terms.specs.declared.keys.Key.TheVariants as key
+use Rattle.expr_terms.specs.Keys.{same_key}
 use Rattle.expr_terms.specs.declared.tokens.Token.{Token}
 use Rattle.expr_terms.specs.declared.tokens.Token.TheVariants as token
 use Rattle.expr_terms.specs.declared.raws.Raw.{Raw}
@@ -21,12 +23,14 @@ use Rattle.expr_terms.specs.Choices.{second_of, open_next}
 use Rattle.expr_terms.specs.Raws.{build}
 use Rattle.expr_grammar.specs.Grammar.{Derives, Seq, next, end, Spells}
 use Rattle.expr_grammar.specs.Machine.{Frame, advance, run, start, read_whole, deep}
+use Rattle.expr_grammar.proofs.Keys.{same}
 use Rattle.expr_grammar.proofs.Residue as residue
 use Rattle.expr_grammar.proofs.Steps as expr
 use Rattle.expr_grammar.proofs.Run.{run_finds, run_found, spells_runs, runs_spells}
 use Rattle.query_places.specs.Places.{start_single, IsStart, production, single_alone}
 use Rattle.query_places.specs.Places.{Reached, began, onward}
 use Rattle.query_grammar.specs.declared.declared.Opening.{Opening}
+use Rattle.query_grammar.specs.declared.declared.Opening.TheVariants as opening
 use Rattle.query_grammar.specs.declared.declared.Typed.{Typed}
 use Rattle.query_grammar.specs.declared.declared.Declared.{Declared}
 use Rattle.query_grammar.specs.declared.declared.Declared.TheVariants as declared
@@ -209,10 +213,40 @@ unopened a t e = go (is_named (codes "declare") a) (is_named (codes "xquery") a)
     go false true f = never (sym f)
     go false false f = refl
 
+-- .. nor with a name and `namespace`
+name_stops : (b : Bool) (s : Second) (n : List ℕ)
+    → option_and_then (advance xquery (token.Key key.NamespaceWord) s)
+    (advance xquery (token.Name n) (cond b second.BeforeNamed second.Alone) (start top)) ≡ None
+unfolding deep
+name_stops true second.Alone n = refl
+name_stops true _ n = refl
+name_stops false second.Alone n = refl
+name_stops false _ n = refl
+
+name_and_key : (n : List ℕ) (k : Key) (ts : List Token) → key.NamespaceWord ≡ k
+    → read_whole xquery (token.Name n ∷ token.Key k ∷ ts) ≡ None
+name_and_key n k ts e =
+    subst (λ z. read_whole xquery (token.Name n ∷ token.Key z ∷ ts) ≡ None) e
+    (both_none (advance xquery (token.Key key.NamespaceWord) (second_of ts)) (run xquery ts)
+    (advance xquery (token.Name n) (cond (open_next ts) second.BeforeNamed second.Alone)
+    (start top))
+    (name_stops (open_next ts) (second_of ts) n))
+
+key_opens : (a b c : Bool) (o : Opening)
+    → cond a (cond c (Some opening.Namespace) None) (cond b None None) ≡ Some o → c ≡ true
+key_opens a b true o e = refl
+key_opens true b false o e = absurd (none-some o e)
+key_opens false true false o e = absurd (none-some o e)
+key_opens false false false o e = absurd (none-some o e)
+
 pub no_names : (a t : Token) (ts : List Token) (o : Opening) (v : Raw)
     → opening_of a t ≡ Some o → Spells xquery (a ∷ t ∷ ts) v → ⊥
 no_names (token.Name n) (token.Name m) ts o v e s =
     none-some v (sym (two_names n m ts) ∙ spells_runs s)
+no_names (token.Name n) (token.Key k) ts o v e s =
+    let f = key_opens (bytes_eq n (codes "declare")) (bytes_eq n (codes "xquery"))
+    (same_key key.NamespaceWord k) o e in
+    none-some v (sym (name_and_key n k ts (same key.NamespaceWord k f)) ∙ spells_runs s)
 no_names (token.Name n) t ts o v e s =
     none_chosen (bytes_eq n (codes "declare")) (bytes_eq n (codes "xquery")) o e
 no_names a t ts o v e s = none-some o e

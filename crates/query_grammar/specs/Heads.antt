@@ -40,7 +40,7 @@ namespace_of _ = None
 
 abbrev pub in_default : Token → Token → Token → Option Declared
 in_default a n u =
-    if is_named (codes "namespace") n && fits_quoted u
+    if fits_key key.NamespaceWord n && fits_quoted u
     then (if fits_key key.ElementWord a then Some (declared.ElementDefault (text_of u))
     else if is_named (codes "function") a then Some (declared.FunctionDefault (text_of u))
     else None)

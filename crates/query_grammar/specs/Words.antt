@@ -4,6 +4,8 @@ use Rattle.std.specs.Prelude.{List, [], Option, Some, None, if◌then◌else◌}
 use Rattle.std.specs.Str.{bytes_eq}
 use Rattle.expr_terms.specs.declared.tokens.Token.{Token}
 use Rattle.expr_terms.specs.declared.tokens.Token.TheVariants as token
+use Rattle.expr_terms.specs.declared.keys.Key.TheVariants as key
+use Rattle.expr_terms.specs.Tokens.{fits_key}
 use Rattle.query_grammar.specs.declared.declared.Opening.{Opening}
 use Rattle.query_grammar.specs.declared.declared.Opening.TheVariants as opening
 
@@ -20,7 +22,7 @@ text_of _ = []
 -- what stands behind `declare`
 abbrev pub declared_by : Token → Option Opening
 declared_by t =
-    if is_named (codes "namespace") t then Some opening.Namespace
+    if fits_key key.NamespaceWord t then Some opening.Namespace
     else if is_named (codes "default") t then Some opening.Default
     else if is_named (codes "boundary-space") t then Some opening.BoundarySpace
     else if is_named (codes "ordering") t then Some opening.Ordering

@@ -88,7 +88,7 @@ fn in_default(
 ) -> Result<Option<Declared>, AllocError>
     ensures { IfOk result (λ found. found ≡ in_default of.now word.now last.now) }
 {
-    if is_named(word, "namespace") && is_quoted(last) {
+    if fits_key(Key::NamespaceWord, word) && is_quoted(last) {
         if fits_key(Key::ElementWord, of) {
             Ok(Some(Declared::ElementDefault(text_of(alloc, last)?)))
         } else if is_named(of, "function") {

@@ -5,7 +5,7 @@ ghost use Rattle.query_grammar.specs.Words.{is_named, declared_by, versioned, op
 ghost use Rattle.query_grammar.specs.Words.{may_open, text_of};
 ghost use Rattle.query_grammar.specs.Machine.{is_head, is_head_key};
 
-use expr_terms::{Key, Token, same_key};
+use expr_terms::{Key, Token, fits_key, same_key};
 use query_grammar::Opening;
 use std::alloc::{AllocError, Global};
 use xt_names::{Text, TextBuilder, is_ascii_text};
@@ -34,7 +34,7 @@ pub fn text_of(alloc: Global, token: &Token) -> Result<Text, AllocError>
 fn declared_by(token: &Token) -> Option<Opening>
     ensures { result ≡ declared_by token.now }
 {
-    if is_named(token, "namespace") {
+    if fits_key(Key::NamespaceWord, token) {
         Some(Opening::Namespace)
     } else if is_named(token, "default") {
         Some(Opening::Default)

@@ -1,0 +1,4 @@
+pub mod SuitLemmas
+pub mod OrderLemmas
+pub mod StandingLemmas
+pub mod OneLemmas
