@@ -1,8 +1,8 @@
 -- Expressions within a query, token by token.
-use Rattle.std.proofs.Common.{◌≡◌, ◌<◌, ℕ, Bool, true, false, cond, List, [], ◌∷◌, refl, sym, ◌∙◌}
+use Rattle.std.proofs.Common.{◌≡◌, ◌<◌, ◌≤◌, ℕ, Bool, true, false, cond, List, [], ◌∷◌, refl, sym, ◌∙◌}
 use Rattle.std.proofs.Common.{ap, subst, Option, Some, None, option_map, nat_le}
 use Rattle.std.proofs.lemmas.Option.{same_Some}
-use Rattle.std.proofs.lemmas.Bool.{leb-false}
+use Rattle.std.proofs.lemmas.Bool.{leb-false, leb-true}
 use Rattle.expr_terms.specs.declared.tokens.Token.{Token}
 use Rattle.expr_terms.specs.declared.raws.Raw.{Raw}
 use Rattle.expr_terms.specs.declared.choices.Second.{Second}
@@ -15,6 +15,7 @@ use Rattle.expr_reader.specs.declared.readings.Reading.{Reading}
 use Rattle.expr_reader.specs.declared.readings.Reading.TheVariants.{Value, Nothing, TooDeep}
 use Rattle.expr_reader.specs.Answers.{within}
 use Rattle.expr_reader.specs.Tracks.{Tracks, Leads, Led}
+use Rattle.query_grammar.specs.declared.declared.Declared.{Declared}
 use Rattle.query_grammar.specs.declared.declared.Declared.TheVariants as declared
 use Rattle.query_grammar.specs.declared.declared.Typed.{Typed}
 use Rattle.query_grammar.specs.declared.declared.Signature.{Signature}
@@ -24,8 +25,8 @@ use Rattle.query_grammar.specs.Machine.{Mode, to_mode, to_end, to_closed, functi
 use Rattle.query_grammar.proofs.Residue.{second_semicolon, second_brace}
 use Rattle.query_steps.specs.declared.stages.Stage.TheVariants as stage
 use Rattle.query_steps.specs.declared.stages.Turn.TheVariants as turn
-use Rattle.query_steps.specs.Stands.{Before, all, semicolon, brace, Holds, IsDeep}
-use Rattle.query_steps.specs.Stands.{ended, closed, Goes, Turned, Held, semicolon_key, brace_key}
+use Rattle.query_steps.specs.Stands.{Before, all, semicolon, brace, Holds, IsKept, Ends}
+use Rattle.query_steps.specs.Stands.{Goes, Turned, Held, semicolon_key, brace_key}
 
 second_before : {seg ts : List Token} → Before seg ts → second_of seg ≡ second_of ts
 second_before all = refl
@@ -107,7 +108,7 @@ frames_inner k q r o ts h =
 abbrev pub Ended : Reading → Reader → Type 0
 Ended x r = (fs : List Frame) → Tracks r fs [] → x ≡ within r.limit (finish fs)
 
-nothing_of : (k : ℕ) (o : Option Raw) → Nothing ≡ within k o → o ≡ None
+pub nothing_of : (k : ℕ) (o : Option Raw) → Nothing ≡ within k o → o ≡ None
 nothing_of k None e = refl
 nothing_of k (Some w) e = go (nat_le (raw_nest_of w) k) e
   where
@@ -115,23 +116,31 @@ nothing_of k (Some w) e = go (nat_le (raw_nest_of w) k) e
     go true e = absurd cc
     go false e = absurd cc
 
-value_of : (k : ℕ) (o : Option Raw) (v : Raw) → Value v ≡ within k o → o ≡ Some v
+pub record Shallow (k : ℕ) (o : Option Raw) (v : Raw) : Type 0 where
+  pub is : o ≡ Some v
+  pub nests : raw_nest_of v ≤ k
+
+pub value_of : (k : ℕ) (o : Option Raw) (v : Raw) → Value v ≡ within k o → Shallow k o v
 value_of k None v e = absurd cc
-value_of k (Some w) v e = go (nat_le (raw_nest_of w) k) e
+value_of k (Some w) v e = go (nat_le (raw_nest_of w) k) refl e
   where
     same : {v w : Raw} → Value v ≡ Value w → w ≡ v
     same e = cc
 
-    go : (b : Bool) → Value v ≡ cond b (Value w) TooDeep → Some w ≡ Some v
-    go true e = ap Some (same e)
-    go false e = absurd cc
+    go : (b : Bool) → nat_le (raw_nest_of w) k ≡ b → Value v ≡ cond b (Value w) TooDeep
+        → Shallow k (Some w) v
+    go true f e = record {
+      is = ap Some (same e);
+      nests = subst (λ z. raw_nest_of z ≤ k) (same e) (leb-true _ _ f);
+    }
+    go false f e = absurd cc
 
-record Deeper (k : ℕ) (o : Option Raw) : Type 0 where
-  value : Raw
-  is : o ≡ Some value
-  nests : k < raw_nest_of value
+pub record Deeper (k : ℕ) (o : Option Raw) : Type 0 where
+  pub value : Raw
+  pub is : o ≡ Some value
+  pub nests : k < raw_nest_of value
 
-deep_of : (k : ℕ) (o : Option Raw) → TooDeep ≡ within k o → Deeper k o
+pub deep_of : (k : ℕ) (o : Option Raw) → TooDeep ≡ within k o → Deeper k o
 deep_of k None e = absurd cc
 deep_of k (Some w) e = go (nat_le (raw_nest_of w) k) refl e
   where
@@ -154,19 +163,26 @@ value_nothing k r n fs ts e h =
 
 pub value_value : (k : ℕ) (r : Reader) (n : Typed) (v : Raw) (fs : List Frame) (ts : List Token)
     → Ended (Value v) r → Holds k r fs (semicolon_key ∷ ts)
-    → to_end (option_map (λ w. declared.Variable n (Some w)) (finish fs))
-    ≡ machine.ends (declared.Variable n (Some v))
+    → Ends k (Some (declared.Variable n (Some v)))
+    (to_end (option_map (λ w. declared.Variable n (Some w)) (finish fs)))
 value_value k r n v fs ts e h =
-    ap (λ z. to_end (option_map (λ w. declared.Variable n (Some w)) z))
-    (value_of k (finish fs) v (ends_at e h (semicolon here)))
+    let s = value_of k (finish fs) v (ends_at e h (semicolon here)) in
+    record {
+      declared = declared.Variable n (Some v);
+      ends = ap (λ z. to_end (option_map (λ w. declared.Variable n (Some w)) z)) s.is;
+      kept = (refl, s.nests);
+    }
 
 pub value_deep : (k : ℕ) (r : Reader) (n : Typed) (fs : List Frame) (ts : List Token)
     → Ended TooDeep r → Holds k r fs (semicolon_key ∷ ts)
-    → IsDeep k (to_end (option_map (λ w. declared.Variable n (Some w)) (finish fs)))
+    → Ends k None (to_end (option_map (λ w. declared.Variable n (Some w)) (finish fs)))
 value_deep k r n fs ts e h =
     let d = deep_of k (finish fs) (ends_at e h (semicolon here)) in
-    subst (λ z. IsDeep k (to_end (option_map (λ w. declared.Variable n (Some w)) z))) (sym d.is)
-    (ended d.nests)
+    record {
+      declared = declared.Variable n (Some d.value);
+      ends = ap (λ z. to_end (option_map (λ w. declared.Variable n (Some w)) z)) d.is;
+      kept = d.nests;
+    }
 
 pub inner_nothing : (k : ℕ) (r : Reader) (q : Signature) (fs : List Frame) (ts : List Token)
     → Ended Nothing r → Holds k r fs (brace_key ∷ ts)
@@ -175,24 +191,30 @@ inner_nothing k r q fs ts e h =
     ap (λ z. to_closed (option_map (function_of q) z))
     (nothing_of k (finish fs) (ends_at e h (brace here)))
 
+closes : (k : ℕ) (q : Signature) (w : Raw) (o : Option Raw) (x : Option Declared) (ts : List Token)
+    → o ≡ Some w → IsKept k x (function_of q w)
+    → Goes k (stage.Closed x) (to_closed (option_map (function_of q) o)) ts
+closes k q w o x ts e f =
+    record {
+      mode = machine.closed (function_of q w);
+      onto = ap (λ z. to_closed (option_map (function_of q) z)) e;
+      stands = record { declared = function_of q w; mode = refl; kept = f };
+    }
+
 pub inner_value : (k : ℕ) (r : Reader) (q : Signature) (v : Raw) (fs : List Frame)
     (ts : List Token) → Ended (Value v) r → Holds k r fs (brace_key ∷ ts)
-    → Goes k (stage.Closed (function_of q v)) (to_closed (option_map (function_of q) (finish fs))) ts
+    → Goes k (stage.Closed (Some (function_of q v)))
+    (to_closed (option_map (function_of q) (finish fs))) ts
 inner_value k r q v fs ts e h =
-    record {
-      mode = machine.closed (function_of q v);
-      onto =
-          ap (λ z. to_closed (option_map (function_of q) z))
-          (value_of k (finish fs) v (ends_at e h (brace here)));
-      stands = refl;
-    }
+    let s = value_of k (finish fs) v (ends_at e h (brace here)) in
+    closes k q v (finish fs) (Some (function_of q v)) ts s.is (refl, s.nests)
 
 pub inner_deep : (k : ℕ) (r : Reader) (q : Signature) (fs : List Frame) (ts : List Token)
     → Ended TooDeep r → Holds k r fs (brace_key ∷ ts)
-    → IsDeep k (to_closed (option_map (function_of q) (finish fs)))
+    → Goes k (stage.Closed None) (to_closed (option_map (function_of q) (finish fs))) ts
 inner_deep k r q fs ts e h =
     let d = deep_of k (finish fs) (ends_at e h (brace here)) in
-    subst (λ z. IsDeep k (to_closed (option_map (function_of q) z))) (sym d.is) (closed d.nests)
+    closes k q d.value (finish fs) None ts d.is d.nests
 
 pub ruleset expressions = (
   moves_none,

@@ -1,1 +1,3 @@
 pub mod ExpressionLemmas
+pub mod FrontLemmas
+pub mod StepLemmas

@@ -1,5 +1,5 @@
 -- Where the reading of a query stands.
-use Rattle.std.specs.Prelude.{◌≡◌, ◌<◌, ℕ, List, Option, Some, None}
+use Rattle.std.specs.Prelude.{◌≡◌, ◌<◌, ◌≤◌, ℕ, List, Option, Some, None}
 use Rattle.expr_terms.specs.declared.tokens.Token.{Token}
 use Rattle.expr_terms.specs.declared.tokens.Token.TheVariants as token
 use Rattle.expr_terms.specs.declared.keys.Key.TheVariants as key
@@ -37,11 +37,27 @@ pub record Holds (k : ℕ) (r : Reader) (fs : List Frame) (ts : List Token) : Ty
   pub limit : r.limit ≡ k
   pub tracks : (seg : List Token) → Before seg ts → Tracks r fs seg
 
+-- how deep the expression of a declaration nests
+abbrev pub nest_in : Declared → ℕ
+nest_in (declared.Variable n (Some w)) = raw_nest_of w
+nest_in (declared.Function q ps k w) = raw_nest_of w
+nest_in _ = 0
+
+-- a declaration is kept exactly where its expression nests no deeper than the limit
+abbrev pub IsKept : ℕ → Option Declared → Declared → Type 0
+IsKept k None d = k < nest_in d
+IsKept k (Some e) d = (e ≡ d) × (nest_in d ≤ k)
+
 pub record InFrames (k : ℕ) (m : Mode) (to : List Frame → Mode) (r : Reader) (ts : List Token)
     : Type 0 where
   pub frames : List Frame
   pub mode : m ≡ to frames
   pub holds : Holds k r frames ts
+
+pub record Behind (k : ℕ) (o : Option Declared) (m : Mode) : Type 0 where
+  pub declared : Declared
+  pub mode : m ≡ machine.closed declared
+  pub kept : IsKept k o declared
 
 abbrev pub Stands : ℕ → Stage → Mode → List Token → Type 0
 Stands k stage.Front m ts = m ≡ machine.front
@@ -50,30 +66,23 @@ Stands k (stage.Head o us) m ts = m ≡ machine.head o us.items
 Stands k (stage.Body r) m ts = InFrames k m machine.body r ts
 Stands k (stage.Value n r) m ts = InFrames k m (machine.value n) r ts
 Stands k (stage.Inner q r) m ts = InFrames k m (machine.inner q) r ts
-Stands k (stage.Closed d) m ts = m ≡ machine.closed d
-
--- how deep the expression of a declaration nests
-abbrev pub nest_in : Declared → ℕ
-nest_in (declared.Variable n (Some w)) = raw_nest_of w
-nest_in (declared.Function q ps k w) = raw_nest_of w
-nest_in _ = 0
-
--- a declaration ends whose expression nests deeper than the limit
-pub data IsDeep (k : ℕ) : machine.Turn → Type 0 where
-  ended : {d : Declared} → k < nest_in d → IsDeep k (machine.ends d)
-  closed : {d : Declared} → k < nest_in d → IsDeep k (machine.onto (machine.closed d))
+Stands k (stage.Closed o) m ts = Behind k o m
 
 pub record Goes (k : ℕ) (s : Stage) (u : machine.Turn) (ts : List Token) : Type 0 where
   pub mode : Mode
   pub onto : u ≡ machine.onto mode
   pub stands : Stands k s mode ts
 
+pub record Ends (k : ℕ) (o : Option Declared) (u : machine.Turn) : Type 0 where
+  pub declared : Declared
+  pub ends : u ≡ machine.ends declared
+  pub kept : IsKept k o declared
+
 -- where a token leads to
 abbrev pub Turned : ℕ → Turn → machine.Turn → List Token → Type 0
 Turned k turn.Refused u ts = u ≡ machine.refused
-Turned k turn.TooDeep u ts = IsDeep k u
 Turned k (turn.Onto s) u ts = Goes k s u ts
-Turned k (turn.Ends d) u ts = u ≡ machine.ends d
+Turned k (turn.Ends o) u ts = Ends k o u
 
 -- where it leads an expression to
 pub record Held (k : ℕ) (r : Reader) (o : Option (List Frame)) (ts : List Token) : Type 0 where

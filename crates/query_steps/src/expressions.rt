@@ -17,7 +17,7 @@ use std::alloc::{AllocError, Global};
 
 /// Leads the token into the expression.
 #[tactic(auto, using(crate::proofs::ExpressionLemmas::expressions))]
-fn lead(
+pub fn lead(
     alloc: Global,
     reader: Reader,
     token: &Token,
@@ -81,8 +81,8 @@ pub fn value_end(variable: Typed, reader: Reader) -> Result<Turn, AllocError>
 {
     match reader.finish()? {
         Reading::Nothing => Ok(Turn::Refused),
-        Reading::TooDeep => Ok(Turn::TooDeep),
-        Reading::Value(raw) => Ok(Turn::Ends(Declared::Variable(variable, Some(raw)))),
+        Reading::TooDeep => Ok(Turn::Ends(None)),
+        Reading::Value(raw) => Ok(Turn::Ends(Some(Declared::Variable(variable, Some(raw))))),
     }
 }
 
@@ -114,10 +114,11 @@ pub fn inner_end(signature: Signature, reader: Reader) -> Result<Turn, AllocErro
 {
     match reader.finish()? {
         Reading::Nothing => Ok(Turn::Refused),
-        Reading::TooDeep => Ok(Turn::TooDeep),
+        Reading::TooDeep => Ok(Turn::Onto(Stage::Closed(None))),
         Reading::Value(raw) => {
             let Signature { name, params, kind } = signature;
-            Ok(Turn::Onto(Stage::Closed(Declared::Function(name, params, kind, raw))))
+            let declared = Declared::Function(name, params, kind, raw);
+            Ok(Turn::Onto(Stage::Closed(Some(declared))))
         }
     }
 }

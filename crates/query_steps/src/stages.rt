@@ -18,8 +18,8 @@ pub enum Stage {
     Value(Typed, Reader),
     /// In the body of a function.
     Inner(Signature, Reader),
-    /// Behind it.
-    Closed(Declared),
+    /// Behind it: what is declared, but where the body nests deeper than the limit.
+    Closed(Option<Declared>),
 }
 
 /// What a token leads to.
@@ -27,10 +27,9 @@ pub enum Stage {
 pub enum Turn {
     /// Nothing goes on so.
     Refused,
-    /// An expression has ended that nests deeper than the limit.
-    TooDeep,
     /// The reading goes on.
     Onto(Stage),
-    /// A declaration has ended, and the reading goes on at the front.
-    Ends(Declared),
+    /// A declaration has ended, and the reading goes on at the front. What is declared is kept, but
+    /// where its expression nests deeper than the limit.
+    Ends(Option<Declared>),
 }

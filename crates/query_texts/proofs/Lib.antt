@@ -1,0 +1,3 @@
+pub mod SuitLemmas
+pub mod OrderLemmas
+pub mod StandingLemmas

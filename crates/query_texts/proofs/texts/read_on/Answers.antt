@@ -1,0 +1,52 @@
+use Rattle.std.proofs.Common.{subst}
+use Rattle.query_pieces.specs.Answers.{Answers}
+use Rattle.query_pieces.specs.Readings.{Reads}
+use Rattle.query_texts.proofs.StandingLemmas.{stuck, ending, taken_none, taken_some}
+use Rattle.query_pieces.proofs.ShortLemmas.{reads_shorter}
+use Rattle.query_texts.proofs.texts.read_on.Goals as goal
+
+pub returns-in-Nothing : goal.returns-in-Nothing
+returns-in-Nothing c =
+    record {
+      follows = λ text s.
+          stuck c.args.limit text c.args.progress c.args.pieces.now _ c.wants.ensures s
+          (subst (λ z. Answers c.wants.result c.args.pieces.now z c.read.new.self) c.in-Nothing.is
+          c.in_ok-read.ensures.answers);
+      shorter = tt;
+    }
+
+pub returns-in_ok-end-in-End : goal.returns-in_ok-end-in-End
+returns-in_ok-end-in-End c =
+    record {
+      follows = λ text s.
+          ending c.args.limit text c.args.progress c.args.pieces.now _ s
+          (subst (λ z. Answers c.wants.result c.args.pieces.now z c.read.new.self) c.in-End.is
+          c.in_ok-read.ensures.answers) c.in_ok-end-in-End.ensures;
+      shorter = tt;
+    }
+
+pub returns-in-None : goal.returns-in-None
+returns-in-None c =
+    record {
+      follows = λ text s.
+          taken_none c.args.limit text c.args.progress c.args.pieces.now c.read.new.self
+          c.wants.result c.in-Token.token c.second-second.result _ c.wants.ensures s
+          (subst (λ z. Answers c.wants.result c.args.pieces.now z c.read.new.self) c.in-Token.is
+          c.in_ok-read.ensures.answers)
+          c.second-second.ensures c.in_ok-take-in-Token.ensures c.in-None.is;
+      shorter = tt;
+    }
+
+pub returns-in-Some : goal.returns-in-Some
+returns-in-Some c =
+    let r : Reads c.wants.result c.args.pieces.now c.in-Token.token c.read.new.self =
+    subst (λ z. Answers c.wants.result c.args.pieces.now z c.read.new.self) c.in-Token.is
+    c.in_ok-read.ensures.answers in
+    record {
+      follows = λ text s.
+          taken_some c.args.limit text c.args.progress c.args.pieces.now c.read.new.self
+          c.wants.result c.in-Token.token c.second-second.result _ c.in-Some.further c.wants.ensures s r
+          c.second-second.ensures c.in_ok-take-in-Token.ensures c.in-Some.is;
+      shorter =
+          reads_shorter c.wants.result c.args.pieces.now c.in-Token.token c.read.new.self r;
+    }

@@ -1,0 +1,177 @@
+// From the first token of a text to its end.
+ghost use Rattle.std.specs.Prelude.{◌≡◌, ◌∷◌, [], ℕ, List, IfOk};
+ghost use Rattle.std.specs.Str.{chars};
+ghost use Rattle.expr_terms.specs.declared.tokens.Token.{Token as Term};
+ghost use Rattle.expr_terms.specs.Choices.{second_of};
+ghost use Rattle.query_grammar.specs.Machine.{read_query};
+ghost use Rattle.query_pieces.specs.declared.contexts.Before.{Before};
+ghost use Rattle.query_pieces.specs.Points.{before_of};
+ghost use Rattle.query_texts.specs.Texts.{ReadAs};
+ghost use Rattle.query_texts.specs.Standings.{Here, Standing, Judged, Takes, Closes, Follows};
+ghost use Rattle.query_texts.specs.Standings.{IsShorter};
+
+use crate::orders::{Order, placed};
+use crate::readings::QueryReading;
+use expr_reader::Reading;
+use expr_terms::{Second, Token};
+use query_grammar::{Declared, RawQuery};
+use query_pieces::{Found, Pieces};
+use query_steps::{Stage, Turn, finish, step, wants};
+use std::alloc::{AllocError, Global};
+use xt_names::List;
+
+/// How far a text is read.
+#[derive(Drop)]
+struct Progress {
+    stage: Stage,
+    order: Order,
+    /// Whether an expression has nested deeper than the limit.
+    is_deep: bool,
+    /// The declarations, as long as none has.
+    declared: List<Declared>,
+}
+
+/// What comes of a token.
+#[derive(Drop)]
+enum Next {
+    Ends(QueryReading),
+    Onto(Progress),
+}
+
+/// Behind a declaration.
+#[tactic(auto, using(crate::proofs::StandingLemmas::standings))]
+fn behind(
+    alloc: Global,
+    order: Order,
+    is_deep: bool,
+    declared: List<Declared>,
+    ended: Option<Declared>,
+) -> Result<Option<Progress>, AllocError>
+    ensures { IfOk result (λ found. (k : ℕ) (b : Before) (ts us : List Term) →
+        Closes k ended order is_deep declared ts us → Takes k found b ts us) }
+{
+    let mut declared = declared;
+    match ended {
+        None => Ok(Some(Progress {
+            stage: Stage::Front,
+            order: Order::Late,
+            is_deep: true,
+            declared,
+        })),
+        Some(last) => match placed(order, &last) {
+            None => Ok(None),
+            Some(order) => {
+                declared.push(last)?;
+                Ok(Some(Progress {
+                    stage: Stage::Front,
+                    order,
+                    is_deep,
+                    declared,
+                }))
+            }
+        },
+    }
+}
+
+/// Takes a token; None where no query goes on so.
+#[tactic(auto, using(crate::proofs::StandingLemmas::standings))]
+fn take(
+    alloc: Global,
+    limit: u16,
+    progress: Progress,
+    token: Token,
+    second: Second,
+) -> Result<Option<Progress>, AllocError>
+    ensures { IfOk result (λ found. (b : Before) (ts us : List Term) → second_of us ≡ second →
+        Here limit progress b ts (token ∷ us) → Takes limit found (before_of token) ts us) }
+{
+    let Progress {
+        stage,
+        order,
+        is_deep,
+        declared,
+    } = progress;
+    match step(alloc, stage, limit, token, second)? {
+        Turn::Refused => Ok(None),
+        Turn::Onto(stage) => Ok(Some(Progress {
+            stage,
+            order,
+            is_deep,
+            declared,
+        })),
+        Turn::Ends(ended) => behind(alloc, order, is_deep, declared, ended),
+    }
+}
+
+/// At the end of the text.
+#[tactic(auto, using(crate::proofs::StandingLemmas::standings))]
+fn end(alloc: Global, limit: u16, progress: Progress) -> Result<QueryReading, AllocError>
+    ensures { IfOk result (λ reading. (b : Before) (ts : List Term) →
+        Here limit progress b ts [] → Judged limit reading (read_query ts)) }
+{
+    let Progress {
+        stage,
+        order: _,
+        is_deep,
+        declared,
+    } = progress;
+    match finish(alloc, stage, limit)? {
+        Reading::Nothing => Ok(QueryReading::Nothing),
+        Reading::TooDeep => Ok(QueryReading::TooDeep),
+        Reading::Value(body) => {
+            if is_deep {
+                drop(body);
+                Ok(QueryReading::TooDeep)
+            } else {
+                Ok(QueryReading::Value(RawQuery { declared, body }))
+            }
+        }
+    }
+}
+
+/// Reads one token on.
+#[tactic(auto, using(crate::proofs::StandingLemmas::standings))]
+fn read_on(
+    alloc: Global,
+    limit: u16,
+    pieces: &mut Pieces,
+    progress: Progress,
+) -> Result<Next, AllocError>
+    ensures follows { IfOk result (λ next. (text : List ℕ) →
+        Standing limit text progress pieces.old → Follows limit text next pieces.new) }
+    ensures shorter { IfOk result (λ next. IsShorter next pieces.old pieces.new) }
+{
+    match pieces.read(alloc, wants(&progress.stage))? {
+        Found::Nothing => Ok(Next::Ends(QueryReading::Nothing)),
+        Found::End => Ok(Next::Ends(end(alloc, limit, progress)?)),
+        Found::Token(token) => {
+            let second = pieces.second();
+            match take(alloc, limit, progress, token, second)? {
+                None => Ok(Next::Ends(QueryReading::Nothing)),
+                Some(further) => Ok(Next::Onto(further)),
+            }
+        }
+    }
+}
+
+/// The query that the text spells, where each of its expressions (its body, the initialisers and
+/// the bodies of functions) nests no deeper than the limit. Nothing is told exactly where it spells
+/// no query, and TooDeep exactly where it spells one with an expression that nests deeper.
+#[tactic(auto, using(crate::proofs::StandingLemmas::standings))]
+pub fn read_query(alloc: Global, text: &str, limit: u16) -> Result<QueryReading, AllocError>
+    ensures { IfOk result (λ reading. ReadAs (chars text.now) limit reading) }
+{
+    let mut pieces = Pieces::new(alloc, text);
+    let mut progress = Progress {
+        stage: Stage::Front,
+        order: Order::First,
+        is_deep: false,
+        declared: List::new(alloc),
+    };
+    loop {
+        match read_on(alloc, limit, &mut pieces, progress)? {
+            Next::Ends(reading) => return Ok(reading),
+            Next::Onto(further) => progress = further,
+        }
+    }
+}
