@@ -1,5 +1,5 @@
 -- The text of the option `space`: pairs of `strip` or `preserve` and a name test.
-use Rattle.std.specs.Prelude.{ℕ, List, [], ◌∷◌, ◌++◌, Bool, ◌||◌, Option, Some, None, codes, if◌then◌else◌}
+use Rattle.std.specs.Prelude.{ℕ, List, [], ◌∷◌, ◌++◌, ◌||◌, Option, Some, None, codes, if◌then◌else◌}
 use Rattle.std.specs.Str.{bytes_eq}
 use Rattle.xt_names.specs.Classes.{is_ncname_text}
 use Rattle.xt_names.specs.declared.names.Binding.{Binding}

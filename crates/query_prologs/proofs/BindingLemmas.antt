@@ -1,5 +1,5 @@
 -- Bindings behind others.
-use Rattle.std.proofs.Common.{◌≡◌, List, [], ◌∷◌, ◌++◌, refl, ap, ◌∙◌, append_assoc}
+use Rattle.std.proofs.Common.{◌≡◌, List, [], ◌∷◌, ◌++◌, refl, append_assoc}
 use Rattle.xt_names.specs.declared.names.Binding.{Binding}
 
 one_more : (bs cs : List Binding) (b : Binding) → (bs ++ cs) ++ b ∷ [] ≡ bs ++ (cs ++ b ∷ [])
