@@ -1,10 +1,13 @@
 -- The static rules that a part of a production can break (XPath 2.0, 2.1.1, 2.5 and 3.2.1.1; XQuery 1.0, 3.7.1.1).
-use Rattle.std.specs.Prelude.{ℕ, List, [], ◌∷◌, ◌++◌, Bool, if◌then◌else◌}
+use Rattle.std.specs.Prelude.{ℕ, List, [], ◌∷◌, ◌++◌, Bool, false, ◌&&◌, if◌then◌else◌}
+use Rattle.std.specs.List.{list_any}
+use Rattle.std.specs.Str.{bytes_eq}
 use Rattle.xt_names.specs.declared.names.Binding.{Binding}
+use Rattle.xt_names.specs.declared.names.ExprName.{ExprName}
 use Rattle.xt_names.specs.declared.names.Name.{Name}
 use Rattle.xt_names.specs.declared.codes.Code.{Code}
 use Rattle.xt_names.specs.declared.codes.Code.TheVariants.{QueryStatic}
-use Rattle.xt_names.specs.declared.codes.QueryStaticCode.TheVariants.{XPST0010, XQST0040}
+use Rattle.xt_names.specs.declared.codes.QueryStaticCode.TheVariants.{XPST0010, XQST0040, XQST0089}
 use Rattle.xt_syntax.specs.declared.exprs.Expr.{Expr}
 use Rattle.expr_names.specs.Names.{undeclared_in, test_broken}
 use Rattle.expr_names.specs.Types.{type_named, call_type, known_broken, cast_broken, arity_broken}
@@ -89,9 +92,20 @@ abbrev pub call_broken : List Binding → List ℕ → List Meant → List Code
 call_broken bound functions [] = []
 call_broken bound functions (m ∷ ms) = arity_broken (call_type (type_named (name_of bound functions m))) (args_of ms)
 
--- .. which is tested once all parts are there
+-- the part is the variable behind `at`, of this name
+unfoldable pub is_place_of : ExprName → Meant → Bool
+is_place_of n (meant.Place p) = bytes_eq n.uri p.uri && bytes_eq n.local p.local
+is_place_of n _ = false
+
+-- a `for` has two names for its item and its position (XQuery 1.0, 3.8.1)
+abbrev pub bind_broken : List Binding → List Meant → List Code
+bind_broken bound [] = []
+bind_broken bound (m ∷ ms) = if list_any (is_place_of (name_of bound [] m)) ms then QueryStatic XQST0089 ∷ [] else []
+
+-- the rules that are tested once all parts are there
 unfoldable pub end_broken : List Binding → List ℕ → Production → List Meant → List Code
 end_broken bound functions production.Call ms = call_broken bound functions ms
+end_broken bound functions production.Bind ms = bind_broken bound ms
 end_broken bound functions _ ms = []
 
 abbrev pub name_and : Meant → List Name → List Name

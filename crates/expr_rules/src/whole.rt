@@ -4,14 +4,15 @@ ghost use Rattle.xt_names.specs.declared.kinds.AtomType.{AtomType};
 ghost use Rattle.xt_syntax.specs.declared.exprs.Expr.{Expr};
 ghost use Rattle.expr_names.specs.Answers.{Answers};
 ghost use Rattle.expr_names.specs.Types.{call_type, type_named, arity_broken};
-ghost use Rattle.expr_rules.specs.Rules.{args_in, args_of, call_broken, end_broken, name_and, attr_names, doubles_broken};
+ghost use Rattle.expr_rules.specs.Rules.{args_in, args_of, call_broken, end_broken, name_and, attr_names, doubles_broken, is_place_of, bind_broken};
+ghost use Rattle.std.specs.List.{list_any};
 
 use crate::known::name_of;
 use expr_meant::Meant;
-use expr_names::{ResolveFault, call_type, names_differ, static_fault};
+use expr_names::{ResolveFault, call_type, names_differ, no_text, static_fault};
 use expr_terms::Production;
 use std::alloc::{AllocError, Global};
-use xt_names::{AtomType, Binding, List, Name, QueryStaticCode, Shared, Text};
+use xt_names::{AtomType, Binding, ExprName, List, Name, QueryStaticCode, Shared, Text};
 use xt_syntax::Expr;
 
 #[tactic(auto, unfolding(crate::specs::Rules::args_in))]
@@ -66,7 +67,40 @@ fn call_rule(
     }
 }
 
-/// XPST0017 where a call of the name of an atomic type has another number of arguments than one.
+#[tactic(auto, unfolding(crate::specs::Rules::is_place_of))]
+fn is_place_of(name: &ExprName, part: &Meant) -> bool
+    ensures { result ≡ is_place_of name.now part.now }
+{
+    match part {
+        Meant::Place(place) => *name == *place,
+        _ => false,
+    }
+}
+
+fn has_place_of(name: &ExprName, parts: &[Meant]) -> bool
+    ensures { result ≡ list_any (is_place_of name.now) parts.now }
+{
+    parts.iter().any(|part| is_place_of(name, part))
+}
+
+fn bind_rule(alloc: Global, bound: &[Binding], parts: &[Meant]) -> Result<(), ResolveFault>
+    ensures { Answers result (bind_broken bound.now parts.now) tt }
+{
+    match parts {
+        [] => Ok(()),
+        [front, rest @ ..] => {
+            let none = no_text(alloc)?;
+            let name = name_of(alloc, bound, &none, front)?;
+            if has_place_of(&name, rest) {
+                return Err(static_fault(QueryStaticCode::XQST0089));
+            }
+            Ok(())
+        }
+    }
+}
+
+/// XPST0017 where a call of the name of an atomic type has another number of arguments than one,
+/// and XQST0089 where a `for` has one name for its item and its position.
 #[tactic(auto, unfolding(crate::specs::Rules::end_broken))]
 pub fn end_rule(
     alloc: Global,
@@ -79,6 +113,7 @@ pub fn end_rule(
 {
     match production {
         Production::Call => call_rule(alloc, bound, functions, parts),
+        Production::Bind => bind_rule(alloc, bound, parts),
         _ => Ok(()),
     }
 }

@@ -1,0 +1,4 @@
+pub mod Declarations
+pub mod Late
+pub mod Queries
+pub mod Meaning
