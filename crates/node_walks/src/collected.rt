@@ -16,11 +16,7 @@ use xt_tree::Node;
 /// The nodes that the cursor has not reached yet, that pass its test and that the predicates keep in
 /// turn, where each of them counts positions in the list that it gets (XPath 2.0, 3.2.2). The whole
 /// axis is walked, so the predicates may look at how many nodes there are.
-pub fn kept_hits(
-    alloc: Global,
-    cursor: Cursor,
-    tests: &[Expr],
-) -> Result<ItemList, AllocError>
+pub fn kept_hits(alloc: Global, cursor: Cursor, tests: &[Expr]) -> Result<ItemList, AllocError>
     requires { are_allowed tests.now ≡ true }
     ensures { let kept = kept_by_all (keeps tests.now) (hits_ahead cursor) in
         IfOk result (λ items. items ≡ map a_node kept) }
