@@ -2,7 +2,7 @@
 ghost use Rattle.std.specs.Prelude.{◌≡◌, ◌++◌, ◌<◌, ◌^◌, length, slice_get, is_some};
 ghost use Rattle.std.specs.Prelude.{option_map, pos};
 ghost use Rattle.std.specs.Option.{option_to_list, SomeIff};
-ghost use Rattle.lazy_seq.specs.Flow.{has_item};
+ghost use Rattle.node_walks.specs.Moves.{has_item};
 ghost use Rattle.lazy_seq.specs.Integers.{integers, as_item};
 
 use std::marker::Model;

@@ -1,21 +1,21 @@
 // A sequence that is no concatenation.
-ghost use Rattle.std.specs.Prelude.{◌≡◌, ◌++◌, ◌+◌, ◌≤◌, ◌<◌, ◌^◌, IfOk, OnErr, true};
+ghost use Rattle.std.specs.Prelude.{◌≡◌, ◌++◌, ◌+◌, ◌≤◌, ◌<◌, ◌^◌, IfOk, OnErr};
 ghost use Rattle.std.specs.Prelude.{length, slice_get, is_some};
-ghost use Rattle.std.specs.Option.{option_to_list, SomeIff};
-ghost use Rattle.lazy_seq.specs.Flow.{has_item};
-ghost use Rattle.lazy_seq.specs.Leaves.{stretch_of};
+ghost use Rattle.std.specs.Option.{SomeIff};
+ghost use Rattle.node_walks.specs.Moves.{given, steps_before, all_steps, settled, has_item, giving};
+ghost use Rattle.lazy_seq.specs.Leaves.{leaf_moves};
 
 use crate::integers::Integers;
 use crate::shares::SharedStock;
 use crate::stocks::Stock;
-use crate::walks::Walk;
 use node_axes::Steps;
+use node_walks::Walk;
 use std::alloc::AllocError;
 use std::sync::ledger::Ledger;
 use xdm_items::Item;
 use xt_atoms::Atom;
 
-/// Items that are held, integers of a range, or the hits of a cursor.
+/// Items that are held, integers of a range, or what a walk along an axis gives.
 #[derive(Drop)]
 pub(crate) enum Leaf {
     Stock(Stock),
@@ -25,30 +25,34 @@ pub(crate) enum Leaf {
 }
 
 impl Leaf {
-    /// Whether there is an item; a cursor goes to it. It takes no memory.
-    pub(crate) fn settle<L: Ledger>(&mut self, steps: &mut Steps<L>) -> bool
-        ensures items { (stretch_of self.new).items ≡ (stretch_of self.old).items }
-        ensures some { result ≡ has_item (stretch_of self.old).items }
-        ensures stands { result ≡ true → (stretch_of self.new).reach ≡ 0 }
-        ensures steps { steps.new ≤ steps.old + (stretch_of self.old).reach }
-        ensures reach { (stretch_of self.new).reach ≤ (stretch_of self.old).reach }
+    /// Whether there is an item; a walk goes to it.
+    #[tactic(auto, using(crate::proofs::MoveLemmas::given_all, crate::proofs::MoveLemmas::settled_all))]
+    pub(crate) fn settle<L: Ledger>(&mut self, steps: &mut Steps<L>) -> Result<bool, AllocError>
+        ensures rest { settled (leaf_moves self.new) ≡ settled (leaf_moves self.old) }
+        ensures some { IfOk result (λ some. some ≡ has_item (given (leaf_moves self.old))) }
+        ensures stands { IfOk result (λ some. leaf_moves self.new ≡ settled (leaf_moves self.old)) }
+        ensures steps { steps.new + steps_before (leaf_moves self.new)
+            ≡ steps.old + steps_before (leaf_moves self.old) }
+        ensures on { steps.old ≤ steps.new }
     {
         match self {
-            Leaf::Stock(stock) => stock.has_item(),
-            Leaf::Shared(stock) => stock.has_item(),
-            Leaf::Integers(integers) => integers.has_item(),
+            Leaf::Stock(stock) => Ok(stock.has_item()),
+            Leaf::Shared(stock) => Ok(stock.has_item()),
+            Leaf::Integers(integers) => Ok(integers.has_item()),
             Leaf::Walk(walk) => walk.settle(steps),
         }
     }
 
+    #[tactic(auto, using(crate::proofs::MoveLemmas::given_all))]
     pub(crate) fn first<L: Ledger>(
         &mut self,
         steps: &mut Steps<L>,
     ) -> Result<Option<Item>, AllocError>
-        ensures items { (stretch_of self.new).items ≡ (stretch_of self.old).items }
-        ensures first { IfOk result (λ item. item ≡ slice_get (stretch_of self.old).items 0) }
-        ensures steps { steps.new ≤ steps.old + (stretch_of self.old).reach }
-        ensures reach { (stretch_of self.new).reach ≤ (stretch_of self.old).reach }
+        ensures rest { settled (leaf_moves self.new) ≡ settled (leaf_moves self.old) }
+        ensures first { IfOk result (λ item. item ≡ slice_get (given (leaf_moves self.old)) 0) }
+        ensures steps { steps.new + steps_before (leaf_moves self.new)
+            ≡ steps.old + steps_before (leaf_moves self.old) }
+        ensures on { steps.old ≤ steps.new }
     {
         match self {
             Leaf::Stock(stock) => stock.at(0),
@@ -58,15 +62,19 @@ impl Leaf {
         }
     }
 
+    #[tactic(auto, using(crate::proofs::MoveLemmas::given_all, crate::proofs::MoveLemmas::no_steps_in_all))]
     pub(crate) fn next<L: Ledger>(
         &mut self,
         steps: &mut Steps<L>,
     ) -> Result<Option<Item>, AllocError>
-        ensures ok { let before = (stretch_of self.old).items in
-            IfOk result (λ item. before ≡ option_to_list item ++ (stretch_of self.new).items) }
-        ensures some { IfOk result (λ item. is_some item ≡ has_item (stretch_of self.old).items) }
-        ensures err { OnErr result ((stretch_of self.new).items ≡ (stretch_of self.old).items) }
-        ensures steps { steps.new ≤ steps.old + (stretch_of self.old).reach }
+        ensures after { let before = settled (leaf_moves self.old) in
+            IfOk result (λ item. before ≡ giving item ++ leaf_moves self.new) }
+        ensures some { let before = given (leaf_moves self.old) in
+            IfOk result (λ item. is_some item ≡ has_item before) }
+        ensures err { OnErr result (settled (leaf_moves self.new) ≡ settled (leaf_moves self.old)) }
+        ensures steps { steps.new ≤ steps.old + steps_before (leaf_moves self.old) }
+        ensures all { steps.new + all_steps (leaf_moves self.new)
+            ≡ steps.old + all_steps (leaf_moves self.old) }
     {
         match self {
             Leaf::Stock(stock) => Ok(stock.next()),
@@ -77,8 +85,9 @@ impl Leaf {
     }
 
     /// How many items there are; None exactly past 2^63-1.
+    #[tactic(auto, using(crate::proofs::MoveLemmas::given_all))]
     pub(crate) fn count(&self) -> Result<Option<u64>, AllocError>
-        ensures { let n = length (stretch_of self.now).items in
+        ensures { let n = length (given (leaf_moves self.now)) in
             IfOk result (λ count. SomeIff count (n < 2 ^ 63) n) }
     {
         match self {
@@ -90,8 +99,9 @@ impl Leaf {
     }
 
     /// The item at the place, from 0.
+    #[tactic(auto, using(crate::proofs::MoveLemmas::given_all))]
     pub(crate) fn at(&self, place: u64) -> Result<Option<Item>, AllocError>
-        ensures { IfOk result (λ item. item ≡ slice_get (stretch_of self.now).items place) }
+        ensures { IfOk result (λ item. item ≡ slice_get (given (leaf_moves self.now)) place) }
     {
         match self {
             Leaf::Stock(stock) => stock.at(place as usize),
@@ -102,7 +112,7 @@ impl Leaf {
     }
 
     pub(crate) fn copy(&self) -> Result<Leaf, AllocError>
-        ensures { IfOk result (λ leaf. stretch_of leaf ≡ stretch_of self.now) }
+        ensures { IfOk result (λ leaf. leaf_moves leaf ≡ leaf_moves self.now) }
     {
         match self {
             Leaf::Stock(stock) => Ok(Leaf::Stock(stock.copy()?)),

@@ -1,6 +1,7 @@
 // The parts of a concatenation, which are read and not walked.
 ghost use Rattle.std.specs.Prelude.{◌≡◌, ◌+◌, ◌≤◌, ◌<◌, ◌^◌, IfOk, length, slice_get, ℕ};
 ghost use Rattle.std.specs.Option.{SomeIff, MatchOption};
+ghost use Rattle.node_walks.specs.Moves.{given};
 ghost use Rattle.lazy_seq.specs.Stacks.{stacked};
 
 use crate::seqs::{Seq, Shape};
@@ -29,7 +30,7 @@ pub(crate) fn copy_parts(alloc: Global, parts: &[Seq]) -> Result<Vec<Seq>, Alloc
 
 /// How many items the parts have; None exactly past 2^63-1.
 pub(crate) fn count_parts(parts: &[Seq]) -> Result<Option<u64>, AllocError>
-    ensures { let n = length (stacked parts.now) in
+    ensures { let n = length (given (stacked parts.now)) in
         IfOk result (λ count. SomeIff count (n < 2 ^ 63) n) }
 {
     let mut total: u64 = 0;
@@ -69,7 +70,7 @@ fn sum(total: u64, more: Option<u64>) -> Option<u64>
 /// The item at the place, from 0.
 pub(crate) fn at_parts(parts: &[Seq], place: u64) -> Result<Option<Item>, AllocError>
     requires { place < 2 ^ 63 }
-    ensures { IfOk result (λ item. item ≡ slice_get (stacked parts.now) place) }
+    ensures { IfOk result (λ item. item ≡ slice_get (given (stacked parts.now)) place) }
 {
     let mut left = place;
     let mut end = parts.len();

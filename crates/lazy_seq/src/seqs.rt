@@ -1,13 +1,22 @@
 // Sequences that are walked on demand.
 ghost use Rattle.std.specs.Prelude.{◌≡◌, ◌++◌, ◌+◌, ◌≤◌, ◌<◌, ◌^◌, IfOk, OnErr, Ok, true, false};
-ghost use Rattle.std.specs.Prelude.{[], length, slice_get, is_some, not, pos};
-ghost use Rattle.std.specs.List.{flat_map};
+ghost use Rattle.std.specs.Prelude.{[], length, slice_get, is_some, not, pos, map, replicate};
+ghost use Rattle.std.specs.List.{flat_map, list_all, sum_by};
 ghost use Rattle.std.specs.Option.{option_to_list, SomeIff};
-ghost use Rattle.lazy_seq.specs.Flow.{hits_to_come, steps_to_come, has_item, item_at};
+ghost use Rattle.node_axes.specs.Course.{to_come};
+ghost use Rattle.step_walks.specs.Hits.{hits_ahead, steps_ahead};
+ghost use Rattle.step_walks.specs.Nodes.{kept_by_all};
+ghost use Rattle.quiet_meaning.specs.Paths.{are_allowed, keeps};
+ghost use Rattle.quiet_places.specs.Free.{is_size_free_expr};
+ghost use Rattle.xdm_items.specs.declared.items.Item.TheVariants.{Node as a_node};
+ghost use Rattle.node_walks.specs.Courses.{moves_to_come};
+ghost use Rattle.node_walks.specs.Moves.{given, steps_before, all_steps, settled, has_item, giving};
+ghost use Rattle.node_walks.specs.Sift.{sifted_moves};
+ghost use Rattle.lazy_seq.specs.Flow.{giving_all, item_at};
 ghost use Rattle.lazy_seq.specs.Integers.{integers};
-ghost use Rattle.lazy_seq.specs.Looks.{Looks, is_stack};
+ghost use Rattle.lazy_seq.specs.Looks.{Looks};
 ghost use Rattle.lazy_seq.specs.Orders.{in_document_order};
-ghost use Rattle.lazy_seq.specs.Stacks.{parts_flow, reach_along};
+ghost use Rattle.lazy_seq.specs.Stacks.{parts_flow};
 
 use crate::integers::Integers;
 use crate::leaves::Leaf;
@@ -16,18 +25,20 @@ use crate::parts::{at_parts, copy_parts, count_parts};
 use crate::shares::SharedStock;
 use crate::stacks::{Top, bring_up, first_of_parts, next_of_parts};
 use crate::stocks::Stock;
-use crate::walks::Walk;
 use node_axes::{Cursor, Steps};
+use node_walks::{Walk, kept_hits};
+use quiet_places::is_size_free;
 use std::alloc::{AllocError, Global};
 use std::marker::{Brand, Model};
 use std::mem;
 use std::sync::ledger::{Blank, Ledger};
 use xdm_items::{Item, ItemList};
 use xt_names::List;
+use xt_syntax::Expr;
 
-/// A sequence (XPath 2.0, 2) that is walked on demand. Contracts see its items, how many steps
-/// along an axis lead to the first of them at most, and its weight, which falls with each part that
-/// is put away and which no caller needs.
+/// A sequence (XPath 2.0, 2) that is walked on demand. Contracts see its moves, which are the steps
+/// along axes that it still takes and between them the items that it gives, and its weight, which
+/// falls with each part that is put away and which no caller needs.
 #[derive(Drop)]
 #[cycle(seq)]
 pub struct Seq {
@@ -65,9 +76,10 @@ impl Model for Seq {
 
 impl Seq {
     /// The sequence of the items. It takes no memory.
+    #[tactic(auto, using(crate::proofs::MoveLemmas::given_all))]
     pub fn of_list(items: ItemList) -> Seq
-        ensures items { result.items ≡ items }
-        ensures reach { result.reach ≡ 0 }
+        ensures moves { result.moves ≡ giving_all items }
+        ensures items { given result.moves ≡ items }
     {
         Seq {
             shape: Shape::Leaf(Leaf::Stock(Stock::new(items))),
@@ -76,9 +88,10 @@ impl Seq {
 
     /// The integers from the first to the last, both included (XPath 2.0, 3.3.1). It takes no
     /// memory.
+    #[tactic(auto, using(crate::proofs::MoveLemmas::given_all))]
     pub fn of_range(from: i64, to: i64) -> Seq
-        ensures items { result.items ≡ integers from to }
-        ensures reach { result.reach ≡ 0 }
+        ensures moves { result.moves ≡ giving_all (integers from to) }
+        ensures items { given result.moves ≡ integers from to }
     {
         Seq {
             shape: Shape::Leaf(Leaf::Integers(Integers::new(from, to))),
@@ -86,14 +99,42 @@ impl Seq {
     }
 
     /// The nodes that the cursor has not reached yet and that pass its test, in the order of the
-    /// axis; the node at which it stands is not among them. It takes no memory and no step.
+    /// axis (XPath 2.0, 3.2.1); the node at which it stands is not among them. It takes no memory
+    /// and no step.
     pub fn of_cursor(cursor: Cursor) -> Seq
-        ensures items { result.items ≡ hits_to_come cursor }
-        ensures reach { result.reach ≡ steps_to_come cursor }
+        ensures moves { result.moves ≡ moves_to_come cursor }
+        ensures items { given result.moves ≡ map a_node (hits_ahead cursor) }
+        ensures first { steps_before result.moves ≡ steps_ahead cursor }
+        ensures whole { all_steps result.moves ≡ length (to_come cursor) + 1 }
     {
         Seq {
-            shape: Shape::Leaf(Leaf::Walk(Walk::new(cursor))),
+            shape: Shape::Leaf(Leaf::Walk(Walk::of_cursor(cursor))),
         }
+    }
+
+    /// Those of the same nodes that the predicates keep in turn, where each of them counts positions
+    /// in the list that it gets (XPath 2.0, 3.2.2). A predicate is asked when its node is reached;
+    /// where one looks at how many nodes there are, as last() does, all are collected at once.
+    pub fn of_quiet(alloc: Global, cursor: Cursor, quiet: List<Expr>) -> Result<Seq, AllocError>
+        requires { are_allowed quiet ≡ true }
+        ensures items { let kept = kept_by_all (keeps quiet) (hits_ahead cursor) in
+            IfOk result (λ seq. given seq.moves ≡ map a_node kept) }
+        ensures walked { list_all is_size_free_expr quiet ≡ true →
+            let none = replicate (length quiet) 0 in
+            let moves = sifted_moves (keeps quiet) none (moves_to_come cursor) in
+            IfOk result (λ seq. seq.moves ≡ moves) }
+        ensures collected { list_all is_size_free_expr quiet ≡ false →
+            let kept = kept_by_all (keeps quiet) (hits_ahead cursor) in
+            IfOk result (λ seq. seq.moves ≡ giving_all (map a_node kept)) }
+    {
+        if are_size_free(quiet.as_slice()) {
+            let walk = Walk::of_quiet(alloc, cursor, quiet)?;
+            return Ok(Seq {
+                shape: Shape::Leaf(Leaf::Walk(walk)),
+            });
+        }
+        let items = kept_hits(alloc, cursor, quiet.as_slice())?;
+        Ok(Seq::of_list(items))
     }
 
     /// The parts one after another, as the comma has them (XPath 2.0, 3.3.1). It takes no memory. A
@@ -101,8 +142,9 @@ impl Seq {
     /// down by calls, so that many parts are better put into one concatenation than into each
     /// other.
     pub fn concat(parts: List<Seq>) -> Seq
-        ensures items { result.items ≡ flat_map (λ p. p.items) parts }
-        ensures reach { result.reach ≡ reach_along parts }
+        ensures moves { result.moves ≡ flat_map (λ p. p.moves) parts }
+        ensures items { given result.moves ≡ flat_map (λ p. given p.moves) parts }
+        ensures whole { all_steps result.moves ≡ sum_by (λ p. all_steps p.moves) parts }
     {
         let mut parts = parts.into_vec();
         parts.reverse();
@@ -111,12 +153,14 @@ impl Seq {
         }
     }
 
-    /// The first item; the sequence stays as it was, also where memory runs out.
+    /// The first item; the sequence still gives it, also where memory runs out. The steps that it
+    /// takes are taken off those that come before the first item.
     pub fn first<L: Ledger>(&mut self, steps: &mut Steps<L>) -> Result<Option<Item>, AllocError>
-        ensures items { self.new.items ≡ self.old.items }
-        ensures first { IfOk result (λ item. item ≡ slice_get self.old.items 0) }
-        ensures steps { steps.new ≤ steps.old + self.old.reach }
-        ensures reach { self.new.reach ≤ self.old.reach }
+        ensures rest { settled self.new.moves ≡ settled self.old.moves }
+        ensures first { IfOk result (λ item. item ≡ slice_get (given self.old.moves) 0) }
+        ensures steps { steps.new + steps_before self.new.moves
+            ≡ steps.old + steps_before self.old.moves }
+        ensures on { steps.old ≤ steps.new }
     {
         match &mut self.shape {
             Shape::Leaf(leaf) => leaf.first(steps),
@@ -124,13 +168,18 @@ impl Seq {
         }
     }
 
-    /// Takes the first item out; None exactly where there is none. Where memory runs out the
-    /// sequence stays as it was.
+    /// Takes the first item out; None exactly where there is none. What is left then is what comes
+    /// after it, and so a whole walk takes as many steps as there are moves. Where memory runs out
+    /// the sequence still gives the same items.
     pub fn next<L: Ledger>(&mut self, steps: &mut Steps<L>) -> Result<Option<Item>, AllocError>
-        ensures ok { IfOk result (λ item. self.old.items ≡ option_to_list item ++ self.new.items) }
-        ensures some { IfOk result (λ item. is_some item ≡ has_item self.old.items) }
-        ensures err { OnErr result (self.new.items ≡ self.old.items) }
-        ensures steps { steps.new ≤ steps.old + self.old.reach }
+        ensures ok { let before = given self.old.moves in
+            IfOk result (λ item. before ≡ option_to_list item ++ given self.new.moves) }
+        ensures after { let before = settled self.old.moves in
+            IfOk result (λ item. before ≡ giving item ++ self.new.moves) }
+        ensures some { IfOk result (λ item. is_some item ≡ has_item (given self.old.moves)) }
+        ensures err { OnErr result (settled self.new.moves ≡ settled self.old.moves) }
+        ensures steps { steps.new ≤ steps.old + steps_before self.old.moves }
+        ensures all { steps.new + all_steps self.new.moves ≡ steps.old + all_steps self.old.moves }
     {
         match &mut self.shape {
             Shape::Leaf(leaf) => leaf.next(steps),
@@ -138,15 +187,17 @@ impl Seq {
         }
     }
 
-    /// Whether the sequence has no item; it stays as it was, also where memory runs out.
+    /// Whether the sequence has no item; it still gives the same, also where memory runs out. The
+    /// steps that it takes are taken off those that come before the first item.
     pub fn is_empty<L: Ledger>(&mut self, steps: &mut Steps<L>) -> Result<bool, AllocError>
-        ensures items { self.new.items ≡ self.old.items }
-        ensures empty { IfOk result (λ empty. empty ≡ not (has_item self.old.items)) }
-        ensures steps { steps.new ≤ steps.old + self.old.reach }
-        ensures reach { self.new.reach ≤ self.old.reach }
+        ensures rest { settled self.new.moves ≡ settled self.old.moves }
+        ensures empty { IfOk result (λ empty. empty ≡ not (has_item (given self.old.moves))) }
+        ensures steps { steps.new + steps_before self.new.moves
+            ≡ steps.old + steps_before self.old.moves }
+        ensures on { steps.old ≤ steps.new }
     {
         match &mut self.shape {
-            Shape::Leaf(leaf) => Ok(!leaf.settle(steps)),
+            Shape::Leaf(leaf) => Ok(!leaf.settle(steps)?),
             Shape::Parts(parts) => Ok(!bring_up(parts, steps)?),
         }
     }
@@ -155,7 +206,7 @@ impl Seq {
     /// range is not walked.
     pub fn len(&mut self) -> Result<Option<i64>, AllocError>
         ensures same { self.new ≡ self.old }
-        ensures count { let n = length self.old.items in
+        ensures count { let n = length (given self.old.moves) in
             IfOk result (λ count. SomeIff count (n < 2 ^ 63) (pos n)) }
     {
         match self.count()? {
@@ -168,7 +219,7 @@ impl Seq {
     /// sequence stays as it was, and a range is not walked.
     pub fn at(&mut self, place: i64) -> Result<Option<Item>, AllocError>
         ensures same { self.new ≡ self.old }
-        ensures item { IfOk result (λ item. item ≡ item_at place self.old.items) }
+        ensures item { IfOk result (λ item. item ≡ item_at place (given self.old.moves)) }
     {
         if place < 1 {
             return Ok(None);
@@ -179,7 +230,7 @@ impl Seq {
     /// The item that so many stand before.
     fn get(&self, before: u64) -> Result<Option<Item>, AllocError>
         requires { before < 2 ^ 63 }
-        ensures { IfOk result (λ item. item ≡ slice_get self.now.items before) }
+        ensures { IfOk result (λ item. item ≡ slice_get (given self.now.moves) before) }
     {
         match &self.shape {
             Shape::Leaf(leaf) => leaf.at(before),
@@ -188,7 +239,7 @@ impl Seq {
     }
 
     fn count(&self) -> Result<Option<u64>, AllocError>
-        ensures { let n = length self.now.items in
+        ensures { let n = length (given self.now.moves) in
             IfOk result (λ count. SomeIff count (n < 2 ^ 63) n) }
     {
         match &self.shape {
@@ -215,8 +266,9 @@ impl Seq {
     }
 
     /// All items.
+    #[tactic(auto, using(crate::proofs::MoveLemmas::given_all))]
     pub fn to_list(self, alloc: Global) -> Result<ItemList, AllocError>
-        ensures { IfOk result (λ items. items ≡ self.items) }
+        ensures { IfOk result (λ items. items ≡ given self.moves) }
     {
         match self.shape {
             Shape::Leaf(Leaf::Stock(stock)) => Ok(stock.into_list()),
@@ -230,8 +282,7 @@ impl Seq {
     /// The same items, held so that a copy of the sequence copies none of them. A range stays a
     /// range.
     pub fn share(self, alloc: Global) -> Result<Seq, AllocError>
-        ensures items { IfOk result (λ seq. seq.items ≡ self.items) }
-        ensures reach { IfOk result (λ seq. seq.reach ≡ 0) }
+        ensures { IfOk result (λ seq. seq.moves ≡ giving_all (given self.moves)) }
     {
         if self.is_range() {
             return Ok(self);
@@ -240,8 +291,9 @@ impl Seq {
     }
 
     /// Whether the sequence is a range.
+    #[tactic(auto, using(crate::proofs::MoveLemmas::given_all))]
     fn is_range(&self) -> bool
-        ensures { result ≡ true → self.now.reach ≡ 0 }
+        ensures { result ≡ true → self.now.moves ≡ giving_all (given self.now.moves) }
     {
         matches!(&self.shape, Shape::Leaf(Leaf::Integers(_)))
     }
@@ -250,8 +302,10 @@ impl Seq {
     /// are not sorted again. Callers give nodes alone: atoms stand before all nodes and count as
     /// one.
     pub fn in_document_order(self, alloc: Global) -> Result<Seq, AllocError>
-        ensures items { IfOk result (λ seq. seq.items ≡ in_document_order self.items) }
-        ensures reach { IfOk result (λ seq. seq.reach ≡ 0) }
+        ensures moves { let items = in_document_order (given self.moves) in
+            IfOk result (λ seq. seq.moves ≡ giving_all items) }
+        ensures items { let items = in_document_order (given self.moves) in
+            IfOk result (λ seq. given seq.moves ≡ items) }
     {
         let items = self.to_list(alloc)?;
         let nodes = in_order(items)?;
@@ -259,24 +313,30 @@ impl Seq {
     }
 
     /// A look at the top of a stack: what is no stack goes to its first item, a stack is taken out.
-    pub(crate) fn look<L: Ledger>(&mut self, alloc: Global, steps: &mut Steps<L>) -> Top
-        ensures looks { Looks result self.old self.new }
-        ensures still { is_stack result ≡ true → steps.new ≡ steps.old }
-        ensures steps { steps.new ≤ steps.old + self.old.reach }
+    pub(crate) fn look<L: Ledger>(
+        &mut self,
+        alloc: Global,
+        steps: &mut Steps<L>,
+    ) -> Result<Top, AllocError>
+        ensures looks { IfOk result (λ top. Looks top steps.old steps.new self.old self.new) }
+        ensures err { OnErr result (settled self.new.moves ≡ settled self.old.moves) }
+        ensures err_steps { OnErr result (steps.new + steps_before self.new.moves
+            ≡ steps.old + steps_before self.old.moves) }
+        ensures on { steps.old ≤ steps.new }
     {
         match &mut self.shape {
             Shape::Leaf(leaf) => {
-                if leaf.settle(steps) {
-                    Top::Ready
+                if leaf.settle(steps)? {
+                    Ok(Top::Ready)
                 } else {
-                    Top::Nothing
+                    Ok(Top::Nothing)
                 }
             }
             Shape::Parts(parts) => {
                 if parts.as_slice().is_empty() {
-                    return Top::Nothing;
+                    return Ok(Top::Nothing);
                 }
-                Top::Stack(mem::replace(parts, Vec::new(alloc)))
+                Ok(Top::Stack(mem::replace(parts, Vec::new(alloc))))
             }
         }
     }
@@ -294,10 +354,11 @@ impl Seq {
         steps: &mut Steps<L>,
     ) -> Result<Option<Item>, AllocError>
         requires { self.old.weight ≡ 1 }
-        ensures items { self.new.items ≡ self.old.items }
-        ensures first { IfOk result (λ item. item ≡ slice_get self.old.items 0) }
-        ensures steps { steps.new ≤ steps.old + self.old.reach }
-        ensures reach { self.new.reach ≤ self.old.reach }
+        ensures rest { settled self.new.moves ≡ settled self.old.moves }
+        ensures first { IfOk result (λ item. item ≡ slice_get (given self.old.moves) 0) }
+        ensures steps { steps.new + steps_before self.new.moves
+            ≡ steps.old + steps_before self.old.moves }
+        ensures on { steps.old ≤ steps.new }
     {
         match &mut self.shape {
             Shape::Leaf(leaf) => leaf.first(steps),
@@ -311,10 +372,12 @@ impl Seq {
         steps: &mut Steps<L>,
     ) -> Result<Option<Item>, AllocError>
         requires { self.old.weight ≡ 1 }
-        ensures ok { IfOk result (λ item. self.old.items ≡ option_to_list item ++ self.new.items) }
-        ensures some { IfOk result (λ item. is_some item ≡ has_item self.old.items) }
-        ensures err { OnErr result (self.new.items ≡ self.old.items) }
-        ensures steps { steps.new ≤ steps.old + self.old.reach }
+        ensures after { let before = settled self.old.moves in
+            IfOk result (λ item. before ≡ giving item ++ self.new.moves) }
+        ensures some { IfOk result (λ item. is_some item ≡ has_item (given self.old.moves)) }
+        ensures err { OnErr result (settled self.new.moves ≡ settled self.old.moves) }
+        ensures steps { steps.new ≤ steps.old + steps_before self.old.moves }
+        ensures all { steps.new + all_steps self.new.moves ≡ steps.old + all_steps self.old.moves }
     {
         match &mut self.shape {
             Shape::Leaf(leaf) => leaf.next(steps),
@@ -328,7 +391,7 @@ fn collect<L: Ledger>(alloc: Global, blank: Blank, left: &mut Seq) -> Result<Ite
     requires name { blank.name ≡ L.name }
     requires parts { blank.parts ≡ L.parts }
     requires one { 0 < blank.parts }
-    ensures { IfOk result (λ items. items ≡ left.old.items) }
+    ensures { IfOk result (λ items. items ≡ given left.old.moves) }
 {
     let mut steps = Steps::<L>::begin(blank);
     let mut items = List::new(alloc);
@@ -342,10 +405,11 @@ fn take_first<L: Ledger>(
     items: &mut ItemList,
     steps: &mut Steps<L>,
 ) -> Result<bool, AllocError>
-    ensures kept { let before = items.old ++ left.old.items in
-        IfOk result (λ more. items.new ++ left.new.items ≡ before) }
-    ensures less { result ≡ Ok true → length left.new.items < length left.old.items }
-    ensures end { result ≡ Ok false → left.new.items ≡ [] }
+    ensures kept { let before = items.old ++ given left.old.moves in
+        IfOk result (λ more. items.new ++ given left.new.moves ≡ before) }
+    ensures less { result ≡ Ok true →
+        length (given left.new.moves) < length (given left.old.moves) }
+    ensures end { result ≡ Ok false → given left.new.moves ≡ [] }
 {
     match left.next(steps)? {
         Some(item) => {
@@ -357,12 +421,18 @@ fn take_first<L: Ledger>(
 }
 
 fn shared(alloc: Global, seq: Seq) -> Result<Seq, AllocError>
-    ensures items { IfOk result (λ shared. shared.items ≡ seq.items) }
-    ensures reach { IfOk result (λ shared. shared.reach ≡ 0) }
+    ensures { IfOk result (λ shared. shared.moves ≡ giving_all (given seq.moves)) }
 {
     let items = seq.to_list(alloc)?;
     let stock = SharedStock::new(alloc, items)?;
     Ok(Seq {
         shape: Shape::Leaf(Leaf::Shared(stock)),
     })
+}
+
+/// Whether none of the predicates looks at how many nodes there are.
+fn are_size_free(tests: &[Expr]) -> bool
+    ensures { result ≡ list_all is_size_free_expr tests.now }
+{
+    tests.iter().all(|e| is_size_free(e))
 }

@@ -2,10 +2,9 @@
 // too, its parts are moved up once, so that a walk takes linear time however deep concatenations
 // nest.
 ghost use Rattle.std.specs.Prelude.{◌≡◌, ◌++◌, ◌+◌, ◌≤◌, ◌<◌, IfOk, OnErr, Ok, true, false};
-ghost use Rattle.std.specs.Prelude.{length, slice_get, is_some};
-ghost use Rattle.std.specs.Option.{option_to_list};
-ghost use Rattle.lazy_seq.specs.Flow.{has_item};
-ghost use Rattle.lazy_seq.specs.Stacks.{stacked, reach_over, total_weight, IsReady};
+ghost use Rattle.std.specs.Prelude.{[], length, slice_get, is_some};
+ghost use Rattle.node_walks.specs.Moves.{given, steps_before, all_steps, settled, has_item, giving};
+ghost use Rattle.lazy_seq.specs.Stacks.{stacked, total_weight, IsReady};
 
 use crate::seqs::Seq;
 use node_axes::Steps;
@@ -27,11 +26,14 @@ pub(crate) fn bring_up<L: Ledger>(
     parts: &mut Vec<Seq>,
     steps: &mut Steps<L>,
 ) -> Result<bool, AllocError>
-    ensures items { stacked parts.new.items ≡ stacked parts.old.items }
-    ensures some { IfOk result (λ some. some ≡ has_item (stacked parts.old.items)) }
+    ensures rest { settled (stacked parts.new.items) ≡ settled (stacked parts.old.items) }
+    ensures some { let before = given (stacked parts.old.items) in
+        IfOk result (λ some. some ≡ has_item before) }
     ensures ready { IfOk result (λ some. some ≡ true → IsReady parts.new.items) }
-    ensures steps { steps.new ≤ steps.old + reach_over 0 parts.old.items }
-    ensures reach { reach_over 0 parts.new.items ≤ reach_over 0 parts.old.items }
+    ensures none { IfOk result (λ some. some ≡ false → parts.new.items ≡ []) }
+    ensures steps { steps.new + steps_before (stacked parts.new.items)
+        ≡ steps.old + steps_before (stacked parts.old.items) }
+    ensures on { steps.old ≤ steps.new }
 {
     while !parts.as_slice().is_empty() {
         if turn(parts, steps)? {
@@ -45,18 +47,17 @@ pub(crate) fn bring_up<L: Ledger>(
 /// parts; true where the top is no stack and has an item.
 fn turn<L: Ledger>(parts: &mut Vec<Seq>, steps: &mut Steps<L>) -> Result<bool, AllocError>
     requires { 0 < length parts.old.items }
-    ensures items { stacked parts.new.items ≡ stacked parts.old.items }
+    ensures rest { settled (stacked parts.new.items) ≡ settled (stacked parts.old.items) }
     ensures ready { result ≡ Ok true → IsReady parts.new.items }
     ensures less { let weight = total_weight parts.old.items in
         result ≡ Ok false → total_weight parts.new.items < weight }
-    ensures left { let reach = steps.old + reach_over 0 parts.old.items in
-        result ≡ Ok false → steps.new + reach_over 0 parts.new.items ≤ reach }
-    ensures steps { steps.new ≤ steps.old + reach_over 0 parts.old.items }
-    ensures reach { reach_over 0 parts.new.items ≤ reach_over 0 parts.old.items }
+    ensures steps { steps.new + steps_before (stacked parts.new.items)
+        ≡ steps.old + steps_before (stacked parts.old.items) }
+    ensures on { steps.old ≤ steps.new }
 {
     let alloc = *parts.allocator();
     let last = parts.as_slice().len() - 1;
-    match parts[last].look(alloc, steps) {
+    match parts[last].look(alloc, steps)? {
         Top::Ready => return Ok(true),
         Top::Nothing => {
             parts.truncate(last);
@@ -74,15 +75,16 @@ fn turn<L: Ledger>(parts: &mut Vec<Seq>, steps: &mut Steps<L>) -> Result<bool, A
     }
 }
 
-/// The first item of a stack, which keeps its items.
+/// The first item of a stack, which still gives it.
 pub(crate) fn first_of_parts<L: Ledger>(
     parts: &mut Vec<Seq>,
     steps: &mut Steps<L>,
 ) -> Result<Option<Item>, AllocError>
-    ensures items { stacked parts.new.items ≡ stacked parts.old.items }
-    ensures first { IfOk result (λ item. item ≡ slice_get (stacked parts.old.items) 0) }
-    ensures steps { steps.new ≤ steps.old + reach_over 0 parts.old.items }
-    ensures reach { reach_over 0 parts.new.items ≤ reach_over 0 parts.old.items }
+    ensures rest { settled (stacked parts.new.items) ≡ settled (stacked parts.old.items) }
+    ensures first { IfOk result (λ item. item ≡ slice_get (given (stacked parts.old.items)) 0) }
+    ensures steps { steps.new + steps_before (stacked parts.new.items)
+        ≡ steps.old + steps_before (stacked parts.old.items) }
+    ensures on { steps.old ≤ steps.new }
 {
     if !bring_up(parts, steps)? {
         return Ok(None);
@@ -97,11 +99,15 @@ pub(crate) fn next_of_parts<L: Ledger>(
     parts: &mut Vec<Seq>,
     steps: &mut Steps<L>,
 ) -> Result<Option<Item>, AllocError>
-    ensures ok { let before = stacked parts.old.items in
-        IfOk result (λ item. before ≡ option_to_list item ++ stacked parts.new.items) }
-    ensures some { IfOk result (λ item. is_some item ≡ has_item (stacked parts.old.items)) }
-    ensures err { OnErr result (stacked parts.new.items ≡ stacked parts.old.items) }
-    ensures steps { steps.new ≤ steps.old + reach_over 0 parts.old.items }
+    ensures after { let before = settled (stacked parts.old.items) in
+        IfOk result (λ item. before ≡ giving item ++ stacked parts.new.items) }
+    ensures some { let before = given (stacked parts.old.items) in
+        IfOk result (λ item. is_some item ≡ has_item before) }
+    ensures err { let before = settled (stacked parts.old.items) in
+        OnErr result (settled (stacked parts.new.items) ≡ before) }
+    ensures steps { steps.new ≤ steps.old + steps_before (stacked parts.old.items) }
+    ensures all { steps.new + all_steps (stacked parts.new.items)
+        ≡ steps.old + all_steps (stacked parts.old.items) }
 {
     if !bring_up(parts, steps)? {
         return Ok(None);

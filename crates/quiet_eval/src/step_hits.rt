@@ -16,11 +16,11 @@ pub fn hits(alloc: Global, axis: Axis, test: &Test, node: &Node) -> Result<Vec<N
     ensures { IfOk result (λ nodes. nodes.items ≡ filter (passes_at axis test.now) (axis_nodes axis node.now)) }
 {
     let mut cursor = Cursor::new(alloc, node, axis, test.copy()?)?;
-    collect(alloc, &mut cursor)
+    hits_ahead(alloc, &mut cursor)
 }
 
-/// The nodes that the cursor has not reached yet and that pass its test.
-fn collect(alloc: Global, cursor: &mut Cursor) -> Result<Vec<Node>, AllocError>
+/// The nodes that the cursor has not reached yet and that pass its test (XPath 2.0, 3.2.1).
+pub fn hits_ahead(alloc: Global, cursor: &mut Cursor) -> Result<Vec<Node>, AllocError>
     ensures { IfOk result (λ nodes. nodes.items ≡ hits_ahead cursor.old) }
 {
     let mut nodes = Vec::new(alloc);

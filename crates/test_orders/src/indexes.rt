@@ -100,6 +100,38 @@ fn count_up(items: &[Item]) -> bool {
     items.len() as u64 == MANY
 }
 
+#[test]
+fn many_values_are_looked_up_at_once(rt: HostRuntime) {
+    let index = many_pairs(&rt);
+    let mut values = List::new(rt.alloc());
+    for n in 0..MANY {
+        let before = MANY.saturating_sub(n).saturating_sub(1);
+        let value = Item::Atom(digits(&rt, before));
+        values.push(value).expect(&rt, "memory");
+    }
+    let items = index.look_up(rt.alloc(), &values).expect(&rt, "memory");
+    assert!(rt; count_up(items.as_slice()));
+    drop(items);
+    drop(values);
+    drop(index);
+}
+
+// What is not found is not walked over.
+#[test]
+fn two_values_are_looked_up_many_times(rt: HostRuntime) {
+    let index = many_pairs(&rt);
+    let mut found: u64 = 0;
+    for n in 1..MANY {
+        let before = n.saturating_sub(1);
+        let both = two_keys(&rt, digits(&rt, n), digits(&rt, before));
+        if finds(&rt, &index, both, &[before, n]) {
+            found = found.saturating_add(1);
+        }
+    }
+    assert!(rt; found == MANY - 1);
+    drop(index);
+}
+
 // One value that many nodes have, given many times.
 #[test]
 fn a_value_that_is_given_many_times_is_looked_up_once(rt: HostRuntime) {

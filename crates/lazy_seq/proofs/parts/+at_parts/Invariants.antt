@@ -1,4 +1,5 @@
 use Rattle.std.proofs.Common.{◌≡◌, ◌≤◌, ◌<◌, ◌^◌, length, take, slice_get}
+use Rattle.node_walks.specs.Moves.{given}
 use Rattle.lazy_seq.specs.Stacks.{stacked, total_weight}
 use Rattle.lazy_seq.proofs.parts.+at_parts.Given as goal
 
@@ -9,7 +10,7 @@ abbrev pub invariant-loop-end : goal.invariant-loop-end
 invariant-loop-end l = record {
   within : l.end ≤ length l.parts;
   fits : l.left < 2 ^ 63;
-  found : slice_get (stacked (take l.end l.parts)) l.left ≡ slice_get (stacked l.parts) l.place;
+  found : slice_get (given (stacked (take l.end l.parts))) l.left ≡ slice_get (given (stacked l.parts)) l.place;
 }
 
 abbrev pub decreases-loop-end : goal.decreases-loop-end

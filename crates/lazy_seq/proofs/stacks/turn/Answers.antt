@@ -1,93 +1,98 @@
-use Rattle.std.proofs.Common.{◌≡◌, ◌-◌, suc, length, refl, ap, arith}
-use Rattle.lazy_seq.proofs.StackLemmas.{turn_ready, turn_nothing, turn_stack, turn_back}
+use Rattle.std.proofs.Common.{◌≡◌, ◌-◌, suc, length, ap, subst, arith}
+use Rattle.node_walks.specs.Quiet.{IsOn}
+use Rattle.lazy_seq.specs.Looks.{Looks, IsReadyTop, IsNoTop, IsTaken}
+use Rattle.lazy_seq.specs.Stacks.{parts_flow}
+use Rattle.lazy_seq.specs.declared.stacks.Top.{Top}
+use Rattle.lazy_seq.proofs.StackLemmas.{turn_ready, turn_nothing, turn_stack, turn_back, on_top}
 use Rattle.lazy_seq.proofs.stacks.turn.Goals as goal
 
-pub returns-in-Ready-clause-items : goal.returns-in-Ready-clause-items
-returns-in-Ready-clause-items g c =
+pub returns-in-Ready-clause-rest : goal.returns-in-Ready-clause-rest
+returns-in-Ready-clause-rest g c =
     let n = ap length c.as_slice.ensures.value in
     let e : suc (length c.as_slice.result.now - 1) ≡ length c.args.parts.now.items = omega arith in
-    let r = turn_ready c.args.parts.now.items (length c.as_slice.result.now - 1) c.index_mut.result.now c.look.new.self c.args.steps.now c.look.new.steps e c.index_mut.ensures.value c.in-Ready.ensures.looks c.look.ensures.steps in r.0.items
+    let q : IsReadyTop c.args.steps.now c.look.new.steps c.index_mut.result.now c.look.new.self = subst (λ (z : Top). Looks z c.args.steps.now c.look.new.steps c.index_mut.result.now c.look.new.self) c.in-Ready.is c.in_ok-look.ensures.looks in
+    let r = turn_ready c.args.parts.now.items (length c.as_slice.result.now - 1) c.index_mut.result.now c.look.new.self c.args.steps.now c.look.new.steps e c.index_mut.ensures.value q in r.0.rest
 
 pub returns-in-Ready-clause-steps : goal.returns-in-Ready-clause-steps
 returns-in-Ready-clause-steps g c =
     let n = ap length c.as_slice.ensures.value in
     let e : suc (length c.as_slice.result.now - 1) ≡ length c.args.parts.now.items = omega arith in
-    let r = turn_ready c.args.parts.now.items (length c.as_slice.result.now - 1) c.index_mut.result.now c.look.new.self c.args.steps.now c.look.new.steps e c.index_mut.ensures.value c.in-Ready.ensures.looks c.look.ensures.steps in r.0.steps
-
-pub returns-in-Ready-clause-reach : goal.returns-in-Ready-clause-reach
-returns-in-Ready-clause-reach g c =
-    let n = ap length c.as_slice.ensures.value in
-    let e : suc (length c.as_slice.result.now - 1) ≡ length c.args.parts.now.items = omega arith in
-    let r = turn_ready c.args.parts.now.items (length c.as_slice.result.now - 1) c.index_mut.result.now c.look.new.self c.args.steps.now c.look.new.steps e c.index_mut.ensures.value c.in-Ready.ensures.looks c.look.ensures.steps in r.0.reach
+    let q : IsReadyTop c.args.steps.now c.look.new.steps c.index_mut.result.now c.look.new.self = subst (λ (z : Top). Looks z c.args.steps.now c.look.new.steps c.index_mut.result.now c.look.new.self) c.in-Ready.is c.in_ok-look.ensures.looks in
+    let r = turn_ready c.args.parts.now.items (length c.as_slice.result.now - 1) c.index_mut.result.now c.look.new.self c.args.steps.now c.look.new.steps e c.index_mut.ensures.value q in r.0.steps
 
 pub returns-in-Ready-clause-ready : goal.returns-in-Ready-clause-ready
 returns-in-Ready-clause-ready g c =
     let n = ap length c.as_slice.ensures.value in
     let e : suc (length c.as_slice.result.now - 1) ≡ length c.args.parts.now.items = omega arith in
-    let r = turn_ready c.args.parts.now.items (length c.as_slice.result.now - 1) c.index_mut.result.now c.look.new.self c.args.steps.now c.look.new.steps e c.index_mut.ensures.value c.in-Ready.ensures.looks c.look.ensures.steps in λ _. r.1
+    let q : IsReadyTop c.args.steps.now c.look.new.steps c.index_mut.result.now c.look.new.self = subst (λ (z : Top). Looks z c.args.steps.now c.look.new.steps c.index_mut.result.now c.look.new.self) c.in-Ready.is c.in_ok-look.ensures.looks in
+    let r = turn_ready c.args.parts.now.items (length c.as_slice.result.now - 1) c.index_mut.result.now c.look.new.self c.args.steps.now c.look.new.steps e c.index_mut.ensures.value q in λ _. r.1
 
-pub returns-in-Nothing-clause-items : goal.returns-in-Nothing-clause-items
-returns-in-Nothing-clause-items g c =
+pub returns-in-Nothing-clause-rest : goal.returns-in-Nothing-clause-rest
+returns-in-Nothing-clause-rest g c =
     let n = ap length c.as_slice.ensures.value in
     let e : suc (length c.as_slice.result.now - 1) ≡ length c.args.parts.now.items = omega arith in
-    let r = turn_nothing c.args.parts.now.items c.truncate.new.self.items (length c.as_slice.result.now - 1) c.index_mut.result.now c.look.new.self c.args.steps.now c.look.new.steps e c.index_mut.ensures.value c.in-Nothing.ensures.looks c.look.ensures.steps c.truncate.ensures.items in r.items
-
-pub returns-in-Nothing-clause-less : goal.returns-in-Nothing-clause-less
-returns-in-Nothing-clause-less g c =
-    let n = ap length c.as_slice.ensures.value in
-    let e : suc (length c.as_slice.result.now - 1) ≡ length c.args.parts.now.items = omega arith in
-    let r = turn_nothing c.args.parts.now.items c.truncate.new.self.items (length c.as_slice.result.now - 1) c.index_mut.result.now c.look.new.self c.args.steps.now c.look.new.steps e c.index_mut.ensures.value c.in-Nothing.ensures.looks c.look.ensures.steps c.truncate.ensures.items in λ _. r.less
-
-pub returns-in-Nothing-clause-left : goal.returns-in-Nothing-clause-left
-returns-in-Nothing-clause-left g c =
-    let n = ap length c.as_slice.ensures.value in
-    let e : suc (length c.as_slice.result.now - 1) ≡ length c.args.parts.now.items = omega arith in
-    let r = turn_nothing c.args.parts.now.items c.truncate.new.self.items (length c.as_slice.result.now - 1) c.index_mut.result.now c.look.new.self c.args.steps.now c.look.new.steps e c.index_mut.ensures.value c.in-Nothing.ensures.looks c.look.ensures.steps c.truncate.ensures.items in λ _. r.left
+    let q : IsNoTop c.args.steps.now c.look.new.steps c.index_mut.result.now = subst (λ (z : Top). Looks z c.args.steps.now c.look.new.steps c.index_mut.result.now c.look.new.self) c.in-Nothing.is c.in_ok-look.ensures.looks in
+    let r = turn_nothing c.args.parts.now.items c.truncate.new.self.items (length c.as_slice.result.now - 1) c.index_mut.result.now c.look.new.self c.args.steps.now c.look.new.steps e c.index_mut.ensures.value q c.truncate.ensures.items in r.0.rest
 
 pub returns-in-Nothing-clause-steps : goal.returns-in-Nothing-clause-steps
 returns-in-Nothing-clause-steps g c =
     let n = ap length c.as_slice.ensures.value in
     let e : suc (length c.as_slice.result.now - 1) ≡ length c.args.parts.now.items = omega arith in
-    let r = turn_nothing c.args.parts.now.items c.truncate.new.self.items (length c.as_slice.result.now - 1) c.index_mut.result.now c.look.new.self c.args.steps.now c.look.new.steps e c.index_mut.ensures.value c.in-Nothing.ensures.looks c.look.ensures.steps c.truncate.ensures.items in let l = r.left in omega arith
+    let q : IsNoTop c.args.steps.now c.look.new.steps c.index_mut.result.now = subst (λ (z : Top). Looks z c.args.steps.now c.look.new.steps c.index_mut.result.now c.look.new.self) c.in-Nothing.is c.in_ok-look.ensures.looks in
+    let r = turn_nothing c.args.parts.now.items c.truncate.new.self.items (length c.as_slice.result.now - 1) c.index_mut.result.now c.look.new.self c.args.steps.now c.look.new.steps e c.index_mut.ensures.value q c.truncate.ensures.items in r.0.steps
 
-pub returns-in-Nothing-clause-reach : goal.returns-in-Nothing-clause-reach
-returns-in-Nothing-clause-reach g c =
+pub returns-in-Nothing-clause-less : goal.returns-in-Nothing-clause-less
+returns-in-Nothing-clause-less g c =
     let n = ap length c.as_slice.ensures.value in
     let e : suc (length c.as_slice.result.now - 1) ≡ length c.args.parts.now.items = omega arith in
-    let r = turn_nothing c.args.parts.now.items c.truncate.new.self.items (length c.as_slice.result.now - 1) c.index_mut.result.now c.look.new.self c.args.steps.now c.look.new.steps e c.index_mut.ensures.value c.in-Nothing.ensures.looks c.look.ensures.steps c.truncate.ensures.items in r.reach
+    let q : IsNoTop c.args.steps.now c.look.new.steps c.index_mut.result.now = subst (λ (z : Top). Looks z c.args.steps.now c.look.new.steps c.index_mut.result.now c.look.new.self) c.in-Nothing.is c.in_ok-look.ensures.looks in
+    let r = turn_nothing c.args.parts.now.items c.truncate.new.self.items (length c.as_slice.result.now - 1) c.index_mut.result.now c.look.new.self c.args.steps.now c.look.new.steps e c.index_mut.ensures.value q c.truncate.ensures.items in λ _. r.1
 
-pub returns-in-Ok-clause-items : goal.returns-in-Ok-clause-items
-returns-in-Ok-clause-items g c =
+pub returns-in-Ok-clause-rest : goal.returns-in-Ok-clause-rest
+returns-in-Ok-clause-rest g c =
     let n = ap length c.as_slice.ensures.value in
     let e : suc (length c.as_slice.result.now - 1) ≡ length c.args.parts.now.items = omega arith in
-    let r = turn_stack c.args.parts.now.items c.append.new.self.items c.in-Stack.inner.items (length c.as_slice.result.now - 1) c.index_mut.result.now c.look.new.self c.args.steps.now c.look.new.steps e c.index_mut.ensures.value c.in-Stack.ensures.looks (c.in-Stack.ensures.still refl) c.in-Ok.ensures.items in r.items
+    let q : IsTaken c.args.steps.now c.look.new.steps (parts_flow c.in-Stack.inner.items) c.index_mut.result.now c.look.new.self = subst (λ (z : Top). Looks z c.args.steps.now c.look.new.steps c.index_mut.result.now c.look.new.self) c.in-Stack.is c.in_ok-look.ensures.looks in
+    let r = turn_stack c.args.parts.now.items c.append.new.self.items c.in-Stack.inner.items (length c.as_slice.result.now - 1) c.index_mut.result.now c.look.new.self c.args.steps.now c.look.new.steps e c.index_mut.ensures.value q c.in-Ok.ensures.items in r.0.rest
+
+pub returns-in-Ok-clause-steps : goal.returns-in-Ok-clause-steps
+returns-in-Ok-clause-steps g c =
+    let n = ap length c.as_slice.ensures.value in
+    let e : suc (length c.as_slice.result.now - 1) ≡ length c.args.parts.now.items = omega arith in
+    let q : IsTaken c.args.steps.now c.look.new.steps (parts_flow c.in-Stack.inner.items) c.index_mut.result.now c.look.new.self = subst (λ (z : Top). Looks z c.args.steps.now c.look.new.steps c.index_mut.result.now c.look.new.self) c.in-Stack.is c.in_ok-look.ensures.looks in
+    let r = turn_stack c.args.parts.now.items c.append.new.self.items c.in-Stack.inner.items (length c.as_slice.result.now - 1) c.index_mut.result.now c.look.new.self c.args.steps.now c.look.new.steps e c.index_mut.ensures.value q c.in-Ok.ensures.items in r.0.steps
 
 pub returns-in-Ok-clause-less : goal.returns-in-Ok-clause-less
 returns-in-Ok-clause-less g c =
     let n = ap length c.as_slice.ensures.value in
     let e : suc (length c.as_slice.result.now - 1) ≡ length c.args.parts.now.items = omega arith in
-    let r = turn_stack c.args.parts.now.items c.append.new.self.items c.in-Stack.inner.items (length c.as_slice.result.now - 1) c.index_mut.result.now c.look.new.self c.args.steps.now c.look.new.steps e c.index_mut.ensures.value c.in-Stack.ensures.looks (c.in-Stack.ensures.still refl) c.in-Ok.ensures.items in λ _. r.less
+    let q : IsTaken c.args.steps.now c.look.new.steps (parts_flow c.in-Stack.inner.items) c.index_mut.result.now c.look.new.self = subst (λ (z : Top). Looks z c.args.steps.now c.look.new.steps c.index_mut.result.now c.look.new.self) c.in-Stack.is c.in_ok-look.ensures.looks in
+    let r = turn_stack c.args.parts.now.items c.append.new.self.items c.in-Stack.inner.items (length c.as_slice.result.now - 1) c.index_mut.result.now c.look.new.self c.args.steps.now c.look.new.steps e c.index_mut.ensures.value q c.in-Ok.ensures.items in λ _. r.1
 
-pub returns-in-Ok-clause-left : goal.returns-in-Ok-clause-left
-returns-in-Ok-clause-left g c =
+pub returns-in-Err-clause-rest : goal.returns-in-Err-clause-rest
+returns-in-Err-clause-rest g c =
     let n = ap length c.as_slice.ensures.value in
     let e : suc (length c.as_slice.result.now - 1) ≡ length c.args.parts.now.items = omega arith in
-    let r = turn_stack c.args.parts.now.items c.append.new.self.items c.in-Stack.inner.items (length c.as_slice.result.now - 1) c.index_mut.result.now c.look.new.self c.args.steps.now c.look.new.steps e c.index_mut.ensures.value c.in-Stack.ensures.looks (c.in-Stack.ensures.still refl) c.in-Ok.ensures.items in λ _. r.left
+    let q : IsTaken c.args.steps.now c.look.new.steps (parts_flow c.in-Stack.inner.items) c.index_mut.result.now c.look.new.self = subst (λ (z : Top). Looks z c.args.steps.now c.look.new.steps c.index_mut.result.now c.look.new.self) c.in-Stack.is c.in_ok-look.ensures.looks in
+    let r = turn_back c.args.parts.now.items c.append.new.self.items c.in-Stack.inner.items c.append.new.other.items (length c.as_slice.result.now - 1) c.index_mut.result.now c.look.new.self c.refill.new.self c.args.steps.now c.look.new.steps e c.index_mut.ensures.value q c.in-Err.ensures.items c.refill.ensures c.in-Err.ensures.other_items in r.rest
 
-pub returns-in-Ok-clause-reach : goal.returns-in-Ok-clause-reach
-returns-in-Ok-clause-reach g c =
+pub returns-in-Err-clause-steps : goal.returns-in-Err-clause-steps
+returns-in-Err-clause-steps g c =
     let n = ap length c.as_slice.ensures.value in
     let e : suc (length c.as_slice.result.now - 1) ≡ length c.args.parts.now.items = omega arith in
-    let r = turn_stack c.args.parts.now.items c.append.new.self.items c.in-Stack.inner.items (length c.as_slice.result.now - 1) c.index_mut.result.now c.look.new.self c.args.steps.now c.look.new.steps e c.index_mut.ensures.value c.in-Stack.ensures.looks (c.in-Stack.ensures.still refl) c.in-Ok.ensures.items in r.reach
+    let q : IsTaken c.args.steps.now c.look.new.steps (parts_flow c.in-Stack.inner.items) c.index_mut.result.now c.look.new.self = subst (λ (z : Top). Looks z c.args.steps.now c.look.new.steps c.index_mut.result.now c.look.new.self) c.in-Stack.is c.in_ok-look.ensures.looks in
+    let r = turn_back c.args.parts.now.items c.append.new.self.items c.in-Stack.inner.items c.append.new.other.items (length c.as_slice.result.now - 1) c.index_mut.result.now c.look.new.self c.refill.new.self c.args.steps.now c.look.new.steps e c.index_mut.ensures.value q c.in-Err.ensures.items c.refill.ensures c.in-Err.ensures.other_items in r.steps
 
-pub returns-in-Err-clause-items : goal.returns-in-Err-clause-items
-returns-in-Err-clause-items g c =
+pub returns-in_err-look-clause-rest : goal.returns-in_err-look-clause-rest
+returns-in_err-look-clause-rest g c =
     let n = ap length c.as_slice.ensures.value in
     let e : suc (length c.as_slice.result.now - 1) ≡ length c.args.parts.now.items = omega arith in
-    let r = turn_back c.args.parts.now.items c.append.new.self.items c.in-Stack.inner.items c.append.new.other.items (length c.as_slice.result.now - 1) c.index_mut.result.now c.look.new.self c.refill.new.self c.args.steps.now c.look.new.steps e c.index_mut.ensures.value c.in-Stack.ensures.looks (c.in-Stack.ensures.still refl) c.in-Err.ensures.items c.refill.ensures c.in-Err.ensures.other_items in r.items
+    let o : IsOn c.args.steps.now c.look.new.steps c.index_mut.result.now.moves c.look.new.self.moves = record { rest = c.in_err-look.ensures.err; steps = c.in_err-look.ensures.err_steps } in
+    (on_top c.args.parts.now.items (length c.as_slice.result.now - 1) c.index_mut.result.now c.look.new.self c.args.steps.now c.look.new.steps e c.index_mut.ensures.value o).rest
 
-pub returns-in-Err-clause-reach : goal.returns-in-Err-clause-reach
-returns-in-Err-clause-reach g c =
+pub returns-in_err-look-clause-steps : goal.returns-in_err-look-clause-steps
+returns-in_err-look-clause-steps g c =
     let n = ap length c.as_slice.ensures.value in
     let e : suc (length c.as_slice.result.now - 1) ≡ length c.args.parts.now.items = omega arith in
-    let r = turn_back c.args.parts.now.items c.append.new.self.items c.in-Stack.inner.items c.append.new.other.items (length c.as_slice.result.now - 1) c.index_mut.result.now c.look.new.self c.refill.new.self c.args.steps.now c.look.new.steps e c.index_mut.ensures.value c.in-Stack.ensures.looks (c.in-Stack.ensures.still refl) c.in-Err.ensures.items c.refill.ensures c.in-Err.ensures.other_items in r.reach
+    let o : IsOn c.args.steps.now c.look.new.steps c.index_mut.result.now.moves c.look.new.self.moves = record { rest = c.in_err-look.ensures.err; steps = c.in_err-look.ensures.err_steps } in
+    (on_top c.args.parts.now.items (length c.as_slice.result.now - 1) c.index_mut.result.now c.look.new.self c.args.steps.now c.look.new.steps e c.index_mut.ensures.value o).steps

@@ -1,6 +1,6 @@
 use Rattle.std.proofs.Common.{◌≡◌, ◌++◌, length}
 use Rattle.step_walks.specs.Hits.{hits_ahead}
-use Rattle.quiet_eval.proofs.step_hits.collect.Given as goal
+use Rattle.quiet_eval.proofs.step_hits.hits_ahead.Given as goal
 
 abbrev pub invariant-loop-nodes : goal.invariant-loop-nodes
 invariant-loop-nodes l = l.nodes.items ++ hits_ahead l.cursor ≡ hits_ahead l.fn.cursor
