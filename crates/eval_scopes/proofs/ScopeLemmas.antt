@@ -4,6 +4,7 @@ use Rattle.std.proofs.Common.{[], ◌∷◌, ◌++◌, append_assoc, length, tak
 use Rattle.std.specs.Prelude.{Bool, true, false, if◌then◌else◌, Option, Some, None}
 use Rattle.xt_names.specs.declared.names.ExprName.{ExprName}
 use Rattle.xdm_items.specs.declared.items.Item.{Item}
+use Rattle.node_walks.specs.Moves.{given}
 use Rattle.expr_meaning.specs.Env.{Binding, look_up, same_name}
 use Rattle.eval_scopes.specs.declared.scopes.Variable.{Variable}
 use Rattle.eval_scopes.specs.declared.scopes.Scope.{Scope}
@@ -68,7 +69,7 @@ module _ (vs : List Variable) (v d : Variable) (name : ExprName) (long : 1 ≤ l
       ∙ ap (λ bs. look_up bs name) (pushed_last [] (take (length vs - 1) vs) v)
 
   pub last_found : same_name v.name name ≡ true →
-      Some v.value.items ≡ look_up (pushed_on [] vs) name
+      Some (given v.value.moves) ≡ look_up (pushed_on [] vs) name
   unfolding look_up
   last_found h = rw (parted, h) refl
 

@@ -5,6 +5,7 @@ use Rattle.xt_names.specs.declared.codes.Code.{Code}
 use Rattle.xt_names.specs.declared.names.Binding.{Binding as Namespace}
 use Rattle.xt_atoms.specs.declared.atoms.Atom.{Atom as AtomValue}
 use Rattle.xdm_items.specs.declared.items.Item.{Item}
+use Rattle.node_walks.specs.Moves.{given}
 use Rattle.lazy_seq.specs.Flow.{Flow}
 use Rattle.sort_meaning.specs.Sorted.{Placed}
 use Rattle.expr_meaning.specs.Env as meaning
@@ -20,7 +21,7 @@ use Rattle.eval_scopes.specs.declared.environments.Env.{Env}
 use Rattle.eval_scopes.specs.declared.environments.Fixed.{Fixed}
 
 abbrev pub binding_of : Variable → Binding
-binding_of v = (v.name, v.value.items)
+binding_of v = (v.name, given v.value.moves)
 
 -- variables bound one after another, so that the last is innermost
 abbrev pub pushed_on : List Binding → List Variable → List Binding
@@ -34,10 +35,10 @@ bindings (Inner' variables p outer) = pushed_on (bindings outer) variables.now
 -- the items behind a reference
 abbrev pub value_behind : Option (Bor Flow) → Option (List Item)
 value_behind None = None
-value_behind (Some value) = Some value.now.items
+value_behind (Some value) = Some (given value.now.moves)
 
 abbrev pub value_at : Result (Bor Flow) Code → Result (List Item) Code
-value_at (Ok value) = Ok value.now.items
+value_at (Ok value) = Ok (given value.now.moves)
 value_at (Err code) = Err code
 
 abbrev pub item_behind : Option (Bor Item) → Option Item

@@ -16,7 +16,7 @@ use xt_types::{Axis, Test};
 
 /// The nodes of the axis that pass the test, in the order of the axis (XPath 2.0, 3.2.1); XPTY0020
 /// of an atom.
-#[tactic(auto, unfolding(lazy_seq::specs::Flow::hits_to_come, lazy_seq::specs::Flow::hits))]
+#[tactic(auto, unfolding(step_walks::specs::Hits::hits_ahead))]
 pub fn step(alloc: Global, axis: Axis, test: &Test, from: &Item) -> Result<ItemList, ValueFault>
     ensures { Answers (step_items axis test.now from.now) result }
 {

@@ -10,6 +10,7 @@ use Rattle.function_arguments.specs.Answers.{of_integer}
 use Rattle.function_arguments.specs.Arguments.{and_then, as_some}
 use Rattle.xt_atoms.specs.declared.faults.ValueFault.{ValueFault}
 use Rattle.xt_atoms.specs.declared.faults.ValueFault.TheVariants.{Error, Memory}
+use Rattle.node_walks.specs.Moves.{given}
 use Rattle.lazy_seq.specs.Flow.{Flow}
 use Rattle.lazy_seq.specs.Integers.{integers}
 use Rattle.operator_values.specs.Operands.{optional_atom, of_both, of_one}
@@ -50,6 +51,6 @@ signed_value xs = and_then (optional_number xs) (of_one (λ n. Ok (of_integer n)
 
 -- a call answers a sequence of these items or this error, unless memory runs out
 abbrev pub AnswersItems : Result (List Item) Code → Result Flow ValueFault → Type 0
-AnswersItems o (Ok seq) = o ≡ Ok seq.items
+AnswersItems o (Ok seq) = o ≡ Ok (given seq.moves)
 AnswersItems o (Err (Error code)) = o ≡ Err code
 AnswersItems o (Err (Memory e)) = Unit {0}

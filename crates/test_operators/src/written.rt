@@ -31,7 +31,7 @@ fn item_of(rt: &(impl Abort + AllocGlobal), kind: &str, value: &str) -> Item {
     }
 }
 
-fn items_of(rt: &(impl Abort + AllocGlobal), words: &str) -> ItemList {
+pub(crate) fn items_of(rt: &(impl Abort + AllocGlobal), words: &str) -> ItemList {
     let mut items = List::new(rt.alloc());
     if words != "" {
         for word in words.split(",") {
@@ -42,7 +42,7 @@ fn items_of(rt: &(impl Abort + AllocGlobal), words: &str) -> ItemList {
     items
 }
 
-fn put(rt: &(impl Abort + AllocGlobal), out: &mut String, s: &str) {
+pub(crate) fn put(rt: &(impl Abort + AllocGlobal), out: &mut String, s: &str) {
     out.push_str(s).expect(rt, "memory");
 }
 
@@ -105,7 +105,7 @@ fn put_items(rt: &(impl Abort + AllocGlobal), out: &mut String, items: &ItemList
     }
 }
 
-fn printed(rt: &(impl Abort + AllocGlobal), outcome: Result<ItemList, ValueFault>) -> String {
+pub(crate) fn printed(rt: &(impl Abort + AllocGlobal), outcome: Result<ItemList, ValueFault>) -> String {
     let mut out = String::new(rt.alloc());
     match outcome {
         Ok(items) => {
