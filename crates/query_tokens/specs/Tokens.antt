@@ -43,12 +43,13 @@ space_word b = if b then codes "preserve" else codes "strip"
 abbrev pub declared_tokens : Declared → List Token
 declared_tokens (declared.Version t) =
     token.Name (codes "xquery") ∷ token.Name (codes "version") ∷ token.Quoted t ∷ []
-declared_tokens (declared.Namespace p u) = behind_declare (codes "namespace")
-    (p ∷ token.Key key.Equal ∷ token.Quoted u ∷ [])
+declared_tokens (declared.Namespace p u) =
+    token.Name (codes "declare") ∷ token.Key key.NamespaceWord
+    ∷ p ∷ token.Key key.Equal ∷ token.Quoted u ∷ []
 declared_tokens (declared.ElementDefault u) = behind_declare (codes "default")
-    (token.Key key.ElementWord ∷ token.Name (codes "namespace") ∷ token.Quoted u ∷ [])
+    (token.Key key.ElementWord ∷ token.Key key.NamespaceWord ∷ token.Quoted u ∷ [])
 declared_tokens (declared.FunctionDefault u) = behind_declare (codes "default")
-    (token.Name (codes "function") ∷ token.Name (codes "namespace") ∷ token.Quoted u ∷ [])
+    (token.Name (codes "function") ∷ token.Key key.NamespaceWord ∷ token.Quoted u ∷ [])
 declared_tokens (declared.BoundarySpace b) = behind_declare (codes "boundary-space")
     (token.Name (space_word b) ∷ [])
 declared_tokens declared.Setter = behind_declare (codes "ordering")
