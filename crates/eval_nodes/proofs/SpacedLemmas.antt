@@ -14,7 +14,6 @@ texts_of xs =
     map part_text (merged_runs (without_empty_runs (map part_of (map atomized_item xs))))
 
 atom_texts : (xs : List Item) → texts_of xs ≡ map (λ x. text_of (atom_of x)) xs
-
 atom_texts [] = refl
 atom_texts (Node n ∷ xs) = ap (λ ts. text_of (atom_of (Node n)) ∷ ts) (atom_texts xs)
 atom_texts (Atom a ∷ xs) = ap (λ ts. text_of a ∷ ts) (atom_texts xs)

@@ -48,11 +48,7 @@ fn with_text(
 }
 
 /// Puts the text node of a run at the end, if there is one.
-fn close(
-    alloc: Global,
-    made: &mut ItemList,
-    run: Option<TextBuilder>,
-) -> Result<(), AllocError>
+fn close(alloc: Global, made: &mut ItemList, run: Option<TextBuilder>) -> Result<(), AllocError>
     ensures { OnOk result (made.new ≡ made.old ++ text_item run) }
 {
     match run {

@@ -15,9 +15,7 @@ mod texts;
 mod uris;
 
 pub use contents::{attribute_node, joined_atoms, text_node};
-pub use makers::{
-    make_attribute, make_comment, make_document, make_element, make_pi, make_text,
-};
+pub use makers::{make_attribute, make_comment, make_document, make_element, make_pi, make_text};
 pub use names::{checked_attribute, computed_attribute, computed_element};
 pub use targets::{computed_target, fixed_target};
 pub use texts::spaced_text;

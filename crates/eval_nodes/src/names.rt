@@ -17,12 +17,7 @@ use xt_names::{Binding, Code, Name, QueryDynamicCode, Text, is_ascii_text, is_nc
 
 const NO_NAME: ValueFault = ValueFault::Error(Code::QueryDynamic(QueryDynamicCode::XQDY0074));
 
-fn in_namespace(
-    alloc: Global,
-    prefix: &str,
-    uri: Text,
-    local: &str,
-) -> Result<Name, ValueFault>
+fn in_namespace(alloc: Global, prefix: &str, uri: Text, local: &str) -> Result<Name, ValueFault>
     ensures { Answers (in_namespace (chars prefix.now) uri (chars local.now)) result }
 {
     if is_ncname(local) && is_ncname(prefix) {

@@ -16,5 +16,7 @@ mod scopes;
 
 pub use environments::{Env, Fixed, Focus, Group, State};
 pub use faults::EvalFault;
-pub use leaves::{context_item, document_of, document_root, document_value, variable, variable_list};
+pub use leaves::{
+    context_item, document_of, document_root, document_value, variable, variable_list,
+};
 pub use scopes::{Scope, Variable, look_up};

@@ -3,8 +3,10 @@ ghost use Rattle.xt_atoms.specs.Casts.{Answers};
 ghost use Rattle.operator_values.specs.Numbers.{range_value};
 ghost use Rattle.eval_values.specs.Operators.{value_of_two, value_of_one};
 
-use operator_values::{after, arithmetic, before, cast_list, castable_list, except, general, instance};
-use operator_values::{intersect, is, negated, range, signed, single, treated, union};
+use operator_values::{
+    after, arithmetic, before, cast_list, castable_list, except, general, instance, intersect, is,
+    negated, range, signed, single, treated, union,
+};
 use std::alloc::Global;
 use xdm_items::ItemList;
 use xt_atoms::ValueFault;

@@ -225,7 +225,11 @@ fn names_of_attributes_and_targets(rt: HostRuntime) {
     }
 }
 
-fn made(rt: &(impl Abort + AllocGlobal), next: &mut u64, word: &str) -> Result<ItemList, EvalFault> {
+fn made(
+    rt: &(impl Abort + AllocGlobal),
+    next: &mut u64,
+    word: &str,
+) -> Result<ItemList, EvalFault> {
     let alloc = rt.alloc();
     let none = List::new(alloc);
     let outcome = match word {
@@ -316,7 +320,11 @@ fn names_in_scope_and_the_focus(rt: HostRuntime) {
         variables: &global,
         outer: &outermost,
     };
-    let local = [variable(&rt, "x", "i:1"), variable(&rt, "x", "i:2,i:3"), variable(&rt, "y", "i:4")];
+    let local = [
+        variable(&rt, "x", "i:1"),
+        variable(&rt, "x", "i:2,i:3"),
+        variable(&rt, "y", "i:4"),
+    ];
     let locals = Scope::Inner {
         variables: &local,
         outer: &outermost,

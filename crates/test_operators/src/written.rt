@@ -105,7 +105,10 @@ fn put_items(rt: &(impl Abort + AllocGlobal), out: &mut String, items: &ItemList
     }
 }
 
-pub(crate) fn printed(rt: &(impl Abort + AllocGlobal), outcome: Result<ItemList, ValueFault>) -> String {
+pub(crate) fn printed(
+    rt: &(impl Abort + AllocGlobal),
+    outcome: Result<ItemList, ValueFault>,
+) -> String {
     let mut out = String::new(rt.alloc());
     match outcome {
         Ok(items) => {
