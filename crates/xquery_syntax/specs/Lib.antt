@@ -1,0 +1,3 @@
+pub mod Shapes
+pub mod Answers
+pub mod Spelled
