@@ -19,12 +19,12 @@ fn variables(rt: &(impl Abort + AllocGlobal), count: u32) -> String {
 }
 
 #[test]
-fn ten_thousand_variables(rt: HostRuntime) {
-    let text = variables(&rt, 10_000);
+fn a_hundred_thousand_variables(rt: HostRuntime) {
+    let text = variables(&rt, 100_000);
     let raw = query_in(&rt, text.as_str());
     drop(text);
     let query = resolve_query(rt.alloc(), &raw).expect(&rt, "a query");
     drop(raw);
-    assert_eq!(rt; query.variables.len(), 10_000);
+    assert_eq!(rt; query.variables.len(), 100_000);
     drop(query);
 }
