@@ -249,12 +249,19 @@ fn made(
 #[test]
 fn trees_take_the_next_number(rt: HostRuntime) {
     let mut next = 7;
-    for word in ["element", "document", "attribute", "text", "comment", "pi"] {
-        let before = next;
+    let cases = [
+        ("element", 8),
+        ("document", 9),
+        ("attribute", 10),
+        ("text", 11),
+        ("comment", 12),
+        ("pi", 13),
+    ];
+    for (word, wanted) in cases {
         let list = made(&rt, &mut next, word).expect(&rt, "a node");
         assert_eq!(rt; list.len(), 1, "{word}");
         drop(list);
-        assert_eq!(rt; next, before + 1, "{word}");
+        assert_eq!(rt; next, wanted, "{word}");
     }
     for word in ["bad comment", "bad pi"] {
         let refused = made(&rt, &mut next, word).is_err();
