@@ -289,7 +289,7 @@ fn evaluated(rt: &(impl Abort + AllocGlobal), outcome: Result<ItemList, EvalFaul
     }
 }
 
-// what a name, `.`, `/` or a document's name gives where two variables `x` and one `y` are bound
+// what a name, `.`, `/` or doc() of a document that is not there gives
 fn read(
     rt: &(impl Abort + AllocGlobal),
     fixed: &Fixed,
@@ -317,20 +317,20 @@ fn read(
     }
 }
 
-#[test]
-fn names_in_scope_and_the_focus(rt: HostRuntime) {
+// where two variables `x` and one `y` are local, another `y` and `g` global, and this item is the focus
+fn check_names(rt: &(impl Abort + AllocGlobal), item: &Item) {
     let documents = DocSet::new(rt.alloc());
-    let default = text(&rt, "");
+    let default = text(rt, "");
     let outermost = Scope::Outermost;
-    let global = [variable(&rt, "y", "i:9"), variable(&rt, "g", "i:8")];
+    let global = [variable(rt, "y", "i:9"), variable(rt, "g", "i:8")];
     let globals = Scope::Inner {
         variables: &global,
         outer: &outermost,
     };
     let local = [
-        variable(&rt, "x", "i:1"),
-        variable(&rt, "x", "i:2,i:3"),
-        variable(&rt, "y", "i:4"),
+        variable(rt, "x", "i:1"),
+        variable(rt, "x", "i:2,i:3"),
+        variable(rt, "y", "i:4"),
     ];
     let locals = Scope::Inner {
         variables: &local,
@@ -349,15 +349,10 @@ fn names_in_scope_and_the_focus(rt: HostRuntime) {
         group: None,
         tunnel: &outermost,
     };
-    let items = items_of(&rt, "n:b");
-    let two = Place::new(2).expect(&rt, "a place");
-    let focus = match items.as_slice() {
-        [item, ..] => Focus::At {
-            item,
-            position: Place::first(),
-            size: two,
-        },
-        [] => Focus::Absent,
+    let focus = Focus::At {
+        item,
+        position: Place::first(),
+        size: Place::first(),
     };
     let env = Env {
         locals: &locals,
@@ -374,10 +369,20 @@ fn names_in_scope_and_the_focus(rt: HostRuntime) {
         ("doc", "FODC0002"),
     ];
     for (word, wanted) in cases {
-        let found = evaluated(&rt, read(&rt, &fixed, &env, word));
+        let found = evaluated(rt, read(rt, &fixed, &env, word));
         assert_eq!(rt; found.as_str(), wanted, "{word}");
         drop(found);
     }
+}
+
+#[test]
+fn names_in_scope_and_the_focus(rt: HostRuntime) {
+    let items = items_of(&rt, "n:b");
+    assert_eq!(rt; items.len(), 1);
+    for item in items.as_slice() {
+        check_names(&rt, item);
+    }
+    drop(items);
 }
 
 #[test]
