@@ -16,5 +16,6 @@ mod arities;
 mod calls;
 mod values;
 
+pub use arguments::argument;
 pub use calls::call;
 pub use function_table::{Builtin, find};
