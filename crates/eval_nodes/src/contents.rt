@@ -1,7 +1,8 @@
 // The content of direct elements.
 ghost use Rattle.std.specs.Prelude.{◌≡◌, ◌++◌, ◌∷◌, List as Lists, IfOk, OnOk};
 ghost use Rattle.xdm_items.specs.declared.items.Item.{Item as AnItem};
-ghost use Rattle.xt_tree.specs.declared.trees.Tree.TheVariants.{Attr as attribute_tree, Text as text_tree};
+ghost use Rattle.xt_tree.specs.declared.trees.Tree.TheVariants.{Attr as attribute_tree};
+ghost use Rattle.xt_tree.specs.declared.trees.Tree.TheVariants.{Text as text_tree};
 ghost use Rattle.expr_meaning.specs.Making.{literal_node, joined_atoms, joined_behind};
 ghost use Rattle.expr_meaning.specs.Making.{with_text, text_item};
 

@@ -1,5 +1,5 @@
-//! Nodes as an evaluator makes them (XQuery 1.0, 3.7): the names that constructors compute, the texts
-//! of their values, and the trees.
+//! Nodes as an evaluator makes them (XQuery 1.0, 3.7): the names that constructors compute, the
+//! texts of their values, and the trees.
 //!
 //! Each call answers exactly what the meaning of constructors has at that place: the node with the
 //! next number of a tree, or the code of the error. No number is used up where a call fails.

@@ -2,7 +2,8 @@
 ghost use Rattle.std.specs.Prelude.{◌≡◌};
 ghost use Rattle.std.specs.Str.{chars};
 ghost use Rattle.xt_tree.specs.declared.trees.Tree.{Tree};
-ghost use Rattle.xt_tree.specs.declared.trees.Tree.TheVariants.{Attr as attribute_tree, Text as text_tree};
+ghost use Rattle.xt_tree.specs.declared.trees.Tree.TheVariants.{Attr as attribute_tree};
+ghost use Rattle.xt_tree.specs.declared.trees.Tree.TheVariants.{Text as text_tree};
 ghost use Rattle.node_builder.specs.Made.{Made, Gives};
 ghost use Rattle.node_builder.specs.Trees.{numbered, element_of, document_of, comment_of, pi_of};
 ghost use Rattle.node_builder.specs.Answers.{Builds};
@@ -67,7 +68,8 @@ pub fn make_attribute(
     name: Name,
     value: &str,
 ) -> Result<ItemList, EvalFault>
-    ensures { Answers result next.new (made (Gives (attribute_tree name (chars value.now))) next.old) }
+    ensures { Answers result next.new
+        (made (Gives (attribute_tree name (chars value.now))) next.old) }
 {
     let mut builder = Builder { next: *next };
     let built = builder.attribute(alloc, name, value);

@@ -3,7 +3,8 @@ ghost use Rattle.std.specs.Prelude.{◌≡◌, []};
 ghost use Rattle.std.specs.Str.{chars};
 ghost use Rattle.xt_atoms.specs.Casts.{Answers};
 ghost use Rattle.function_arguments.specs.Arguments.{and_then};
-ghost use Rattle.expr_meaning.specs.Names.{in_namespace, without_prefix, name_of_text, name_of_atom};
+ghost use Rattle.expr_meaning.specs.Names.{in_namespace, without_prefix};
+ghost use Rattle.expr_meaning.specs.Names.{name_of_text, name_of_atom};
 ghost use Rattle.expr_meaning.specs.Names.{name_of_items, attribute_name};
 
 use crate::uris::namespace_of;
@@ -81,9 +82,9 @@ fn name_of_atom(
     }
 }
 
-/// The name that a computed element has: one atom that is a QName, or a text that spells a name whose
-/// prefix is declared; `default` is the namespace of one without a prefix. All else is XQDY0074
-/// (XQuery 1.0, 3.7.3.1).
+/// The name that a computed element has: one atom that is a QName, or a text that spells a name
+/// whose prefix is declared; `default` is the namespace of one without a prefix. All else is
+/// XQDY0074 (XQuery 1.0, 3.7.3.1).
 pub fn computed_element(
     alloc: Global,
     namespaces: &[Binding],

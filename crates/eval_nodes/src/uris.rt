@@ -6,8 +6,8 @@ ghost use Rattle.expr_meaning.specs.Names.{namespace_of, predeclared};
 use std::alloc::{AllocError, Global};
 use xt_names::{Binding, Text, is_ascii_text};
 
-/// The uri of a prefix: that of the first binding, or of the namespaces that every query has (XQuery
-/// 1.0, 2.1.1); empty where it is not declared.
+/// The uri of a prefix: that of the first binding, or of the namespaces that every query has
+/// (XQuery 1.0, 2.1.1); empty where it is not declared.
 pub(crate) fn namespace_of(
     alloc: Global,
     namespaces: &[Binding],

@@ -84,6 +84,7 @@ unfolding look_up
 none_found [] name h = refl
 none_found (v ∷ vs) name h = absurd (omega (arith, h))
 
-pub none_outermost : (s : Scope) (name : ExprName) → s ≡ Outermost → None ≡ look_up (bindings s) name
+pub none_outermost : (s : Scope) (name : ExprName) → s ≡ Outermost
+    → None ≡ look_up (bindings s) name
 unfolding look_up
 none_outermost s name e = rw e refl

@@ -33,7 +33,8 @@ pub fn variable<'a>(
     name: &ExprName,
 ) -> Result<&'a Seq, Code>
     ensures { (calls : Calls) (keys : Keys) →
-        value_at result ≡ variable_value (program_of fixed.entry.now calls keys) (env_of env.entry.now) name.now }
+        value_at result ≡
+        variable_value (program_of fixed.entry.now calls keys) (env_of env.entry.now) name.now }
 {
     match look_up(env.locals, name) {
         Some(value) => Ok(value),
@@ -95,7 +96,7 @@ fn root_of_item(alloc: Global, item: &Item) -> Result<ItemList, EvalFault>
     }
 }
 
-/// The root of the node's tree where it is a document.
+/// The root of the node's tree where it is a document (XPath 2.0, 3.2).
 pub fn document_of(alloc: Global, node: &Node) -> Result<Option<Node>, AllocError>
     ensures { IfOk result (λ root. SomeIff root (is_document node.now.tree ≡ true)
         (root_place node.now)) }
@@ -116,8 +117,8 @@ fn is_document(tree: &Tree) -> bool
 }
 
 /// doc() and document() of an argument: empty of the empty list, the root of the document of that
-/// name, and FODC0002 where the set has none (Functions and Operators, 15.5.4). XPTY0004 comes where
-/// the argument is no text.
+/// name, and FODC0002 where the set has none (Functions and Operators, 15.5.4). XPTY0004 comes
+/// where the argument is no text.
 #[tactic(auto, unfolding(expr_meaning::specs::Documents::document_in))]
 pub fn document_value(
     alloc: Global,

@@ -2,9 +2,9 @@
 //! stylesheet (XPath 2.0, 2.1.2; XSLT 2.0, 5.4.3), and how it answers.
 //!
 //! A `Scope` is a chain of references, so that binding a variable copies nothing and leaving its
-//! scope undoes nothing. `EvalFault` says why there is no value: an error by its code, no call left,
-//! or want of memory. specs/Scopes.antt says what they stand for in the meaning of expressions,
-//! specs/Answers.antt when an answer stands for an outcome.
+//! scope undoes nothing. `EvalFault` says why there is no value: an error by its code, no call
+//! left, or want of memory. specs/Scopes.antt says what they stand for in the meaning of
+//! expressions, specs/Answers.antt when an answer stands for an outcome.
 //!
 //! Example: in the scope of `let $x := 1 let $x := 2` the value of `$x` is 2.
 #![tactic(auto)]

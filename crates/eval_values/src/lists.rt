@@ -5,7 +5,7 @@ use std::alloc::{AllocError, Global};
 use xdm_items::{Item, ItemList};
 use xt_names::List;
 
-/// A list of one item.
+/// A list of one item (XPath 2.0, 2).
 pub fn one(alloc: Global, item: Item) -> Result<ItemList, AllocError>
     ensures { IfOk result (λ list. list ≡ item ∷ []) }
 {

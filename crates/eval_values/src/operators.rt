@@ -53,7 +53,8 @@ pub enum OneOperator<'a> {
     Cast(AtomType, bool),
 }
 
-/// The value of an operator on its operands, or the code of its first error (XPath 2.0, 3.3 to 3.5).
+/// The value of an operator on its operands, or the code of its first error (XPath 2.0, 3.3
+/// to 3.5).
 #[inline(never)]
 pub fn apply(
     alloc: Global,

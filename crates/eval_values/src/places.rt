@@ -4,7 +4,8 @@ ghost use Rattle.std.specs.Option.{SomeIff};
 
 use std::marker::Model;
 
-/// A place in a list, from 1, or the length of one: at most 2^63-1, which an xs:integer holds.
+/// A place in a list, from 1, or the length of one: at most 2^63-1, which an xs:integer holds
+/// (XPath 2.0, 2.1.2).
 #[derive(Clone, Copy)]
 pub struct Place {
     number: u64,

@@ -9,8 +9,8 @@ use xt_atoms::Atom;
 use xt_names::{Code, DynamicCode};
 use xt_types::SeqType;
 
-/// Whether a predicate with this value keeps the item at the position (XPath 2.0, 3.3.2): an integer
-/// alone by the position, all else by its truth value, which may fail with FORG0006.
+/// Whether a predicate with this value keeps the item at the position (XPath 2.0, 3.3.2): an
+/// integer alone by the position, all else by its truth value, which may fail with FORG0006.
 pub fn is_kept(position: Place, value: &ItemList) -> Result<bool, Code>
     ensures { result ≡ kept_at position value.now }
 {
@@ -20,8 +20,8 @@ pub fn is_kept(position: Place, value: &ItemList) -> Result<bool, Code>
     }
 }
 
-/// The items where they are of the type, if one is written; XPTY0004 where they are not (XQuery 1.0,
-/// 3.8.1).
+/// The items where they are of the type, if one is written; XPTY0004 where they are not (XQuery
+/// 1.0, 3.8.1).
 #[tactic(auto, unfolding(xdm_items::specs::Conversion::matched))]
 pub fn typed(kind: &Option<SeqType>, items: ItemList) -> Result<ItemList, Code>
     ensures { result ≡ typed kind.now items }

@@ -1,5 +1,6 @@
 -- What a contract sees of a sequence that is walked on demand.
-use Rattle.std.specs.Prelude.{ℕ, zero, suc, ℤ, pos, negsuc, slice_get, List, [], ◌∷◌, Option, Some, None}
+use Rattle.std.specs.Prelude.{ℕ, zero, suc, ℤ, pos, negsuc, slice_get, List, [], ◌∷◌, Option, Some}
+use Rattle.std.specs.Prelude.{None}
 use Rattle.xdm_items.specs.declared.items.Item.{Item}
 use Rattle.node_walks.specs.Moves.{Moves}
 

@@ -1,4 +1,5 @@
--- The order of items: nodes by the number of the tree and then in document order; atoms stand before them.
+-- The order of items: nodes by the number of the tree and then in document order; atoms stand
+-- before them.
 use Rattle.std.specs.Prelude.{ℕ, List, [], ◌∷◌, Bool}
 use Rattle.std.specs.List.{dedup}
 use Rattle.std.specs.Cmp.Lexicographic.{slice_cmp}

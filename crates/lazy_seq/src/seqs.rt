@@ -112,9 +112,10 @@ impl Seq {
         }
     }
 
-    /// Those of the same nodes that the predicates keep in turn, where each of them counts positions
-    /// in the list that it gets (XPath 2.0, 3.2.2). A predicate is asked when its node is reached;
-    /// where one looks at how many nodes there are, as last() does, all are collected at once.
+    /// Those of the same nodes that the predicates keep in turn, where each of them counts
+    /// positions in the list that it gets (XPath 2.0, 3.2.2). A predicate is asked when its node is
+    /// reached; where one looks at how many nodes there are, as last() does, all are
+    /// collected at once.
     pub fn of_quiet(alloc: Global, cursor: Cursor, quiet: List<Expr>) -> Result<Seq, AllocError>
         requires { are_allowed quiet ≡ true }
         ensures items { let kept = kept_by_all (keeps quiet) (hits_ahead cursor) in

@@ -5,8 +5,8 @@
 //! `specs/` gives; only want of memory is left open. The left operand is settled whole before the
 //! right one.
 //!
-//! Example: `general(alloc, CompareOp::Lt, ..)` of the lists `1, 5` and `3` is the list of true, and
-//! `single` of them fails with XPTY0004.
+//! Example: `general(alloc, CompareOp::Lt, ..)` of the lists `1, 5` and `3` is the list of true,
+//! and `single` of them fails with XPTY0004.
 #![tactic(auto)]
 
 mod comparisons;

@@ -5,8 +5,13 @@ use Rattle.eval_scopes.proofs.leaves.variable_list.Goals as goal
 
 pub returns-in_ok-to_list-in-Ok : goal.returns-in_ok-to_list-in-Ok
 returns-in_ok-to_list-in-Ok c =
-    λ calls keys k. rw (c.in_ok-to_list-in-Ok.ensures, c.in_ok-copy-in-Ok.ensures, ← c.variable.ensures calls keys) (ap (λ r. step_outcome (value_at r) k) c.in-Ok.is)
+    λ calls keys k. rw (
+      c.in_ok-to_list-in-Ok.ensures,
+      c.in_ok-copy-in-Ok.ensures,
+      ← c.variable.ensures calls keys,
+    ) (ap (λ r. step_outcome (value_at r) k) c.in-Ok.is)
 
 pub returns-in-Err : goal.returns-in-Err
 returns-in-Err c =
-    λ calls keys k. rw (← c.variable.ensures calls keys) (ap (λ r. step_outcome (value_at r) k) c.in-Err.is)
+    λ calls keys k. rw (← c.variable.ensures calls keys)
+    (ap (λ r. step_outcome (value_at r) k) c.in-Err.is)

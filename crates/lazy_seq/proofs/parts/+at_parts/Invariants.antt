@@ -10,7 +10,8 @@ abbrev pub invariant-loop-end : goal.invariant-loop-end
 invariant-loop-end l = record {
   within : l.end ≤ length l.parts;
   fits : l.left < 2 ^ 63;
-  found : slice_get (given (stacked (take l.end l.parts))) l.left ≡ slice_get (given (stacked l.parts)) l.place;
+  found : slice_get (given (stacked (take l.end l.parts))) l.left
+      ≡ slice_get (given (stacked l.parts)) l.place;
 }
 
 abbrev pub decreases-loop-end : goal.decreases-loop-end

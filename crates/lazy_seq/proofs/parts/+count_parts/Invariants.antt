@@ -8,6 +8,7 @@ decreases-count_parts l = total_weight l.parts.now
 
 abbrev pub invariant-loop-part : goal.invariant-loop-part
 invariant-loop-part l = record {
-  counted : l.total + length (given (stacked (drop l.part-index l.parts))) ≡ length (given (stacked l.parts));
+  counted : l.total + length (given (stacked (drop l.part-index l.parts)))
+      ≡ length (given (stacked l.parts));
   fits : l.total < 2 ^ 63;
 }

@@ -15,12 +15,14 @@ unfolding fine
 returns-then-branch-clause-some g c =
     let r = c.turn.ensures.ready (c.in_ok-turn.was ∙ ap fine c.if-branch.true) in
     sym (stands_item (stacked c.turn.new.parts.items) r.stands)
-    ∙ ap has_item (same_given (stacked c.turn.new.parts.items) (stacked c.args.parts.now.items) (c.turn.ensures.rest ∙ c.loop-parts.invariant.rest))
+    ∙ ap has_item (same_given (stacked c.turn.new.parts.items) (stacked c.args.parts.now.items)
+    (c.turn.ensures.rest ∙ c.loop-parts.invariant.rest))
 
 pub returns-clause-some : goal.returns-clause-some
 returns-clause-some g c =
     let n : length c.loop-parts.parts.items ≡ 0 = search rules in
-    sym (none_stacked c.loop-parts.parts.items (stacked c.args.parts.now.items) n c.loop-parts.invariant.rest)
+    sym (none_stacked c.loop-parts.parts.items (stacked c.args.parts.now.items) n
+    c.loop-parts.invariant.rest)
 
 pub returns-clause-none : goal.returns-clause-none
 returns-clause-none g c =

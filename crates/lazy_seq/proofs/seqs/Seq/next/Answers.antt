@@ -15,11 +15,15 @@ returns-clause-ok g c =
       | in-Leaf w ↦
           rw (w.result-is, w.self-inside-is)
           (ok_after w.next.result c.args.self.now.moves (leaf_moves w.next.new.self)
-          (subst (λ (z : Flow). IfOk w.next.result (λ item. settled z.moves ≡ giving item ++ leaf_moves w.next.new.self)) (ap flow_of (sym w.in-Leaf.is) ∙ c.self.view_is)
+          (subst (λ (z : Flow). IfOk w.next.result
+          (λ item. settled z.moves ≡ giving item ++ leaf_moves w.next.new.self))
+          (ap flow_of (sym w.in-Leaf.is) ∙ c.self.view_is)
           w.next.ensures.after))
       | in-Parts w ↦
           rw (w.result-is, w.self-inside-is)
-          (ok_after w.next_of_parts.result c.args.self.now.moves (stacked w.next_of_parts.new.parts.items)
-          (subst (λ (z : Flow). IfOk w.next_of_parts.result (λ item. settled z.moves ≡ giving item ++ stacked w.next_of_parts.new.parts.items))
+          (ok_after w.next_of_parts.result c.args.self.now.moves
+          (stacked w.next_of_parts.new.parts.items)
+          (subst (λ (z : Flow). IfOk w.next_of_parts.result
+          (λ item. settled z.moves ≡ giving item ++ stacked w.next_of_parts.new.parts.items))
           (ap flow_of (sym w.in-Parts.is) ∙ c.self.view_is) w.next_of_parts.ensures.after))
     ]
