@@ -15,6 +15,7 @@ ghost use Rattle.expr_raws.specs.Raws.{raw_of, is_printable};
 
 /// The raw value of an expression that can be printed means the expression, under the same
 /// prefixes.
+/// (XPath 2.0, 3 and A.4; XQuery 1.0, 3)
 pub fn raw_values_mean()
     ensures { (s : Setting) (e : Expr) → is_printable s.prefixes e ≡ true
         → value_of s (raw_of s.prefixes e) ≡ meant.Expr e }

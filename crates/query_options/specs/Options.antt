@@ -20,7 +20,8 @@ effect_in local =
 
 -- what an option of this name does
 unfoldable pub effect_of : ExprName → Effect
-effect_of name = if bytes_eq name.uri (codes "urn:xslt2xq") then effect_in name.local else effect.Nothing
+effect_of name = if bytes_eq name.uri (codes "urn:xslt2xq") then effect_in name.local
+    else effect.Nothing
 
 -- an option's name without a prefix has no uri
 abbrev pub option_effect : List Binding → Token → Effect
@@ -42,11 +43,15 @@ effect_broken bound seen text effect.Nothing = []
 
 -- the rules that an option breaks behind others
 abbrev pub option_broken : List Binding → Options → Token → List ℕ → List Code
-option_broken bound seen name text = undeclared_in bound (written_in name) ++ effect_broken bound seen text (option_effect bound name)
+option_broken bound seen name text =
+    undeclared_in bound (written_in name)
+    ++ effect_broken bound seen text (option_effect bound name)
 
 unfoldable pub with_effect : List Binding → Options → List ℕ → Effect → Options
-with_effect bound seen text effect.Space = record { rules = space_meant bound text; has_space = true; omit = seen.omit }
-with_effect bound seen text effect.Declaration = record { rules = seen.rules; has_space = seen.has_space; omit = true }
+with_effect bound seen text effect.Space =
+    record { rules = space_meant bound text; has_space = true; omit = seen.omit }
+with_effect bound seen text effect.Declaration =
+    record { rules = seen.rules; has_space = seen.has_space; omit = true }
 with_effect bound seen text effect.Nothing = seen
 
 -- what the options mean with this one

@@ -1,5 +1,6 @@
 -- The text of the option `space`: pairs of `strip` or `preserve` and a name test.
-use Rattle.std.specs.Prelude.{ℕ, List, [], ◌∷◌, ◌++◌, ◌||◌, Option, Some, None, codes, if◌then◌else◌}
+use Rattle.std.specs.Prelude.{ℕ, List, [], ◌∷◌, ◌++◌, ◌||◌, Option, Some, None, codes}
+use Rattle.std.specs.Prelude.{if◌then◌else◌}
 use Rattle.std.specs.Str.{bytes_eq}
 use Rattle.xt_names.specs.Classes.{is_ncname_text}
 use Rattle.xt_names.specs.declared.names.Binding.{Binding}
@@ -50,7 +51,8 @@ unfoldable pub written_test : List ℕ → Option WrittenTest
 written_test text = test_of_parts text (text_before (codes ":") text) (text_after (codes ":") text)
 
 abbrev pub word_broken : List ℕ → List Code
-word_broken word = if bytes_eq word (codes "strip") || bytes_eq word (codes "preserve") then [] else not_taken
+word_broken word = if bytes_eq word (codes "strip") || bytes_eq word (codes "preserve") then []
+    else not_taken
 
 unfoldable pub test_word_broken : List Binding → Option WrittenTest → List Code
 test_word_broken bound None = not_taken

@@ -4,6 +4,7 @@ ghost use Rattle.query_options.specs.Options.{effect_of};
 use xt_names::{ExprName, is_ascii_text};
 
 /// What an option does.
+/// (XQuery 1.0, 4.16)
 #[derive(Clone, Copy)]
 pub enum Effect {
     /// It says of which elements white space is stripped.
@@ -15,6 +16,7 @@ pub enum Effect {
 }
 
 /// What an option of this name does.
+/// (XQuery 1.0, 4.16)
 #[tactic(auto, unfolding(crate::specs::Options::effect_of))]
 pub fn effect_of(name: &ExprName) -> Effect
     ensures { result ≡ effect_of name.now }

@@ -1,5 +1,5 @@
-//! The options of a prolog that have an effect of this project's own (XQuery 1.0, 4.16): `space` and
-//! `declaration` in the namespace `urn:xslt2xq`. All others are passed over.
+//! The options of a prolog that have an effect of this project's own (XQuery 1.0, 4.16): `space`
+//! and `declaration` in the namespace `urn:xslt2xq`. All others are passed over.
 //!
 //! The text of `space` is a list of pairs, each of which is `strip` or `preserve` and a name test:
 //! of which elements white space is stripped. The text of `declaration` is `omit`. Each of the two

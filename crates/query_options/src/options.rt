@@ -16,6 +16,7 @@ use xt_names::{Binding, ExprName, List, Text, is_ascii_text};
 use xt_types::SpaceRule;
 
 /// What the options so far mean.
+/// (XQuery 1.0, 4.16)
 #[derive(Drop)]
 pub struct Options {
     /// Of which elements white space is stripped.
@@ -27,6 +28,7 @@ pub struct Options {
 }
 
 /// No options. It takes no memory.
+/// (XQuery 1.0, 4.16)
 pub fn no_options(alloc: Global) -> Options
     ensures { result ≡ no_options }
 {
@@ -56,7 +58,8 @@ fn check_omit(text: &Text) -> Result<(), ResolveFault>
 }
 
 fn option_name(alloc: Global, bound: &[Binding], name: &Token) -> Result<ExprName, ResolveFault>
-    ensures { Answers result (undeclared_in bound.now (written_in name.now)) (expr_name bound.now [] (written_in name.now)) }
+    ensures { Answers result (undeclared_in bound.now (written_in name.now))
+        (expr_name bound.now [] (written_in name.now)) }
 {
     let none = no_text(alloc)?;
     let written = written_in(alloc, name)?;
@@ -71,7 +74,8 @@ fn with_effect(
     text: &Text,
     effect: Effect,
 ) -> Result<Options, ResolveFault>
-    ensures { Answers result (effect_broken bound.now seen text.now effect) (with_effect bound.now seen text.now effect) }
+    ensures { Answers result (effect_broken bound.now seen text.now effect)
+        (with_effect bound.now seen text.now effect) }
 {
     match effect {
         Effect::Space => {
@@ -94,6 +98,7 @@ fn with_effect(
 /// What the options mean with one more. XPST0081 where the prefix of its name is not declared, and
 /// then, where it is `space` or `declaration` in the namespace `urn:xslt2xq`, XTOP0001 where it
 /// stands twice or its text is not taken.
+/// (XQuery 1.0, 4.16)
 #[tactic(auto, using(expr_names::proofs::Follow::fault_first, expr_names::proofs::Follow::fault_next))]
 pub fn with_option(
     alloc: Global,
@@ -102,7 +107,8 @@ pub fn with_option(
     name: &Token,
     text: &Text,
 ) -> Result<Options, ResolveFault>
-    ensures { Answers result (option_broken bound.now seen name.now text.now) (with_option bound.now seen name.now text.now) }
+    ensures { Answers result (option_broken bound.now seen name.now text.now)
+        (with_option bound.now seen name.now text.now) }
 {
     let named = option_name(alloc, bound, name)?;
     with_effect(alloc, bound, seen, text, effect_of(&named))

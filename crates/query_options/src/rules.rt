@@ -2,8 +2,10 @@
 ghost use Rattle.std.specs.Prelude.{◌≡◌, ◌++◌, []};
 ghost use Rattle.expr_names.specs.Answers.{Answers};
 ghost use Rattle.expr_names.specs.Names.{name_test, test_broken};
-ghost use Rattle.query_options.specs.Spaces.{word_broken, test_word_broken, test_or_any, pair_broken};
-ghost use Rattle.query_options.specs.Spaces.{pair_meant, pairs_broken, pairs_meant, space_broken, space_meant};
+ghost use Rattle.query_options.specs.Spaces.{word_broken, test_word_broken, test_or_any};
+ghost use Rattle.query_options.specs.Spaces.{pair_broken};
+ghost use Rattle.query_options.specs.Spaces.{pair_meant, pairs_broken, pairs_meant, space_broken};
+ghost use Rattle.query_options.specs.Spaces.{space_meant};
 ghost use Rattle.query_options.specs.Spaces.{not_taken};
 
 use crate::tests_of_words::written_test;
@@ -14,6 +16,7 @@ use xt_names::{Binding, List, QueryStaticCode, Text, is_ascii_text};
 use xt_types::{NameTest, SpaceRule};
 
 /// XTOP0001, of a text that the option does not take.
+/// (XQuery 1.0, 4.16)
 pub(crate) fn refused() -> Result<(), ResolveFault>
     ensures { Answers result not_taken tt }
 {
@@ -35,7 +38,8 @@ fn test_of(
     bound: &[Binding],
     written: Option<WrittenTest>,
 ) -> Result<NameTest, ResolveFault>
-    ensures { Answers result (test_word_broken bound.now written) (name_test bound.now (test_or_any written)) }
+    ensures { Answers result (test_word_broken bound.now written)
+        (name_test bound.now (test_or_any written)) }
 {
     match written {
         None => Err(static_fault(QueryStaticCode::XTOP0001)),
@@ -50,7 +54,8 @@ fn rule_of(
     word: &Text,
     text: &Text,
 ) -> Result<SpaceRule, ResolveFault>
-    ensures { Answers result (pair_broken bound.now word.now text.now) (pair_meant bound.now word.now text.now) }
+    ensures { Answers result (pair_broken bound.now word.now text.now)
+        (pair_meant bound.now word.now text.now) }
 {
     check_word(word)?;
     let written = written_test(alloc, text.as_str())?;
@@ -84,6 +89,7 @@ fn rules_of(
 /// The rules of white space that the text of the option means. XTOP0001 where it is no list of
 /// pairs of `strip` or `preserve` and a name test, and XPST0081 where the prefix of one is not
 /// declared; the first that is broken counts.
+/// (XQuery 1.0, 4.16; XSLT 2.0, 4.4)
 pub fn space_rules(
     alloc: Global,
     bound: &[Binding],

@@ -42,7 +42,8 @@ fn words_in(alloc: Global, text: &[char]) -> Result<List<Text>, AllocError>
 
 #[tactic(auto, using(crate::proofs::WordLemmas::turns))]
 fn with_char(alloc: Global, reading: Reading, c: char) -> Result<Reading, AllocError>
-    ensures { IfOk result (λ more. (cs : Items ℕ) → more.words ++ words_in more.word cs ≡ reading.words ++ words_in reading.word (c ∷ cs)) }
+    ensures { IfOk result (λ more. (cs : Items ℕ)
+        → more.words ++ words_in more.word cs ≡ reading.words ++ words_in reading.word (c ∷ cs)) }
 {
     let mut word = reading.word;
     if is_white(c) {

@@ -15,7 +15,8 @@ unfolding first
 none_broken [] e = refl
 none_broken (c ∷ cs) e = absurd (none-some _ e)
 
-pub some_broken : (codes : List Code) (c : Code) (found : Option Code) → found ≡ Some c → found ≡ first codes → first_broken codes ≡ Some c
+pub some_broken : (codes : List Code) (c : Code) (found : Option Code) → found ≡ Some c
+    → found ≡ first codes → first_broken codes ≡ Some c
 unfolding first
 some_broken [] c found i e = cc
 some_broken (d ∷ cs) c found i e = cc

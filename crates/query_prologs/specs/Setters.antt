@@ -13,7 +13,8 @@ use Rattle.query_grammar.specs.declared.declared.Declared.TheVariants as declare
 
 -- what a declaration sets
 unfoldable pub setter_of : Declared → Setter
-setter_of (declared.Namespace prefix uri) = setter.Namespace (record { prefix = (written_in prefix).local; uri = uri })
+setter_of (declared.Namespace prefix uri) =
+    setter.Namespace (record { prefix = (written_in prefix).local; uri = uri })
 setter_of (declared.ElementDefault uri) = setter.ElementDefault uri
 setter_of (declared.FunctionDefault uri) = setter.FunctionDefault uri
 setter_of (declared.BoundarySpace preserve) = setter.BoundarySpace preserve

@@ -7,6 +7,7 @@ use expr_names::ResolveFault;
 use xt_names::Code;
 
 /// The fault of the first broken rule, where there is one.
+/// (XQuery 1.0, 2.3.1)
 #[tactic(auto, using(crate::proofs::FaultLemmas::none_broken))]
 pub fn answer_to(found: Option<Code>) -> Result<(), ResolveFault>
     ensures { (codes : Items Code) → found ≡ first codes → Answers result codes tt }

@@ -12,6 +12,7 @@ use xt_names::{Binding, List, Text};
 use xt_syntax::Prefixes;
 
 /// The namespaces that the setters declare, in order.
+/// (XQuery 1.0, 4.12)
 #[tactic(auto, unfolding(crate::specs::Prefixes::binding_and))]
 pub fn declared_bindings(alloc: Global, setters: &[Setter]) -> Result<List<Binding>, AllocError>
     ensures { IfOk result (λ bound. bound ≡ declared_bindings setters.now) }
@@ -103,6 +104,7 @@ pub fn is_stripped(setters: &[Setter]) -> bool
 }
 
 /// How prefixes, and names without one, are resolved behind the setters.
+/// (XQuery 1.0, 4.12 and 4.13)
 pub fn prefixes_of(alloc: Global, setters: &[Setter]) -> Result<Prefixes, AllocError>
     ensures { IfOk result (λ prefixes. prefixes ≡ prefixes_of setters.now) }
 {

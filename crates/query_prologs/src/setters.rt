@@ -17,7 +17,8 @@ use std::alloc::{AllocError, Global};
 use xt_names::{Binding, List, QueryStaticCode, Text, is_ascii_text};
 
 fn binding_of(alloc: Global, prefix: &Token, uri: &Text) -> Result<Binding, AllocError>
-    ensures { IfOk result (λ b. b ≡ record { prefix = (written_in prefix.now).local; uri = uri.now }) }
+    ensures { IfOk result (λ b. b
+        ≡ record { prefix = (written_in prefix.now).local; uri = uri.now }) }
 {
     let written = written_in(alloc, prefix)?;
     Ok(Binding {
@@ -86,6 +87,7 @@ fn check_setters(alloc: Global, setters: &[Setter]) -> Result<(), ResolveFault>
 /// namespaces and setters break: XQST0031, of a version other than 1.0, and then, in the order in
 /// which they stand, XQST0033, of a prefix that is declared twice, XQST0066, of a default namespace
 /// that is, XQST0068, of boundary-space, and XQST0070, of xml, of xmlns or of one of their uris.
+/// (XQuery 1.0, 4.1, 4.3, 4.12 and 4.13)
 #[tactic(auto, using(expr_names::proofs::Follow::fault_first, expr_names::proofs::Follow::fault_next))]
 pub fn checked_setters(alloc: Global, declared: &[Declared]) -> Result<List<Setter>, ResolveFault>
     ensures { Answers result (first_part_broken declared.now) (setters_of declared.now) }

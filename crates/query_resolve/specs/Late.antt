@@ -9,12 +9,14 @@ use Rattle.query_grammar.specs.declared.declared.Declared.TheVariants as declare
 use Rattle.query_options.specs.Options.{no_options, option_broken, with_option}
 use Rattle.query_options.specs.declared.options.Options.{Options}
 use Rattle.query_resolve.specs.declared.late.Late.{Late}
-use Rattle.query_resolve.specs.Declarations.{variable_broken, variable_meant, function_broken, function_meant}
+use Rattle.query_resolve.specs.Declarations.{variable_broken, variable_meant, function_broken}
+use Rattle.query_resolve.specs.Declarations.{function_meant}
 
 -- the variable or function that is declared, where it is one
 unfoldable pub declaration_in : Setting → Declared → List Declaration
 declaration_in s (declared.Variable v value) = declaration.Variable (variable_meant s v value) ∷ []
-declaration_in s (declared.Function name params kind body) = declaration.Function (function_meant s name params kind body) ∷ []
+declaration_in s (declared.Function name params kind body) =
+    declaration.Function (function_meant s name params kind body) ∷ []
 declaration_in s _ = []
 
 -- the options with this declaration, where it is one
@@ -47,7 +49,10 @@ all_options s o (d ∷ ds) = all_options s (options_behind s o d) ds
 
 -- what all declarations mean
 abbrev pub late_meant : Setting → List Declared → Late
-late_meant s ds = record { declarations = declarations_of s ds; options = all_options s no_options ds }
+late_meant s ds = record {
+  declarations = declarations_of s ds;
+  options = all_options s no_options ds;
+}
 
 -- the rules that they break, in reading order
 abbrev pub all_broken : Setting → Options → List Declared → List Code

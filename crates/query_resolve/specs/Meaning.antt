@@ -33,7 +33,8 @@ pub data Among (c : Code) : List Code → Type 0 where
 pub data BrokenIn (s : Setting) (c : Code) : Options → List Declared → Type 0 where
   by_first : {o : Options} {d : Declared} {ds : List Declared} → Among c (late_broken s o d)
       → BrokenIn s c o (d ∷ ds)
-  by_later : {o : Options} {d : Declared} {ds : List Declared} → BrokenIn s c (options_behind s o d) ds
+  by_later : {o : Options} {d : Declared} {ds : List Declared}
+      → BrokenIn s c (options_behind s o d) ds
       → BrokenIn s c o (d ∷ ds)
 
 -- the query breaks the rule of this code

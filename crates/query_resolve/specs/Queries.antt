@@ -75,7 +75,8 @@ query_by ss s late body = record {
 
 -- the query that it means
 abbrev pub query_meant : RawQuery → Query
-query_meant raw = query_by (setters_of raw.declared) (setting_of raw) (late_of raw) (expr_meant (setting_of raw) raw.body)
+query_meant raw = query_by (setters_of raw.declared) (setting_of raw) (late_of raw)
+    (expr_meant (setting_of raw) raw.body)
 
 -- what a query is resolved to: the query that it means, or the code of the first broken rule
 pub data Answer : Type 0 where

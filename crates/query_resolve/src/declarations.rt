@@ -5,8 +5,10 @@ ghost use Rattle.expr_names.specs.Answers.{Answers};
 ghost use Rattle.expr_names.specs.Names.{expr_name};
 ghost use Rattle.expr_meant.specs.Names.{written_in};
 ghost use Rattle.expr_resolve.specs.Folds.{broken_of, expr_meant};
-ghost use Rattle.query_resolve.specs.Declarations.{name_broken, kind_broken, kind_meant, value_broken};
-ghost use Rattle.query_resolve.specs.Declarations.{typed_broken, param_meant, params_broken, params_meant};
+ghost use Rattle.query_resolve.specs.Declarations.{name_broken, kind_broken, kind_meant};
+ghost use Rattle.query_resolve.specs.Declarations.{value_broken};
+ghost use Rattle.query_resolve.specs.Declarations.{typed_broken, param_meant, params_broken};
+ghost use Rattle.query_resolve.specs.Declarations.{params_meant};
 ghost use Rattle.query_resolve.specs.Declarations.{variable_broken, variable_meant};
 ghost use Rattle.query_resolve.specs.Declarations.{function_broken, function_meant};
 
@@ -21,7 +23,8 @@ use xt_syntax::{Expr, QueryFunction, QueryParam, QueryVar, SeqType};
 
 /// The name; XPST0081 where its prefix is not declared.
 fn named(alloc: Global, s: &Setting, default: &Text, name: &Token) -> Result<ExprName, ResolveFault>
-    ensures { Answers result (name_broken s.now name.now) (expr_name s.now.prefixes.bound default.now (written_in name.now)) }
+    ensures { Answers result (name_broken s.now name.now)
+        (expr_name s.now.prefixes.bound default.now (written_in name.now)) }
 {
     let written = written_in(alloc, name)?;
     expr_name(alloc, s.prefixes.bound.as_slice(), default, &written)
@@ -39,7 +42,8 @@ fn kind_of(alloc: Global, s: &Setting, kind: &Option<Raw>) -> Result<Option<SeqT
 
 #[tactic(auto, unfolding(crate::specs::Declarations::value_broken))]
 fn value_of(alloc: Global, s: &Setting, value: &Option<Raw>) -> Result<Option<Expr>, ResolveFault>
-    ensures { Answers result (value_broken s.now value.now) (option_map (expr_meant s.now) value.now) }
+    ensures { Answers result (value_broken s.now value.now)
+        (option_map (expr_meant s.now) value.now) }
 {
     match value {
         None => Ok(None),
@@ -81,6 +85,7 @@ fn with_value(param: QueryParam, value: Option<Expr>) -> QueryVar
 }
 
 /// The variable, or the code of the first rule that it breaks in how it is written.
+/// (XQuery 1.0, 4.14)
 #[tactic(auto, using(expr_names::proofs::Follow::fault_first, expr_names::proofs::Follow::fault_next))]
 pub(crate) fn variable_of(
     alloc: Global,
@@ -88,7 +93,8 @@ pub(crate) fn variable_of(
     variable: &Typed,
     value: &Option<Raw>,
 ) -> Result<QueryVar, ResolveFault>
-    ensures { Answers result (variable_broken s.now variable.now value.now) (variable_meant s.now variable.now value.now) }
+    ensures { Answers result (variable_broken s.now variable.now value.now)
+        (variable_meant s.now variable.now value.now) }
 {
     let param = param_of(alloc, s, variable)?;
     let value = value_of(alloc, s, value)?;
@@ -96,6 +102,7 @@ pub(crate) fn variable_of(
 }
 
 /// The function, or the code of the first rule that it breaks in how it is written.
+/// (XQuery 1.0, 4.15)
 #[tactic(auto, using(expr_names::proofs::Follow::fault_first, expr_names::proofs::Follow::fault_next))]
 pub(crate) fn function_of(
     alloc: Global,
@@ -105,7 +112,8 @@ pub(crate) fn function_of(
     kind: &Option<Raw>,
     body: &Raw,
 ) -> Result<QueryFunction, ResolveFault>
-    ensures { Answers result (function_broken s.now name.now params.now kind.now body.now) (function_meant s.now name.now params.now kind.now body.now) }
+    ensures { Answers result (function_broken s.now name.now params.now kind.now body.now)
+        (function_meant s.now name.now params.now kind.now body.now) }
 {
     let name = named(alloc, s, &s.prefixes.function_default, name)?;
     let params = params_of(alloc, s, params)?;

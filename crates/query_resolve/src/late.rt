@@ -22,6 +22,7 @@ use xt_names::{List, Text};
 use xt_syntax::{QueryFunction, QueryVar};
 
 /// What the second part of a prolog means so far.
+/// (XQuery 1.0, 4.14 to 4.16)
 #[derive(Drop)]
 pub struct Late {
     /// The variables and functions, in order.
@@ -31,7 +32,8 @@ pub struct Late {
 }
 
 fn with_declaration(late: Late, declaration: Declaration) -> Result<Late, ResolveFault>
-    ensures { Answers result [] (record { declarations = late.declarations ++ declaration ∷ []; options = late.options }) }
+    ensures { Answers result []
+        (record { declarations = late.declarations ++ declaration ∷ []; options = late.options }) }
 {
     let mut declarations = late.declarations;
     declarations.push(declaration)?;
@@ -42,7 +44,11 @@ fn with_declaration(late: Late, declaration: Declaration) -> Result<Late, Resolv
 }
 
 fn with_variable(late: Late, variable: Result<QueryVar, ResolveFault>) -> Result<Late, ResolveFault>
-    ensures { (codes : Items Code) (v : QueryVar) → Answers variable codes v → Answers result codes (record { declarations = late.declarations ++ declaration.Variable v ∷ []; options = late.options }) }
+    ensures { (codes : Items Code) (v : QueryVar) → Answers variable codes v
+        → Answers result codes (record {
+          declarations = late.declarations ++ declaration.Variable v ∷ [];
+          options = late.options;
+        }) }
 {
     match variable {
         Err(fault) => Err(fault),
@@ -54,7 +60,11 @@ fn with_function(
     late: Late,
     function: Result<QueryFunction, ResolveFault>,
 ) -> Result<Late, ResolveFault>
-    ensures { (codes : Items Code) (f : QueryFunction) → Answers function codes f → Answers result codes (record { declarations = late.declarations ++ declaration.Function f ∷ []; options = late.options }) }
+    ensures { (codes : Items Code) (f : QueryFunction) → Answers function codes f
+        → Answers result codes (record {
+          declarations = late.declarations ++ declaration.Function f ∷ [];
+          options = late.options;
+        }) }
 {
     match function {
         Err(fault) => Err(fault),
@@ -69,7 +79,11 @@ fn with_setting(
     name: &Token,
     text: &Text,
 ) -> Result<Late, ResolveFault>
-    ensures { Answers result (option_broken s.now.prefixes.bound late.options name.now text.now) (record { declarations = late.declarations; options = with_option s.now.prefixes.bound late.options name.now text.now }) }
+    ensures { Answers result (option_broken s.now.prefixes.bound late.options name.now text.now)
+        (record {
+          declarations = late.declarations;
+          options = with_option s.now.prefixes.bound late.options name.now text.now;
+        }) }
 {
     let options = with_option(alloc, s.prefixes.bound.as_slice(), late.options, name, text)?;
     Ok(Late {
@@ -85,7 +99,8 @@ fn with_declared(
     late: Late,
     declared: &Declared,
 ) -> Result<Late, ResolveFault>
-    ensures { Answers result (late_broken s.now late.options declared.now) (late_behind s.now late declared.now) }
+    ensures { Answers result (late_broken s.now late.options declared.now)
+        (late_behind s.now late declared.now) }
 {
     match declared {
         Declared::Setting(name, text) => with_setting(alloc, s, late, name, text),
@@ -111,13 +126,15 @@ fn nothing_late(alloc: Global) -> Late
 
 /// What the variables, functions and options of a prolog mean, or the code of the first rule that
 /// they break in how they are written.
+/// (XQuery 1.0, 4.14 to 4.16)
 #[tactic(auto, using(expr_names::proofs::Follow::fault_first, expr_names::proofs::Follow::fault_next))]
 pub(crate) fn late_of(
     alloc: Global,
     s: &Setting,
     declared: &[Declared],
 ) -> Result<Late, ResolveFault>
-    ensures { Answers result (all_broken s.now no_options declared.now) (late_meant s.now declared.now) }
+    ensures { Answers result (all_broken s.now no_options declared.now)
+        (late_meant s.now declared.now) }
 {
     let mut late = nothing_late(alloc);
     let mut left = declared;

@@ -8,6 +8,7 @@ use xt_names::List;
 use xt_syntax::{QueryFunction, QueryVar};
 
 /// The variables among the declarations, in order.
+/// (XQuery 1.0, 4.14)
 #[tactic(auto, unfolding(crate::specs::Queries::variable_and))]
 pub(crate) fn variables_in(
     alloc: Global,
@@ -25,6 +26,7 @@ pub(crate) fn variables_in(
 }
 
 /// The functions among the declarations, in order.
+/// (XQuery 1.0, 4.15)
 #[tactic(auto, unfolding(crate::specs::Queries::function_and))]
 pub(crate) fn functions_in(
     alloc: Global,

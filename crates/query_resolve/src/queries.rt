@@ -47,7 +47,8 @@ struct Parts {
 }
 
 fn with_body(late: Late, body: Result<Expr, ResolveFault>) -> Result<Parts, ResolveFault>
-    ensures { (codes : Items Code) (e : Expr) → Answers body codes e → Answers result codes (record { late = late; body = e }) }
+    ensures { (codes : Items Code) (e : Expr) → Answers body codes e
+        → Answers result codes (record { late = late; body = e }) }
 {
     match body {
         Err(fault) => {
@@ -62,7 +63,8 @@ fn with_late(
     late: Result<Late, ResolveFault>,
     body: Result<Expr, ResolveFault>,
 ) -> Result<Parts, ResolveFault>
-    ensures { (codes others : Items Code) (l : Late) (e : Expr) → Answers late codes l → Answers body others e → Answers result (codes ++ others) (record { late = l; body = e }) }
+    ensures { (codes others : Items Code) (l : Late) (e : Expr) → Answers late codes l
+        → Answers body others e → Answers result (codes ++ others) (record { late = l; body = e }) }
 {
     match late {
         Err(fault) => {
@@ -86,7 +88,8 @@ fn checked(parts: Parts) -> Result<Parts, ResolveFault>
 }
 
 fn checked_parts(parts: Result<Parts, ResolveFault>) -> Result<Parts, ResolveFault>
-    ensures { (codes : Items Code) (p : Parts) → Answers parts codes p → Answers result (codes ++ query_broken p.late.declarations p.body) p }
+    ensures { (codes : Items Code) (p : Parts) → Answers parts codes p
+        → Answers result (codes ++ query_broken p.late.declarations p.body) p }
 {
     match parts {
         Err(fault) => Err(fault),
@@ -123,7 +126,8 @@ fn made_query(
     setting: &Setting,
     parts: Result<Parts, ResolveFault>,
 ) -> Result<Query, ResolveFault>
-    ensures { (codes : Items Code) (p : Parts) → Answers parts codes p → Answers result codes (query_by setters.now setting.now p.late p.body) }
+    ensures { (codes : Items Code) (p : Parts) → Answers parts codes p
+        → Answers result codes (query_by setters.now setting.now p.late p.body) }
 {
     match parts {
         Err(fault) => Err(fault),
@@ -140,7 +144,9 @@ fn behind_setters(
     s: &Setting,
     raw: &RawQuery,
 ) -> Result<Query, ResolveFault>
-    ensures { Answers result (rest_broken s.now raw.now) (query_by setters.now s.now (late_meant s.now raw.now.declared) (expr_meant s.now raw.now.body)) }
+    ensures { Answers result (rest_broken s.now raw.now)
+        (query_by setters.now s.now (late_meant s.now raw.now.declared)
+        (expr_meant s.now raw.now.body)) }
 {
     let late = late_of(alloc, s, raw.declared.as_slice());
     let body = resolve(alloc, s, &raw.body);
@@ -148,7 +154,10 @@ fn behind_setters(
 }
 
 fn in_setting(alloc: Global, setters: &[Setter], raw: &RawQuery) -> Result<Query, ResolveFault>
-    ensures { Answers result (rest_broken (setting_behind setters.now) raw.now) (query_by setters.now (setting_behind setters.now) (late_meant (setting_behind setters.now) raw.now.declared) (expr_meant (setting_behind setters.now) raw.now.body)) }
+    ensures { Answers result (rest_broken (setting_behind setters.now) raw.now)
+        (query_by setters.now (setting_behind setters.now)
+        (late_meant (setting_behind setters.now) raw.now.declared)
+        (expr_meant (setting_behind setters.now) raw.now.body)) }
 {
     let setting = setting_behind(alloc, setters)?;
     behind_setters(alloc, setters, &setting, raw)
@@ -168,6 +177,7 @@ fn query_in(alloc: Global, raw: &RawQuery) -> Result<Query, ResolveFault>
 /// of a type, XPST0051, XPST0080, XPST0081, XQST0040, XQST0089, XTOP0001), and of those on what is
 /// declared where it is named (XPST0008, XPST0017, XQST0034, XQST0039, XQST0045, XQST0049,
 /// XQST0060).
+/// (XQuery 1.0, 2.3.1, 3.1, 3.7.1, 3.8.1 and 4.1 to 4.16)
 #[tactic(auto, using(crate::proofs::MeaningLemmas::resolving))]
 pub fn resolve_query(alloc: Global, raw: &RawQuery) -> Result<Query, ResolveFault>
     ensures meant { Resolved result raw.now }

@@ -1,5 +1,6 @@
 -- The front of a declaration or of the body, and what stands before an expression.
-use Rattle.std.proofs.Common.{◌≡◌, ℕ, Bool, true, false, cond, ◌&&◌, codes, List, [], ◌∷◌, ◌++◌, refl}
+use Rattle.std.proofs.Common.{◌≡◌, ℕ, Bool, true, false, cond, ◌&&◌, codes, List, [], ◌∷◌, ◌++◌}
+use Rattle.std.proofs.Common.{refl}
 use Rattle.std.proofs.Common.{sym, ◌∙◌, ap, subst, Option, Some, None, option_and_then, option_map}
 use Rattle.std.proofs.Common.{arith}
 use Rattle.std.proofs.lemmas.Option.{none-some, same_Some}
@@ -174,7 +175,8 @@ external_flat None = none_flat
 external_flat (Some v) = one_flat _ refl
 
 outside_flat : (us : List Token) → IsFlat (outside_of us)
-outside_flat us = cond_flat (is_outside us) _ None (external_flat (typed_of (but_last us))) none_flat
+outside_flat us = cond_flat (is_outside us) _ None (external_flat (typed_of (but_last us)))
+    none_flat
 
 whole_flat : (o : Opening) (us : List Token) → IsFlat (whole_of o us)
 whole_flat opening.Version us = version_flat us

@@ -16,6 +16,7 @@ use query_grammar::{Declared, Signature, Typed};
 use std::alloc::{AllocError, Global};
 
 /// Leads the token into the expression.
+/// (XQuery 1.0, 3 and A.1)
 #[tactic(auto, using(crate::proofs::ExpressionLemmas::expressions))]
 pub fn lead(
     alloc: Global,
@@ -36,6 +37,7 @@ pub fn lead(
 }
 
 /// In the body of the query.
+/// (XQuery 1.0, 3 and A.1)
 #[tactic(auto, using(crate::proofs::ExpressionLemmas::expressions))]
 pub fn body_step(
     alloc: Global,
@@ -54,6 +56,7 @@ pub fn body_step(
 }
 
 /// In the value of a variable, before a token of it.
+/// (XQuery 1.0, 4.14)
 #[tactic(auto, using(crate::proofs::ExpressionLemmas::expressions))]
 pub fn value_on(
     alloc: Global,
@@ -73,6 +76,7 @@ pub fn value_on(
 }
 
 /// Behind the value of a variable.
+/// (XQuery 1.0, 4.14)
 #[tactic(auto, using(crate::proofs::ExpressionLemmas::expressions))]
 pub fn value_end(variable: Typed, reader: Reader) -> Result<Turn, AllocError>
     ensures { IfOk result (λ turn. (k : ℕ) (fs : List Open) (ts : List Term) →
@@ -87,6 +91,7 @@ pub fn value_end(variable: Typed, reader: Reader) -> Result<Turn, AllocError>
 }
 
 /// In the body of a function, before a token of it.
+/// (XQuery 1.0, 4.15)
 #[tactic(auto, using(crate::proofs::ExpressionLemmas::expressions))]
 pub fn inner_on(
     alloc: Global,
@@ -106,6 +111,7 @@ pub fn inner_on(
 }
 
 /// Behind the body of a function.
+/// (XQuery 1.0, 4.15)
 #[tactic(auto, using(crate::proofs::ExpressionLemmas::expressions))]
 pub fn inner_end(signature: Signature, reader: Reader) -> Result<Turn, AllocError>
     ensures { IfOk result (λ turn. (k : ℕ) (fs : List Open) (ts : List Term) →

@@ -19,6 +19,7 @@ use query_heads::{inner_start, is_head, may_open, opening_of, value_start, whole
 use std::alloc::{AllocError, Global};
 
 /// At the front.
+/// (XQuery 1.0, 4 and A.1)
 #[tactic(auto, using(crate::proofs::FrontLemmas::fronts))]
 pub fn front_step(
     alloc: Global,
@@ -58,6 +59,7 @@ fn both_steps(
 }
 
 /// Behind a word that may open a declaration.
+/// (XQuery 1.0, 4 and A.1)
 #[tactic(auto, using(crate::proofs::FrontLemmas::fronts))]
 pub fn held_step(
     alloc: Global,
@@ -79,6 +81,7 @@ pub fn held_step(
 }
 
 /// The body that the one token is, where the query ends behind it.
+/// (XQuery 1.0, 3 and A.1)
 #[tactic(auto, using(crate::proofs::FrontLemmas::fronts))]
 pub fn held_end(
     alloc: Global,
@@ -149,6 +152,7 @@ fn inner_front(
 }
 
 /// Behind the two words of a declaration and these tokens.
+/// (XQuery 1.0, 4.1 to 4.16)
 #[tactic(auto, using(crate::proofs::FrontLemmas::fronts))]
 pub fn head_step(
     alloc: Global,

@@ -4,6 +4,7 @@ use expr_terms::{Second, Token};
 use query_grammar::{Declared, Opening, Signature, Typed};
 
 /// How far a query is read.
+/// (XQuery 1.0, 4 and A.1)
 #[derive(Drop)]
 pub enum Stage {
     /// At the front of a declaration or of the body.
@@ -23,6 +24,7 @@ pub enum Stage {
 }
 
 /// What a token leads to.
+/// (XQuery 1.0, 4 and A.1)
 #[derive(Drop)]
 pub enum Turn {
     /// Nothing goes on so.

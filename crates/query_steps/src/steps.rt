@@ -74,6 +74,7 @@ fn closed_step(declared: Option<Declared>, token: &Token) -> Turn
 
 /// What the token leads to, where the tokens behind it tell so much of it. A value that nests
 /// deeper than the limit is dropped as soon as its expression ends.
+/// (XQuery 1.0, 4 and A.1)
 #[tactic(auto, using(crate::proofs::StepLemmas::steps))]
 pub fn step(
     alloc: Global,
@@ -97,6 +98,7 @@ pub fn step(
 }
 
 /// The value of the body, where the query ends here.
+/// (XQuery 1.0, 2.1 and A.1)
 #[tactic(auto, using(crate::proofs::StepLemmas::steps))]
 pub fn finish(alloc: Global, stage: Stage, limit: u16) -> Result<Reading, AllocError>
     ensures { IfOk result (λ reading. (m : Mode) → Stands limit stage m [] →

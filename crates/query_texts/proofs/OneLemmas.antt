@@ -12,7 +12,8 @@ use Rattle.expr_terms.specs.Choices.{second_of, second_token, open_next}
 use Rattle.query_grammar.specs.declared.declared.RawQuery.{RawQuery}
 use Rattle.query_grammar.specs.Prolog.{SpellsQuery}
 use Rattle.query_grammar.specs.Machine.{Mode, Turn, step, run, turned, behind, front, refused, onto}
-use Rattle.query_grammar.specs.Machine.{if_ordered, ends, is_lone, wants, Leads, began, onward, ended_by}
+use Rattle.query_grammar.specs.Machine.{if_ordered, ends, is_lone, wants, Leads, began, onward}
+use Rattle.query_grammar.specs.Machine.{ended_by}
 use Rattle.query_grammar.proofs.Operands.{slash_leads}
 use Rattle.query_grammar.proofs.Run.{query_one, spells_reads}
 use Rattle.query_pieces.specs.declared.contexts.Before.TheVariants.{Slash as slash_key}

@@ -11,7 +11,8 @@ use Rattle.expr_terms.specs.Choices.{second_of}
 use Rattle.query_grammar.specs.Machine.{Mode, step, wants, is_lone, Leads, refused}
 use Rattle.query_grammar.proofs.Operands.{outer_refused, less_refused}
 use Rattle.query_pieces.specs.declared.contexts.Before.{Before}
-use Rattle.query_pieces.specs.declared.contexts.Before.TheVariants.{Integer as integer, Slash as slash_key}
+use Rattle.query_pieces.specs.declared.contexts.Before.TheVariants.{Integer as integer}
+use Rattle.query_pieces.specs.declared.contexts.Before.TheVariants.{Slash as slash_key}
 use Rattle.query_pieces.specs.declared.contexts.Before.TheVariants.{Other as other}
 use Rattle.query_pieces.specs.Points.{Point, before_of}
 use Rattle.query_pieces.specs.Fronts.{begins, NameAt, name_at, name_with, local_at, run_of, rest_of}

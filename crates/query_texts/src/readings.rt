@@ -2,6 +2,7 @@
 use query_grammar::RawQuery;
 
 /// What the text of a query is read as.
+/// (XQuery 1.0, 4 and A)
 #[derive(Drop)]
 pub enum QueryReading {
     /// It spells no query.

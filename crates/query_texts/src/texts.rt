@@ -157,6 +157,7 @@ fn read_on(
 /// The query that the text spells, where each of its expressions (its body, the initialisers and
 /// the bodies of functions) nests no deeper than the limit. Nothing is told exactly where it spells
 /// no query, and TooDeep exactly where it spells one with an expression that nests deeper.
+/// (XQuery 1.0, 4 and A)
 #[tactic(auto, using(crate::proofs::StandingLemmas::standings))]
 pub fn read_query(alloc: Global, text: &str, limit: u16) -> Result<QueryReading, AllocError>
     ensures { IfOk result (λ reading. ReadAs (chars text.now) limit reading) }

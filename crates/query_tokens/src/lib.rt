@@ -13,11 +13,13 @@ ghost use Rattle.query_tokens.specs.Tokens.{query_tokens};
 ghost use Rattle.query_tokens.specs.Stands.{is_query};
 
 /// The tokens of a well-formed query spell it.
+/// (XQuery 1.0, 4 and A.1)
 pub fn tokens_spell()
     ensures { (q : RawQuery) → is_query q ≡ true → SpellsQuery (query_tokens q) q }
 {}
 
 /// They are read back as the query.
+/// (XQuery 1.0, 4 and A.1)
 pub fn tokens_are_read_back()
     ensures { (q : RawQuery) → is_query q ≡ true → read_query (query_tokens q) ≡ Some q }
 {}

@@ -16,12 +16,14 @@ ghost use Rattle.raw_tokens.specs.Tokens.{tokens_at, tokens_of, type_tokens_of};
 ghost use Rattle.raw_tokens.specs.Stands.{stands_at, is_expr, is_type, goes_on};
 
 /// The tokens of a value that stands at a nonterminal derive it there, before those that follow.
+/// (XPath 2.0, A.1; XQuery 1.0, A.1)
 pub fn tokens_derive()
     ensures { (l : Language) (n : Nonterminal) (v : Raw) (rest : List Token)
         → stands_at l n v rest ≡ true → Derives l n (tokens_at n v rest) v rest }
 {}
 
 /// What follows a value stands behind its tokens, whatever it is.
+/// (XPath 2.0, A.1; XQuery 1.0, A.1)
 pub fn tokens_stand_before()
     ensures { (n : Nonterminal) (v : Raw) (ts rest : List Token)
         → tokens_at n v (ts ++ rest) ≡ tokens_at n v ts ++ rest }
@@ -29,6 +31,7 @@ pub fn tokens_stand_before()
 
 /// Where the tokens that follow begin no step and are no mark of a type, a value stands before
 /// them as it does before nothing, and so its tokens derive it before them.
+/// (XPath 2.0, A.1.2; XQuery 1.0, A.1.2)
 pub fn tokens_end()
     ensures stands { (l : Language) (n : Nonterminal) (v : Raw) (rest : List Token)
         → goes_on rest ≡ false → stands_at l n v rest ≡ stands_at l n v [] }
@@ -38,16 +41,19 @@ pub fn tokens_end()
 {}
 
 /// The tokens of a well-formed expression spell it.
+/// (XPath 2.0, A.1; XQuery 1.0, A.1)
 pub fn tokens_spell()
     ensures { (l : Language) (v : Raw) → is_expr l v ≡ true → Spells l (tokens_of v) v }
 {}
 
 /// They are read back as the expression.
+/// (XPath 2.0, A.1; XQuery 1.0, A.1)
 pub fn tokens_are_read_back()
     ensures { (l : Language) (v : Raw) → is_expr l v ≡ true → read_whole l (tokens_of v) ≡ Some v }
 {}
 
 /// The tokens of a well-formed sequence type spell it.
+/// (XPath 2.0, 2.5.3 and A.1; XQuery 1.0, 2.5.3 and A.1)
 pub fn tokens_spell_type()
     ensures { (l : Language) (v : Raw) → is_type l v ≡ true → SpellsType l (type_tokens_of v) v }
 {}

@@ -14,6 +14,7 @@ ghost use Rattle.token_texts.specs.Texts.{Layout, IsLayout, text_of};
 ghost use Rattle.token_texts.specs.Written.{is_written};
 
 /// The text of tokens that can be written is split into them.
+/// (XQuery 1.0, 3.7.1 and A.2)
 pub fn text_splits()
     ensures { (layout : Layout) (ts : List Token) → IsLayout layout → is_written ts ≡ true
         → Splits (start (text_of layout ts)) ts }

@@ -3,7 +3,8 @@ use Rattle.std.specs.Prelude.{◌≡◌, ℕ, nat_le, Result, Ok, Err, if◌then
 use Rattle.xt_names.specs.declared.codes.Code.{Code}
 use Rattle.xt_syntax.specs.declared.queries.Query.{Query}
 use Rattle.xt_syntax.specs.declared.prefixes.ParseFault.{ParseFault}
-use Rattle.xt_syntax.specs.declared.prefixes.ParseFault.TheVariants.{Syntax, Static, TooDeep, Memory}
+use Rattle.xt_syntax.specs.declared.prefixes.ParseFault.TheVariants.{Syntax, Static, TooDeep}
+use Rattle.xt_syntax.specs.declared.prefixes.ParseFault.TheVariants.{Memory}
 use Rattle.closed_queries.specs.Closed.{is_closed}
 use Rattle.query_grammar.specs.declared.declared.RawQuery.{RawQuery}
 use Rattle.query_resolve.specs.Queries.{resolved}

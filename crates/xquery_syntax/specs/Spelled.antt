@@ -3,7 +3,8 @@ use Rattle.std.specs.Prelude.{◌≡◌, ◌≤◌, ◌<◌, ℕ, List, true, fa
 use Rattle.xt_names.specs.declared.codes.Code.{Code}
 use Rattle.xt_syntax.specs.declared.queries.Query.{Query}
 use Rattle.xt_syntax.specs.declared.prefixes.ParseFault.{ParseFault}
-use Rattle.xt_syntax.specs.declared.prefixes.ParseFault.TheVariants.{Syntax, Static, TooDeep, Memory}
+use Rattle.xt_syntax.specs.declared.prefixes.ParseFault.TheVariants.{Syntax, Static, TooDeep}
+use Rattle.xt_syntax.specs.declared.prefixes.ParseFault.TheVariants.{Memory}
 use Rattle.closed_queries.specs.Closed.{is_closed}
 use Rattle.expr_names.specs.Answers.{first}
 use Rattle.query_grammar.specs.declared.declared.RawQuery.{RawQuery}
@@ -45,7 +46,8 @@ pub record IsTooDeep (k : ℕ) (text : List ℕ) : Type 0 where
   pub spelled : SpellsText text raw
   pub nests : k < query_nest raw
 
--- its tokens spell nothing; or what nests no deeper, but its tags do not end alike, or it is not closed
+-- its tokens spell nothing; or what nests no deeper, but its tags do not end alike, or it is not
+-- closed
 pub data Misspelt (k : ℕ) (text : List ℕ) : Type 0 where
   unwritten : ((raw : RawQuery) → SpellsText text raw → ⊥) → Misspelt k text
   misshapen : (raw : RawQuery) → SpellsText text raw → query_nest raw ≤ k

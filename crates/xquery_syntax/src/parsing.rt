@@ -56,12 +56,13 @@ fn answer(alloc: Global, raw: &RawQuery) -> Result<Query, ParseFault>
 }
 
 /// The query that the text spells (XQuery 1.0, A.1), where each of its expressions (its body, the
-/// initialisers and the bodies of functions) nests no deeper than 400 levels and it breaks no static
-/// rule. It is closed. Each refusal comes exactly where it should: `TooDeep` where the text spells
-/// a query with an expression that nests deeper; `Static` where one that does not breaks a rule,
-/// with the code of the first; and `Syntax` where it spells none, one whose direct elements do not
-/// end with the name that they begin with or have an attribute `xmlns` (3.7.1), or one that breaks
-/// no rule but is not closed.
+/// initialisers and the bodies of functions) nests no deeper than 400 levels and it breaks no
+/// static rule. It is closed. Each refusal comes exactly where it should: `TooDeep` where the text
+/// spells a query with an expression that nests deeper; `Static` where one that does not breaks a
+/// rule, with the code of the first; and `Syntax` where it spells none, one whose direct elements
+/// do not end with the name that they begin with or have an attribute `xmlns` (3.7.1), or one that
+/// breaks no rule but is not closed.
+/// (XQuery 1.0, 2.3.1, 3.7.1, 4 and A)
 #[tactic(auto, using(crate::proofs::ParsedLemmas::parsing))]
 pub fn parse_query(alloc: Global, text: &str) -> Result<Query, ParseFault>
     ensures { Parsed result 400 (chars text.now) }

@@ -1,4 +1,5 @@
-use Rattle.query_resolve.proofs.MeaningLemmas.{meant_resolved, resolved_meant, broken_among, among_broken}
+use Rattle.query_resolve.proofs.MeaningLemmas.{meant_resolved, resolved_meant, broken_among}
+use Rattle.query_resolve.proofs.MeaningLemmas.{among_broken}
 use Rattle.query_resolve.proofs.laws.resolves_what_is_meant.Goals as goal
 
 pub returns-clause-meant : goal.returns-clause-meant

@@ -8,12 +8,14 @@ use Rattle.query_steps.proofs.expressions.value_on.Goals as goal
 
 pub returns-in-None : goal.returns-in-None
 returns-in-None c = λ k fs ts e h.
-    frames_none k (machine.value c.args.variable) (advance xquery c.args.token.now c.args.second fs) ts
+    frames_none k (machine.value c.args.variable) (advance xquery c.args.token.now c.args.second fs)
+    ts
     (subst (λ z. Moves k z (advance xquery c.args.token.now c.args.second fs) ts) c.in-None.is
     (c.in_ok-lead.ensures k fs ts e h))
 
 pub returns-in-Some : goal.returns-in-Some
 returns-in-Some c = λ k fs ts e h.
-    frames_value k c.args.variable c.in-Some.reader (advance xquery c.args.token.now c.args.second fs) ts
+    frames_value k c.args.variable c.in-Some.reader
+    (advance xquery c.args.token.now c.args.second fs) ts
     (subst (λ z. Moves k z (advance xquery c.args.token.now c.args.second fs) ts) c.in-Some.is
     (c.in_ok-lead.ensures k fs ts e h))

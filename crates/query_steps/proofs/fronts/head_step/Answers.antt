@@ -4,7 +4,8 @@ use Rattle.query_grammar.specs.Machine as machine
 use Rattle.query_grammar.specs.Machine.{to_end, to_value, to_inner}
 use Rattle.query_grammar.specs.Machine.{whole_of, value_start, inner_start}
 use Rattle.query_steps.specs.Stands.{Turned}
-use Rattle.query_steps.proofs.FrontLemmas.{head_on, head_whole, head_value, head_inner, head_refused}
+use Rattle.query_steps.proofs.FrontLemmas.{head_on, head_whole, head_value, head_inner}
+use Rattle.query_steps.proofs.FrontLemmas.{head_refused}
 use Rattle.query_steps.proofs.fronts.head_step.Goals as goal
 
 pub returns-then-is_head : goal.returns-then-is_head

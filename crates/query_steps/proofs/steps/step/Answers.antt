@@ -33,7 +33,8 @@ returns-in-Body c =
     IfOk-weaker c.body_step.result _ _
     (λ x h. λ m ts e st.
     (let g = subst (λ z. Stands c.args.limit z m (c.args.token ∷ ts)) c.in-Body.is st in
-    in_mode c.args.limit x m _ c.args.token c.args.second ts g.mode (h c.args.limit g.frames ts e g.holds)))
+    in_mode c.args.limit x m _ c.args.token c.args.second ts g.mode
+    (h c.args.limit g.frames ts e g.holds)))
     c.body_step.ensures
 
 pub returns-in-Value : goal.returns-in-Value
@@ -41,7 +42,8 @@ returns-in-Value c =
     IfOk-weaker c.value_step.result _ _
     (λ x h. λ m ts e st.
     (let g = subst (λ z. Stands c.args.limit z m (c.args.token ∷ ts)) c.in-Value.is st in
-    in_mode c.args.limit x m _ c.args.token c.args.second ts g.mode (h c.args.limit g.frames ts e g.holds)))
+    in_mode c.args.limit x m _ c.args.token c.args.second ts g.mode
+    (h c.args.limit g.frames ts e g.holds)))
     c.value_step.ensures
 
 pub returns-in-Inner : goal.returns-in-Inner
@@ -49,7 +51,8 @@ returns-in-Inner c =
     IfOk-weaker c.inner_step.result _ _
     (λ x h. λ m ts e st.
     (let g = subst (λ z. Stands c.args.limit z m (c.args.token ∷ ts)) c.in-Inner.is st in
-    in_mode c.args.limit x m _ c.args.token c.args.second ts g.mode (h c.args.limit g.frames ts e g.holds)))
+    in_mode c.args.limit x m _ c.args.token c.args.second ts g.mode
+    (h c.args.limit g.frames ts e g.holds)))
     c.inner_step.ensures
 
 pub returns-in-Closed : goal.returns-in-Closed

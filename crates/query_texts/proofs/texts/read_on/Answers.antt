@@ -45,7 +45,8 @@ returns-in-Some c =
     record {
       follows = λ text s.
           taken_some c.args.limit text c.args.progress c.args.pieces.now c.read.new.self
-          c.wants.result c.in-Token.token c.second-second.result _ c.in-Some.further c.wants.ensures s r
+          c.wants.result c.in-Token.token c.second-second.result _ c.in-Some.further c.wants.ensures
+          s r
           c.second-second.ensures c.in_ok-take-in-Token.ensures c.in-Some.is;
       shorter =
           reads_shorter c.wants.result c.args.pieces.now c.in-Token.token c.read.new.self r;
