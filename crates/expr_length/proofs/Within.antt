@@ -32,7 +32,7 @@ pub record Parts (p : Production) (m a u : ℕ) (vs : List Raw) (ss : List Symbo
   pub nests : with_parts p a (map levels_of vs) + m ≤ (u + tokens) + 1
 
 -- one more part of a production whose parts stand beside each other
-beside : (p : Production) (a : ℕ) (v : Levels) → is_left p ≡ false → with_part p a v ≤ max a v.nest
+pub beside : (p : Production) (a : ℕ) (v : Levels) → is_left p ≡ false → with_part p a v ≤ max a v.nest
 beside p a v e = rw e (at (is_arms p) v.mark)
   where
     at : (b : Bool) (k : Mark) → cond b (arm_part a k v.nest) (max a v.nest) ≤ max a v.nest
@@ -44,14 +44,14 @@ beside p a v e = rw e (at (is_arms p) v.mark)
 leaf_levels : (t : Token) → levels_of (leaf t) ≡ record { nest = 0; mark = plain }
 leaf_levels t = levels-out (leaf t) ∙ ap (λ f. levels_step (map-Raw Raw Levels levels_of f)) (outs-Leaf t)
 
-beside_leaf : (p : Production) (a : ℕ) (t : Token) → is_left p ≡ false → with_part p a (levels_of (leaf t)) ≡ a
+pub beside_leaf : (p : Production) (a : ℕ) (t : Token) → is_left p ≡ false → with_part p a (levels_of (leaf t)) ≡ a
 beside_leaf p a t e = rw (leaf_levels t, e) (at (is_arms p))
   where
     at : (b : Bool) → cond b (max a 0) (max a 0) ≡ a
     at true = omega arith
     at false = omega arith
 
-kept : (p : Production) (a : ℕ) (c : Class) (t : Token) (vs : List Raw) → is_left p ≡ false → with_parts p a (map levels_of (keep c t vs)) ≡ with_parts p a (map levels_of vs)
+pub kept : (p : Production) (a : ℕ) (c : Class) (t : Token) (vs : List Raw) → is_left p ≡ false → with_parts p a (map levels_of (keep c t vs)) ≡ with_parts p a (map levels_of vs)
 kept p a c t vs e = go (keeps c)
   where
     go : (b : Bool) → with_parts p a (map levels_of (cond b (leaf t ∷ vs) vs)) ≡ with_parts p a (map levels_of vs)
@@ -59,7 +59,7 @@ kept p a c t vs e = go (keeps c)
     go false = refl
 
 -- .. and of one whose parts nest to the left
-leftward : (p : Production) (a : ℕ) (v : Levels) → is_left p ≡ true → with_part p a v ≤ 1 + max (1 + max a 1) v.nest
+pub leftward : (p : Production) (a : ℕ) (v : Levels) → is_left p ≡ true → with_part p a v ≤ 1 + max (1 + max a 1) v.nest
 leftward p a v e = rw e (at (a == 0) v.mark)
   where
     at : (b : Bool) (k : Mark) → cond b v.nest (left_part a k v.nest) ≤ 1 + max (1 + max a 1) v.nest
@@ -68,12 +68,12 @@ leftward p a v e = rw e (at (a == 0) v.mark)
     at false deep = omega arith
     at false last = omega arith
 
-left_shallow : (a : ℕ) (k : Mark) (n : ℕ) → (k ≡ deep → ⊥) → left_part a k n ≡ 1 + max a n
+pub left_shallow : (a : ℕ) (k : Mark) (n : ℕ) → (k ≡ deep → ⊥) → left_part a k n ≡ 1 + max a n
 left_shallow a plain n h = refl
 left_shallow a deep n h = absurd (h refl)
 left_shallow a last n h = refl
 
-whole_bound : (p : Production) (a : ℕ) → whole_nest p a ≤ adds p + max (floor p) a
+pub whole_bound : (p : Production) (a : ℕ) → whole_nest p a ≤ adds p + max (floor p) a
 whole_bound (chain l) a = go (is_left_level l)
   where
     go : (b : Bool) → cond b a (1 + a) ≤ cond b 0 1 + max 0 a
@@ -82,11 +82,11 @@ whole_bound (chain l) a = go (is_left_level l)
 whole_bound _ a = omega arith
 
 -- the whole counts its own level and its parts
-plain_bound : (p : Production) (a : ℕ) (b : Bool) → cond b a (whole_nest p a) ≤ adds p + max (floor p) a
+pub plain_bound : (p : Production) (a : ℕ) (b : Bool) → cond b a (whole_nest p a) ≤ adds p + max (floor p) a
 plain_bound p a true = omega arith
 plain_bound p a false = whole_bound p a
 
-built_bound : (p : Production) (a : ℕ) (vs : List Raw) → built_nest p a vs ≤ adds p + max (floor p) a
+pub built_bound : (p : Production) (a : ℕ) (vs : List Raw) → built_nest p a vs ≤ adds p + max (floor p) a
 built_bound parens a vs = omega arith
 built_bound otherwise a vs = go (only_inner vs)
   where
@@ -96,7 +96,7 @@ built_bound otherwise a vs = go (only_inner vs)
 built_bound conditional a vs = omega arith
 built_bound p a vs = plain_bound p a (is_alone vs && passes p)
 
-before_none : (p : Production) → is_left p ≡ false → before_parts p ≡ 0
+pub before_none : (p : Production) → is_left p ≡ false → before_parts p ≡ 0
 before_none root_steps e = absurd cc
 before_none rooted_deep e = absurd cc
 before_none _ e = refl

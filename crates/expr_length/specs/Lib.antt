@@ -1,3 +1,4 @@
 pub mod TokenNames
 pub mod Terms
 pub mod RawNames
+pub mod Weights

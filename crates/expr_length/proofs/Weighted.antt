@@ -1,0 +1,375 @@
+-- No expression nests deeper than its tokens weigh.
+use Rattle.std.proofs.Common.{◌≡◌, ℕ, ◌+◌, ◌≤◌, max, map, Bool, true, false, cond, ◌&&◌, ◌==◌, nat_le, List, [], ◌∷◌, length, refl, sym, ◌∙◌, ap, subst, arith}
+use Rattle.std.proofs.lemmas.Bool.{and_parts, leb-true}
+use Rattle.expr_terms.specs.declared.raws.Raw.TheVariants.{outs-Leaf}
+use Rattle.expr_terms.specs.declared.raws.Raw.TheFolds.{map-Raw}
+use Rattle.expr_terms.specs.declared.productions.Level.TheVariants.{Adds as adds_level}
+use Rattle.expr_length.specs.TokenNames.{Token}
+use Rattle.expr_length.specs.Terms.{Language, Level, ors, ands, compares, ranges, multiplies, unions, crosses, instances, treats, castables, casts, Nonterminal, expr, single, primary, level, tail, path, after_root, relative, step, step_more, Class, Symbol, one, many, Production, listing, chain, filter_step, steps, root_steps, rooted_deep, parens, otherwise, conditional, operated}
+use Rattle.expr_length.specs.RawNames.{Raw, leaf}
+use Rattle.expr_terms.specs.Productions.{body, head, keeps, passes}
+use Rattle.expr_terms.specs.Raws.{keep, build, only_inner}
+use Rattle.expr_terms.specs.Nest.{Mark, plain, deep, last, Levels, levels_step, levels_of, raw_nest_of, before_parts, is_left, is_left_level, is_arms, left_part, arm_part, with_part, with_parts, whole_nest}
+use Rattle.expr_grammar.specs.Grammar.{Derives, by, Seq, end, taken, next, without, with, stop, again, bare, given, Spells}
+use Rattle.expr_nest.specs.Held.{held, is_alone, built_nest}
+use Rattle.expr_nest.proofs.Built.{nest_of_build}
+use Rattle.expr_nest.proofs.Levels.{levels-out}
+use Rattle.expr_length.proofs.Spare.{shortest, least, adds, floor}
+use Rattle.expr_length.proofs.Weights.{spare, fits, margin, fine, fine_operated}
+use Rattle.expr_length.specs.Weights.{weigh, weight}
+use Rattle.expr_length.proofs.Within.{beside, beside_leaf, kept, leftward, left_shallow, whole_bound, plain_bound, built_bound, before_none}
+use Rattle.expr_length.proofs.Shallow.{Shallow, step_shallow}
+use Rattle.expr_terms.specs.Tokens.{fits_key}
+use Rattle.expr_terms.specs.declared.keys.Key.TheVariants.{Slashes as slashes}
+
+-- what is known of a value of the nonterminal
+pub record Claim (n : Nonterminal) (v : Raw) (ts rest : List Token) : Type 0 where
+  pub tokens : ℕ
+  pub are : weight ts ≡ tokens + weight rest
+  pub some : shortest n ≤ tokens
+  pub nests : raw_nest_of v + spare n ≤ tokens + 1
+
+-- .. and of the parts of a production, behind so many tokens
+pub record Parts (p : Production) (m a u : ℕ) (vs : List Raw) (ss : List Symbol) (ts rest : List Token) : Type 0 where
+  pub tokens : ℕ
+  pub are : weight ts ≡ tokens + weight rest
+  pub enough : least ss ≤ tokens
+  pub nests : with_parts p a (map levels_of vs) + m ≤ (u + tokens) + 1
+
+weigh_some : (t : Token) → 1 ≤ weigh t
+weigh_some t = go (fits_key slashes t)
+  where
+    go : (b : Bool) → 1 ≤ cond b 2 1
+    go true = omega arith
+    go false = omega arith
+
+short_some : (n : Nonterminal) → 1 ≤ shortest n
+short_some step_more = omega arith
+short_some (tail l) = omega arith
+short_some _ = omega arith
+
+finish_flat : {ts rest : List Token} (p : Production) (vs : List Raw) → is_left p ≡ false → fine p ≡ true → Parts p (margin p) (before_parts p) 0 vs (body p) ts rest → Claim (head p) (build p vs) ts rest
+finish_flat p vs i f r =
+    let a = and_parts (fits (margin p) 0 (body p)) (nat_le (margin p + floor p) (1 + least (body p)) && nat_le (shortest (head p)) (least (body p))) f in
+    let b = and_parts (nat_le (margin p + floor p) (1 + least (body p))) (nat_le (shortest (head p)) (least (body p))) a.1 in
+    let low : margin p + floor p ≤ 1 + least (body p) = leb-true _ _ b.0 in
+    let short : shortest (head p) ≤ least (body p) = leb-true _ _ b.1 in
+    let n = nest_of_build p vs in
+    let g = built_bound p (held p vs) vs in
+    let e = r.enough in
+    let h : held p vs + margin p ≤ (0 + r.tokens) + 1 = r.nests in
+    record { tokens = r.tokens; are = r.are; some = omega arith; nests = omega arith }
+
+-- the same where some parts are known
+finish_some : {ts rest : List Token} (p : Production) (n : Nonterminal) (vs : List Raw) (ss : List Symbol) → floor p ≡ 0 → Parts p (adds p + spare n) (before_parts p) 0 vs ss ts rest → shortest n ≤ least ss → Claim n (build p vs) ts rest
+finish_some p n vs ss f r t =
+    let b = nest_of_build p vs in
+    let g = built_bound p (held p vs) vs in
+    let e = r.enough in
+    let h : held p vs + (adds p + spare n) ≤ (0 + r.tokens) + 1 = r.nests in
+    record { tokens = r.tokens; are = r.are; some = omega arith; nests = omega arith }
+
+-- two of them at least
+several : {ts mid low rest : List Token} (p : Production) (m : ℕ) (n k : Nonterminal) (v w : Raw) (ws : List Raw) → is_left p ≡ false → Claim n v ts mid → Claim k w mid low → ((a u : ℕ) → 2 ≤ u → a + m ≤ u + 1 → Parts p m a u ws (many k ∷ []) low rest) → before_parts p ≡ 0 → m ≤ spare n + 1 → m ≤ spare k + 1 → Parts p m (before_parts p) 0 (v ∷ w ∷ ws) (one n ∷ one k ∷ []) ts rest
+several p m n k v w ws i a b more z g h =
+    let a1 = a.are in
+    let a2 = a.some in
+    let a3 = a.nests in
+    let b1 = b.are in
+    let b2 = b.some in
+    let b3 = b.nests in
+    let sn = short_some n in
+    let sk = short_some k in
+    let x = beside p (before_parts p) (levels_of v) i in
+    let y = beside p (with_part p (before_parts p) (levels_of v)) (levels_of w) i in
+    let r = more (with_part p (with_part p (before_parts p) (levels_of v)) (levels_of w)) (a.tokens + b.tokens) (omega arith) (omega arith) in
+    let r1 = r.are in
+    let r3 = r.nests in
+    record { tokens = (a.tokens + b.tokens) + r.tokens; are = omega arith; enough = omega arith; nests = omega arith }
+
+-- one part more to the left
+left_more : {ts mid rest : List Token} (p : Production) (m a u : ℕ) (k : Nonterminal) (v : Raw) (vs : List Raw) → is_left p ≡ true → 2 ≤ shortest k → m ≤ u → 1 + m ≤ spare k + u → a + m ≤ u + 1 → (c : Claim k v ts mid) → ((b : ℕ) → b + m ≤ (u + c.tokens) + 1 → Parts p m b (u + c.tokens) vs [] mid rest) → Parts p m a u (v ∷ vs) [] ts rest
+left_more p m a u k v vs i h e f b c more =
+    let c1 = c.are in
+    let c2 = c.some in
+    let c3 = c.nests in
+    let w = leftward p a (levels_of v) i in
+    let r = more (with_part p a (levels_of v)) (omega arith) in
+    let r1 = r.are in
+    let r3 = r.nests in
+    record { tokens = c.tokens + r.tokens; are = omega arith; enough = omega arith; nests = omega arith }
+
+-- a level of operators that associate to the left
+left_level : {ts mid rest : List Token} (l : Level) (n : Nonterminal) (v : Raw) (vs : List Raw) → is_left_level l ≡ true → (c : Claim n v ts mid) → Parts (chain l) 1 (raw_nest_of v) c.tokens vs [] mid rest → Claim (level l) (build (chain l) (v ∷ vs)) ts rest
+left_level l n v vs e c r =
+    let c1 = c.are in
+    let c2 = c.some in
+    let sn = short_some n in
+    let r1 = r.are in
+    let first : with_part (chain l) 0 (levels_of v) ≡ raw_nest_of v = rw e refl in
+    let g = built_bound (chain l) (held (chain l) (v ∷ vs)) (v ∷ vs) in
+    let none : adds (chain l) ≡ 0 = rw e refl in
+    let s = nest_of_build (chain l) (v ∷ vs) in
+    let h : held (chain l) (v ∷ vs) + 1 ≤ (c.tokens + r.tokens) + 1 = subst (λ x. with_parts (chain l) x (map levels_of vs) + 1 ≤ (c.tokens + r.tokens) + 1) (sym first) r.nests in
+    record { tokens = c.tokens + r.tokens; are = omega arith; some = omega arith; nests = omega arith }
+
+left_first : {ts mid : List Token} (n : Nonterminal) (v : Raw) → 1 ≤ spare n → (c : Claim n v ts mid)
+    → raw_nest_of v + 1 ≤ c.tokens + 1
+left_first n v s c = let a = c.nests in omega arith
+
+-- steps
+steps_claim : {ts mid rest : List Token} (v : Raw) (vs : List Raw) (c : Claim step v ts mid) → Parts steps 1 (raw_nest_of v) c.tokens vs [] mid rest → Claim relative (build steps (v ∷ vs)) ts rest
+steps_claim v vs c r =
+    let c1 = c.are in
+    let c2 = c.some in
+    let r1 = r.are in
+    let g = built_bound steps (held steps (v ∷ vs)) (v ∷ vs) in
+    let s = nest_of_build steps (v ∷ vs) in
+    let h : held steps (v ∷ vs) + 1 ≤ (c.tokens + r.tokens) + 1 = r.nests in
+    record { tokens = c.tokens + r.tokens; are = omega arith; some = omega arith; nests = omega arith }
+
+rooted_claim : {ts mid rest : List Token} (v : Raw) (vs : List Raw) (c : Claim step v ts mid) → Parts root_steps 0 (with_part root_steps 1 (levels_of v)) c.tokens vs [] mid rest → Claim after_root (build root_steps (v ∷ vs)) ts rest
+rooted_claim v vs c r =
+    let c1 = c.are in
+    let c2 = c.some in
+    let r1 = r.are in
+    let g = built_bound root_steps (held root_steps (v ∷ vs)) (v ∷ vs) in
+    let s = nest_of_build root_steps (v ∷ vs) in
+    let h : held root_steps (v ∷ vs) + 0 ≤ (c.tokens + r.tokens) + 1 = r.nests in
+    record { tokens = c.tokens + r.tokens; are = omega arith; some = omega arith; nests = omega arith }
+
+rooted_first : {ts mid : List Token} (v : Raw) → Shallow v → (c : Claim step v ts mid) → with_part root_steps 1 (levels_of v) + 0 ≤ c.tokens + 1
+rooted_first v h c =
+    let e = left_shallow 1 (levels_of v).mark (raw_nest_of v) h in
+    let a = c.nests in
+    let b = c.some in
+    rw e (omega arith)
+
+deep_claim : {t : Token} {ts mid rest : List Token} (v : Raw) (vs : List Raw) (c : Claim step v ts mid) → Parts rooted_deep 1 (with_part rooted_deep 2 (levels_of v)) (2 + c.tokens) vs [] mid rest → weigh t ≡ 2 → Claim path (build rooted_deep (v ∷ vs)) (t ∷ ts) rest
+deep_claim v vs c r two =
+    let c1 = c.are in
+    let c2 = c.some in
+    let r1 = r.are in
+    let g = built_bound rooted_deep (held rooted_deep (v ∷ vs)) (v ∷ vs) in
+    let s = nest_of_build rooted_deep (v ∷ vs) in
+    let h : held rooted_deep (v ∷ vs) + 1 ≤ ((2 + c.tokens) + r.tokens) + 1 = r.nests in
+    record { tokens = 2 + (c.tokens + r.tokens); are = omega arith; some = omega arith; nests = omega arith }
+
+deep_first : {ts mid : List Token} (v : Raw) → Shallow v → (c : Claim step v ts mid) → with_part rooted_deep 2 (levels_of v) + 1 ≤ (2 + c.tokens) + 1
+deep_first v h c =
+    let e = left_shallow 2 (levels_of v).mark (raw_nest_of v) h in
+    let a = c.nests in
+    let b = c.some in
+    rw e (omega arith)
+
+nothing_more : {ts : List Token} (p : Production) (m a u : ℕ) → a + m ≤ u + 1 → Parts p m a u [] [] ts ts
+nothing_more p m a u b = record { tokens = 0; are = omega arith; enough = omega arith; nests = omega arith }
+
+same_claim : {ts rest : List Token} (n k : Nonterminal) (v : Raw) → shortest k ≡ 1 → spare k ≤ spare n → Claim n v ts rest → Claim k v ts rest
+same_claim n k v e h c =
+    let a = c.some in
+    let b = c.nests in
+    let s = short_some n in
+    record { tokens = c.tokens; are = c.are; some = rw e (omega arith); nests = omega arith }
+
+fits_fine : (p : Production) → fine p ≡ true → fits (margin p) 0 (body p) ≡ true
+fits_fine p f = (and_parts (fits (margin p) 0 (body p)) (nat_le (margin p + floor p) (1 + least (body p)) && nat_le (shortest (head p)) (least (body p))) f).0
+
+starts_fine : (p : Production) → is_left p ≡ false → fine p ≡ true → before_parts p + margin p ≤ (0 + least (body p)) + 1
+starts_fine p i f =
+    let a = and_parts (fits (margin p) 0 (body p)) (nat_le (margin p + floor p) (1 + least (body p)) && nat_le (shortest (head p)) (least (body p))) f in
+    let b = and_parts (nat_le (margin p + floor p) (1 + least (body p))) (nat_le (shortest (head p)) (least (body p))) a.1 in
+    let low : margin p + floor p ≤ 1 + least (body p) = leb-true _ _ b.0 in
+    let z = before_none p i in
+    omega arith
+
+at_head : {n : Nonterminal} {v : Raw} {ts rest : List Token} (p : Production) → head p ≡ n → Claim (head p) v ts rest → Claim n v ts rest
+at_head {v = v} {ts = ts} {rest = rest} p e c = subst (λ n. Claim n v ts rest) e c
+
+mutual
+  claims : {l : Language} {n : Nonterminal} {ts rest : List Token} {v : Raw} → Derives l n ts v rest → Claim n v ts rest
+  claims (by listing o e (next {v = v} dv (stop end))) =
+      at_head listing e (same_claim single expr v refl (omega arith) (claims dv))
+  claims (by listing o e (next {v = v} dv (again {v = w} {vs = ws} dw s))) =
+      let r = several listing 2 _ _ v w ws refl (claims dv) (claims dw) (λ a u h b. parts_of listing 2 2 a u refl s refl h (omega arith)) refl (omega arith) (omega arith) in
+      at_head listing e (finish_some listing _ (v ∷ w ∷ ws) _ refl r (omega arith))
+  claims (by (chain ors) o e (next {v = v} dv (stop end))) =
+      at_head (chain ors) e (same_claim (level ands) (level ors) v refl (omega arith) (claims dv))
+  claims (by (chain ors) o e (next {v = v} dv (again {v = w} {vs = ws} dw s))) =
+      let r = several (chain ors) 2 _ _ v w ws refl (claims dv) (claims dw) (λ a u h b. parts_of (chain ors) 2 2 a u refl s refl h (omega arith)) refl (omega arith) (omega arith) in
+      at_head (chain ors) e (finish_some (chain ors) _ (v ∷ w ∷ ws) _ refl r (omega arith))
+  claims (by (chain ands) o e (next {v = v} dv (stop end))) =
+      at_head (chain ands) e (same_claim (level compares) (level ands) v refl (omega arith) (claims dv))
+  claims (by (chain ands) o e (next {v = v} dv (again {v = w} {vs = ws} dw s))) =
+      let r = several (chain ands) 2 _ _ v w ws refl (claims dv) (claims dw) (λ a u h b. parts_of (chain ands) 2 2 a u refl s refl h (omega arith)) refl (omega arith) (omega arith) in
+      at_head (chain ands) e (finish_some (chain ands) _ (v ∷ w ∷ ws) _ refl r (omega arith))
+  claims (by filter_step o e (next {v = v} dv (stop end))) =
+      at_head filter_step e (same_claim primary step v refl (omega arith) (claims dv))
+  claims (by filter_step o e (next {v = v} dv (again {v = w} {vs = ws} dw s))) =
+      let r = several filter_step 2 _ _ v w ws refl (claims dv) (claims dw) (λ a u h b. parts_of filter_step 2 2 a u refl s refl h (omega arith)) refl (omega arith) (omega arith) in
+      at_head filter_step e (finish_some filter_step _ (v ∷ w ∷ ws) _ refl r (omega arith))
+  claims (by (chain adds_level) o e (next {n = n} {v = v} {vs = vs} dv s)) =
+      let c = claims dv in
+      let c2 = c.some in
+      at_head (chain adds_level) e (left_level adds_level n v vs refl c (lefts (chain adds_level) 1 (raw_nest_of v) c.tokens (tail adds_level) refl (omega arith) (omega arith) (omega arith) s (left_first n v (omega arith) c)))
+  claims (by (chain multiplies) o e (next {n = n} {v = v} {vs = vs} dv s)) =
+      let c = claims dv in
+      let c2 = c.some in
+      at_head (chain multiplies) e (left_level multiplies n v vs refl c (lefts (chain multiplies) 1 (raw_nest_of v) c.tokens (tail multiplies) refl (omega arith) (omega arith) (omega arith) s (left_first n v (omega arith) c)))
+  claims (by (chain unions) o e (next {n = n} {v = v} {vs = vs} dv s)) =
+      let c = claims dv in
+      let c2 = c.some in
+      at_head (chain unions) e (left_level unions n v vs refl c (lefts (chain unions) 1 (raw_nest_of v) c.tokens (tail unions) refl (omega arith) (omega arith) (omega arith) s (left_first n v (omega arith) c)))
+  claims (by (chain crosses) o e (next {n = n} {v = v} {vs = vs} dv s)) =
+      let c = claims dv in
+      let c2 = c.some in
+      at_head (chain crosses) e (left_level crosses n v vs refl c (lefts (chain crosses) 1 (raw_nest_of v) c.tokens (tail crosses) refl (omega arith) (omega arith) (omega arith) s (left_first n v (omega arith) c)))
+  claims (by (chain compares) o e (next {n = n} {v = v} dv (without end))) =
+      let c = claims dv in
+      let c2 = c.some in
+      at_head (chain compares) e (left_level compares n v [] refl c (nothing_more (chain compares) 1 (raw_nest_of v) c.tokens (left_first n v (omega arith) c)))
+  claims (by (chain compares) o e (next {n = n} {v = v} dv (with {v = w} dw end))) =
+      let c = claims dv in
+      let c2 = c.some in
+      at_head (chain compares) e (left_level compares n v (w ∷ []) refl c (left_more (chain compares) 1 (raw_nest_of v) c.tokens (tail compares) w [] refl (omega arith) (omega arith) (omega arith) (left_first n v (omega arith) c) (claims dw) (λ b h. nothing_more (chain compares) 1 b _ h)))
+  claims (by (chain ranges) o e (next {n = n} {v = v} dv (without end))) =
+      let c = claims dv in
+      let c2 = c.some in
+      at_head (chain ranges) e (left_level ranges n v [] refl c (nothing_more (chain ranges) 1 (raw_nest_of v) c.tokens (left_first n v (omega arith) c)))
+  claims (by (chain ranges) o e (next {n = n} {v = v} dv (with {v = w} dw end))) =
+      let c = claims dv in
+      let c2 = c.some in
+      at_head (chain ranges) e (left_level ranges n v (w ∷ []) refl c (left_more (chain ranges) 1 (raw_nest_of v) c.tokens (tail ranges) w [] refl (omega arith) (omega arith) (omega arith) (left_first n v (omega arith) c) (claims dw) (λ b h. nothing_more (chain ranges) 1 b _ h)))
+  claims (by (chain instances) o e (next {n = n} {v = v} dv (without end))) =
+      let c = claims dv in
+      let c2 = c.some in
+      at_head (chain instances) e (left_level instances n v [] refl c (nothing_more (chain instances) 1 (raw_nest_of v) c.tokens (left_first n v (omega arith) c)))
+  claims (by (chain instances) o e (next {n = n} {v = v} dv (with {v = w} dw end))) =
+      let c = claims dv in
+      let c2 = c.some in
+      at_head (chain instances) e (left_level instances n v (w ∷ []) refl c (left_more (chain instances) 1 (raw_nest_of v) c.tokens (tail instances) w [] refl (omega arith) (omega arith) (omega arith) (left_first n v (omega arith) c) (claims dw) (λ b h. nothing_more (chain instances) 1 b _ h)))
+  claims (by (chain treats) o e (next {n = n} {v = v} dv (without end))) =
+      let c = claims dv in
+      let c2 = c.some in
+      at_head (chain treats) e (left_level treats n v [] refl c (nothing_more (chain treats) 1 (raw_nest_of v) c.tokens (left_first n v (omega arith) c)))
+  claims (by (chain treats) o e (next {n = n} {v = v} dv (with {v = w} dw end))) =
+      let c = claims dv in
+      let c2 = c.some in
+      at_head (chain treats) e (left_level treats n v (w ∷ []) refl c (left_more (chain treats) 1 (raw_nest_of v) c.tokens (tail treats) w [] refl (omega arith) (omega arith) (omega arith) (left_first n v (omega arith) c) (claims dw) (λ b h. nothing_more (chain treats) 1 b _ h)))
+  claims (by (chain castables) o e (next {n = n} {v = v} dv (without end))) =
+      let c = claims dv in
+      let c2 = c.some in
+      at_head (chain castables) e (left_level castables n v [] refl c (nothing_more (chain castables) 1 (raw_nest_of v) c.tokens (left_first n v (omega arith) c)))
+  claims (by (chain castables) o e (next {n = n} {v = v} dv (with {v = w} dw end))) =
+      let c = claims dv in
+      let c2 = c.some in
+      at_head (chain castables) e (left_level castables n v (w ∷ []) refl c (left_more (chain castables) 1 (raw_nest_of v) c.tokens (tail castables) w [] refl (omega arith) (omega arith) (omega arith) (left_first n v (omega arith) c) (claims dw) (λ b h. nothing_more (chain castables) 1 b _ h)))
+  claims (by (chain casts) o e (next {n = n} {v = v} dv (without end))) =
+      let c = claims dv in
+      let c2 = c.some in
+      at_head (chain casts) e (left_level casts n v [] refl c (nothing_more (chain casts) 1 (raw_nest_of v) c.tokens (left_first n v (omega arith) c)))
+  claims (by (chain casts) o e (next {n = n} {v = v} dv (with {v = w} dw end))) =
+      let c = claims dv in
+      let c2 = c.some in
+      at_head (chain casts) e (left_level casts n v (w ∷ []) refl c (left_more (chain casts) 1 (raw_nest_of v) c.tokens (tail casts) w [] refl (omega arith) (omega arith) (omega arith) (left_first n v (omega arith) c) (claims dw) (λ b h. nothing_more (chain casts) 1 b _ h)))
+  claims (by steps o e (next {v = v} {vs = vs} dv s)) =
+      let c = claims dv in
+      let c2 = c.some in
+      at_head steps e (steps_claim v vs c (lefts steps 1 (raw_nest_of v) c.tokens step_more refl (omega arith) (omega arith) (omega arith) s c.nests))
+  claims (by root_steps o e (next {v = v} {vs = vs} dv s)) =
+      let c = claims dv in
+      at_head root_steps e (rooted_claim v vs c (lefts root_steps 0 (with_part root_steps 1 (levels_of v)) c.tokens step_more refl (omega arith) (omega arith) (omega arith) s (rooted_first v (step_shallow dv) c)))
+  claims (by rooted_deep o e (taken g (next {v = v} {vs = vs} dv s))) =
+      let c = claims dv in
+      at_head rooted_deep e (deep_claim v vs c (lefts rooted_deep 1 (with_part rooted_deep 2 (levels_of v)) (2 + c.tokens) step_more refl (omega arith) (omega arith) (omega arith) s (deep_first v (step_shallow dv) c)) (rw g refl))
+  claims (by (operated l) {vs = vs} s e q) = at_head (operated l) e (finish_flat (operated l) vs refl (fine_operated l) (parts_of (operated l) (margin (operated l)) 0 (before_parts (operated l)) 0 refl q (fits_fine (operated l) (fine_operated l)) (omega arith) (starts_fine (operated l) refl (fine_operated l))))
+  claims (by p {vs = vs} s e q) = at_head p e (finish_flat p vs refl refl (parts_of p (margin p) 0 (before_parts p) 0 refl q (fits_fine p refl) (omega arith) (starts_fine p refl refl)))
+
+  -- parts that nest to the left
+  lefts : {l : Language} (p : Production) (m a u : ℕ) (k : Nonterminal) {ts rest : List Token} {vs : List Raw} → is_left p ≡ true → 2 ≤ shortest k → m ≤ u → 1 + m ≤ spare k + u → Seq l (many k ∷ []) ts vs rest → a + m ≤ u + 1 → Parts p m a u vs [] ts rest
+  lefts p m a u k i h e f (stop end) b = nothing_more p m a u b
+  lefts p m a u k i h e f (again {v = v} {vs = vs} dv s) b =
+      let c = claims dv in
+      left_more p m a u k v vs i h e f b c (λ x y. lefts p m x (u + c.tokens) k i h (omega arith) (omega arith) s y)
+
+  -- parts that stand beside each other
+  parts_of : {l : Language} (p : Production) (m d a u : ℕ) {ss : List Symbol} {ts rest : List Token} {vs : List Raw} → is_left p ≡ false → Seq l ss ts vs rest → fits m d ss ≡ true → d ≤ u → a + m ≤ (u + least ss) + 1 → Parts p m a u vs ss ts rest
+  parts_of p m d a u i end f h b = record { tokens = 0; are = omega arith; enough = omega arith; nests = omega arith }
+  parts_of p m d a u i (taken {c = c} {ss = ss} {t = t} {vs = vs} g s) f h b =
+      let r = parts_of p m (1 + d) a (u + 1) i s f (omega arith) (omega arith) in
+      let some = weigh_some t in
+      let k = kept p a c t vs i in
+      let x = r.are in
+      let y = r.enough in
+      let z = r.nests in
+      record { tokens = weigh t + r.tokens; are = omega arith; enough = omega arith; nests = omega arith }
+  parts_of p m d a u i (next {n = n} {ss = ss} {v = v} dv s) f h b =
+      let k = claims dv in
+      let parts = and_parts (nat_le m (spare n + (d + least ss))) (fits m (1 + d) ss) f in
+      let g : m ≤ spare n + (d + least ss) = leb-true _ _ parts.0 in
+      let w = beside p a (levels_of v) i in
+      let k1 = k.are in
+      let k2 = k.some in
+      let k3 = k.nests in
+      let one_at_least = short_some n in
+      let r = parts_of p m (1 + d) (with_part p a (levels_of v)) (u + k.tokens) i s parts.1 (omega arith) (omega arith) in
+      let x = r.are in
+      let y = r.enough in
+      let z = r.nests in
+      record { tokens = k.tokens + r.tokens; are = omega arith; enough = omega arith; nests = omega arith }
+  parts_of p m d a u i (without {n = n} {ss = ss} s) f h b =
+      let parts = and_parts (nat_le m (spare n + (d + least ss))) (fits m d ss) f in
+      let r = parts_of p m d a u i s parts.1 h b in
+      record { tokens = r.tokens; are = r.are; enough = r.enough; nests = r.nests }
+  parts_of p m d a u i (with {n = n} {ss = ss} {v = v} dv s) f h b =
+      let k = claims dv in
+      let parts = and_parts (nat_le m (spare n + (d + least ss))) (fits m d ss) f in
+      let g : m ≤ spare n + (d + least ss) = leb-true _ _ parts.0 in
+      let w = beside p a (levels_of v) i in
+      let k1 = k.are in
+      let k3 = k.nests in
+      let r = parts_of p m d (with_part p a (levels_of v)) (u + k.tokens) i s parts.1 (omega arith) (omega arith) in
+      let x = r.are in
+      let y = r.enough in
+      let z = r.nests in
+      record { tokens = k.tokens + r.tokens; are = omega arith; enough = omega arith; nests = omega arith }
+  parts_of p m d a u i (stop {n = n} {ss = ss} s) f h b =
+      let parts = and_parts (nat_le m (spare n + (d + least ss))) (fits m d ss) f in
+      let r = parts_of p m d a u i s parts.1 h b in
+      record { tokens = r.tokens; are = r.are; enough = r.enough; nests = r.nests }
+  parts_of p m d a u i (again {n = n} {ss = ss} {v = v} dv s) f h b =
+      let k = claims dv in
+      let parts = and_parts (nat_le m (spare n + (d + least ss))) (fits m d ss) f in
+      let g : m ≤ spare n + (d + least ss) = leb-true _ _ parts.0 in
+      let w = beside p a (levels_of v) i in
+      let k1 = k.are in
+      let k3 = k.nests in
+      let r = parts_of p m d (with_part p a (levels_of v)) (u + k.tokens) i s f (omega arith) (omega arith) in
+      let x = r.are in
+      let y = r.enough in
+      let z = r.nests in
+      record { tokens = k.tokens + r.tokens; are = omega arith; enough = omega arith; nests = omega arith }
+  parts_of p m d a u i (bare {n = n} {ss = ss} e s) f h b =
+      let parts = and_parts (nat_le m (spare n + (d + least ss))) (fits m d ss) f in
+      let r = parts_of p m d a u i s parts.1 h b in
+      record { tokens = r.tokens; are = r.are; enough = r.enough; nests = r.nests }
+  parts_of p m d a u i (given {n = n} {ss = ss} {v = v} e dv s) f h b =
+      let k = claims dv in
+      let parts = and_parts (nat_le m (spare n + (d + least ss))) (fits m d ss) f in
+      let g : m ≤ spare n + (d + least ss) = leb-true _ _ parts.0 in
+      let w = beside p a (levels_of v) i in
+      let k1 = k.are in
+      let k3 = k.nests in
+      let r = parts_of p m d (with_part p a (levels_of v)) (u + k.tokens) i s parts.1 (omega arith) (omega arith) in
+      let x = r.are in
+      let y = r.enough in
+      let z = r.nests in
+      record { tokens = k.tokens + r.tokens; are = omega arith; enough = omega arith; nests = omega arith }
+
+pub spelled_within : {l : Language} {ts : List Token} {v : Raw} → Spells l ts v
+    → raw_nest_of v ≤ weight ts
+spelled_within s = let k = claims s in let a = k.are in let b = k.nests in omega arith
+
+pub single_within : {l : Language} {ts : List Token} {v : Raw} → Derives l single ts v []
+    → raw_nest_of v ≤ weight ts
+single_within s = let k = claims s in let a = k.are in let b = k.nests in omega arith

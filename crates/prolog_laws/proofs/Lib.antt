@@ -1,0 +1,3 @@
+mod ScopeLemmas
+mod Monotone
+mod PrologLemmas
