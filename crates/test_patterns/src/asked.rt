@@ -3,12 +3,14 @@ ghost use Rattle.std.specs.Prelude.{◌≡◌};
 ghost use Rattle.std.specs.List.{list_all};
 ghost use Rattle.xt_forms.specs.Quiet.{is_quiet_expr};
 
+use lazy_seq::Seq;
 use match_patterns::matches;
 use node_axes::Cursor;
-use node_walks::Walk;
-use quiet_eval::holds;
+use node_walks::{Walk, kept_hits};
+use quiet_eval::{holds, kept_in_turn};
 use std::alloc::AllocGlobal;
 use std::process::Abort;
+use xdm_items::ItemList;
 use xt_forms::is_quiet;
 use xt_names::List;
 use xt_syntax::{Expr, Pattern, PatternStep};
@@ -52,4 +54,30 @@ pub(crate) fn quiet_walk(
 ) -> Walk {
     assert!(rt; are_quiet(tests.as_slice()));
     Walk::of_quiet(rt.alloc(), cursor, tests).expect(rt, "memory")
+}
+
+#[tactic(auto, using(crate::proofs::QuietLemmas::quiet_list))]
+pub(crate) fn quiet_seq(rt: &(impl Abort + AllocGlobal), cursor: Cursor, tests: List<Expr>) -> Seq {
+    assert!(rt; are_quiet(tests.as_slice()));
+    Seq::of_quiet(rt.alloc(), cursor, tests).expect(rt, "memory")
+}
+
+#[tactic(auto, using(crate::proofs::QuietLemmas::quiet_list))]
+pub(crate) fn kept_items(
+    rt: &(impl Abort + AllocGlobal),
+    cursor: Cursor,
+    tests: &[Expr],
+) -> ItemList {
+    assert!(rt; are_quiet(tests));
+    kept_hits(rt.alloc(), cursor, tests).expect(rt, "memory")
+}
+
+#[tactic(auto, using(crate::proofs::QuietLemmas::quiet_list))]
+pub(crate) fn kept_nodes(
+    rt: &(impl Abort + AllocGlobal),
+    tests: &[Expr],
+    nodes: Vec<Node>,
+) -> Vec<Node> {
+    assert!(rt; are_quiet(tests));
+    kept_in_turn(rt.alloc(), tests, nodes).expect(rt, "memory")
 }

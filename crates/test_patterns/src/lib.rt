@@ -7,6 +7,8 @@
 #[cfg(test)]
 mod asked;
 #[cfg(test)]
+mod kept;
+#[cfg(test)]
 mod large;
 #[cfg(test)]
 mod made;

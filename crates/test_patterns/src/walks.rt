@@ -18,7 +18,7 @@ const COUNT: usize = 100_000;
 
 const TIMES: usize = 2_000;
 
-fn is_at(item: Option<&Item>, place: usize) -> bool {
+pub(crate) fn is_at(item: Option<&Item>, place: usize) -> bool {
     match item {
         Some(Item::Node(node)) => matches!(node.path(), [.., last] if *last == place),
         _ => false,
@@ -65,10 +65,24 @@ fn walk_from(
     axis: Axis,
     predicates: &str,
 ) -> Walk {
+    quiet_walk(
+        rt,
+        cursor_from(rt, tree, from, axis),
+        predicates_of(rt, predicates),
+    )
+}
+
+// Along the elements `b` on the axis.
+pub(crate) fn cursor_from(
+    rt: &(impl Abort + AllocGlobal),
+    tree: &Tree,
+    from: &str,
+    axis: Axis,
+) -> Cursor {
     let node = node_of(rt, tree, from);
     let cursor = Cursor::new(rt.alloc(), &node, axis, test_of(rt, "b")).expect(rt, "memory");
     drop(node);
-    quiet_walk(rt, cursor, predicates_of(rt, predicates))
+    cursor
 }
 
 fn found(
@@ -79,7 +93,12 @@ fn found(
     predicates: &str,
     places: &[usize],
 ) -> bool {
-    let mut walk = walk_from(rt, tree, from, axis, predicates);
+    is_walked(rt, walk_from(rt, tree, from, axis, predicates), places)
+}
+
+// Whether the walk counts and gives the nodes at these places, and no more.
+fn is_walked(rt: &(impl Abort + AllocGlobal), walk: Walk, places: &[usize]) -> bool {
+    let mut walk = walk;
     let count = walk.count().expect(rt, "memory");
     let is = walks_over(&mut walk, places).expect(rt, "memory");
     drop(walk);
@@ -106,6 +125,21 @@ fn positions_count_backwards_on_reverse_axes(rt: HostRuntime) {
     assert!(rt; found(&rt, &tree, "07", Axis::PrecedingSibling, "[1]", &[4]));
     assert!(rt; found(&rt, &tree, "07", Axis::PrecedingSibling, "[3]", &[0]));
     assert!(rt; found(&rt, &tree, "07", Axis::PrecedingSibling, "[@k][1]", &[2]));
+    drop(tree);
+}
+
+// The `b` inside of `d` is at 0, and that inside of `e` too.
+#[test]
+fn walks_without_predicates_give_all(rt: HostRuntime) {
+    let tree = sample(&rt);
+    let down = Walk::of_cursor(cursor_from(&rt, &tree, "0", Axis::Child));
+    assert!(rt; is_walked(&rt, down, &[0, 2, 4]));
+    let deep = Walk::of_cursor(cursor_from(&rt, &tree, "0", Axis::Descendant));
+    assert!(rt; is_walked(&rt, deep, &[0, 2, 4, 0, 0]));
+    let back = Walk::of_cursor(cursor_from(&rt, &tree, "07", Axis::PrecedingSibling));
+    assert!(rt; is_walked(&rt, back, &[4, 2, 0]));
+    let none = Walk::of_cursor(cursor_from(&rt, &tree, "01", Axis::Child));
+    assert!(rt; is_walked(&rt, none, &[]));
     drop(tree);
 }
 

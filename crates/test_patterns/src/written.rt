@@ -1,8 +1,8 @@
 // Predicates and patterns from short texts.
 //
-// A predicate is written with its operator last, and its words stand apart by commas: `@k,'m,=` is `@k = "m"`. A step is
-// `b`, `@k` or `axis::b`, and `1,[]b` is `b[1]`. The steps of a pattern stand apart by spaces, and `b[@k,'m,=][1]` has two
-// predicates.
+// A predicate is written with its operator last, and its words stand apart by commas: `@k,'m,=` is
+// `@k = "m"`. A step is `b`, `@k` or `axis::b`, and `1,[]b` is `b[1]`. The steps of a pattern stand
+// apart by spaces, and `b[@k,'m,=][1]` has two predicates.
 use crate::made::{text, with};
 use std::alloc::AllocGlobal;
 use std::process::Abort;
