@@ -12,12 +12,10 @@ use Rattle.doc_grammar.specs.declared.spots.Spot.{Spot}
 use Rattle.sheet_meaning.specs.First.{is_first_sheet}
 use Rattle.driver.specs.Inputs.{Holdings, HoldsBytes, HoldsDocument, HoldsNoDocument, HoldsSheet}
 use Rattle.driver.specs.Inputs.{HoldsNoSheet, IsLoadFailure, IsTooLong, IsReadRefusedAs}
-use Rattle.driver.specs.Request.{Transform}
-use Rattle.driver.specs.Result.{Makes, IsResultRefusedAs}
-use Rattle.driver.specs.Meaning.{HoldsBoth, HasText, IsRefusedAs}
+use Rattle.driver.specs.Inputs.{IsUnloadedAs}
 use Rattle.driver.specs.declared.status.Status.{Status}
 use Rattle.driver.specs.declared.status.Status.TheVariants.{Load, TooLong, Malformed, Static}
-use Rattle.driver.specs.declared.status.Status.TheVariants.{Dynamic, Deep, Memory}
+use Rattle.driver.specs.declared.status.Status.TheVariants.{Memory}
 
 -- a file whose bytes are not read holds no document
 pub not_read : (files : Holdings) (name items bytes : List ℕ) (fault : ReadFault) (spot : Spot)
@@ -40,16 +38,13 @@ pub other_form : (file : List ℕ) (old new : FilesState) (name items bytes : Li
 other_form file old new name items bytes tree status same held stands k =
     rw k.0 (refl, record { tree = tree; document = record { bytes = items; held = held; stands = rw same at stands }; other = k.1 })
 
--- the stylesheet is refused
-pub refused_first : (sheet document : List ℕ) (old new : FilesState) (status : Status)
-    → IsReadRefusedAs (HoldsNoSheet old.held sheet) sheet old new status
-    → IsRefusedAs (Transform sheet document) old new status
-refused_first sheet document old new (Load name) x = (inl x.0, rw x.0 x.1)
-refused_first sheet document old new (TooLong name n) x = (inl x.0, rw x.0 x.1)
-refused_first sheet document old new (Malformed name spot) x = (inl x.0, rw x.0 x.1)
-refused_first sheet document old new (Static code) x = x
-refused_first sheet document old new Memory x = x
-refused_first sheet document old new _ x = absurd x
+-- a file that is not loaded is not read
+pub unread : (W : Type 0) (file : List ℕ) (old new : FilesState) (status : Status)
+    → IsUnloadedAs file old new status → IsReadRefusedAs W file old new status
+unread W file old new (Load name) x = x
+unread W file old new (TooLong name n) x = x
+unread W file old new Memory x = x
+unread W file old new _ x = absurd x
 
 -- nothing was loaded
 pub keeps_none : (files : FilesState) → KeepsFiles files files
@@ -69,60 +64,12 @@ keeps_then old mid new x y = record {
 }
 
 -- a load that fails after another one
-failed_later : (old mid new : FilesState) (file : List ℕ) → KeepsFiles old mid
+pub failed_later : (old mid new : FilesState) (file : List ℕ) → KeepsFiles old mid
     → IsLoadFailure mid new file → IsLoadFailure old new file
 failed_later old mid new file keeps x =
     elim x [ inl rose ↦ inl (omega (arith, keeps.faults.no_less)) | inr missing ↦ inr (rw keeps.held at missing) ]
 
-long_later : (old mid new : FilesState) (file : List ℕ) (n : ℕ) → KeepsFiles old mid
+pub long_later : (old mid new : FilesState) (file : List ℕ) (n : ℕ) → KeepsFiles old mid
     → IsTooLong mid new file n → IsTooLong old new file n
 long_later old mid new file n keeps x =
     (x.0, omega (arith, keeps.taken.no_less), rw keeps.held at x.2)
-
--- the document is refused, after a stylesheet
-pub refused_second : (sheet document : List ℕ) (tree : Tree) (old mid new : FilesState) (status : Status)
-    → HoldsSheet old.held sheet tree → KeepsFiles old mid
-    → IsReadRefusedAs ⊥ document mid new status
-    → IsRefusedAs (Transform sheet document) old new status
-refused_second sheet document tree old mid new (Load name) held keeps x =
-    (inr (x.0, record { tree = tree; held = held }), rw x.0 (failed_later old mid new document keeps x.1))
-refused_second sheet document tree old mid new (TooLong name n) held keeps x =
-    (inr (x.0, record { tree = tree; held = held }), rw x.0 (long_later old mid new document n keeps x.1))
-refused_second sheet document tree old mid new (Malformed name spot) held keeps x =
-    (inr (x.0, record { tree = tree; held = held }), rw (x.0, ← keeps.held) x.1)
-refused_second sheet document tree old mid new (Static code) held keeps x = absurd x.1
-refused_second sheet document tree old mid new Memory held keeps x = x
-refused_second sheet document tree old mid new _ held keeps x = absurd x
-
--- both are held
-abbrev pub both_held : (sheet document : List ℕ) (s d : Tree) (old mid : FilesState)
-    → HoldsSheet old.held sheet s → KeepsFiles old mid → HoldsDocument mid.held document d
-    → HoldsBoth old.held sheet document
-both_held sheet document s d old mid held keeps x = record {
-  sheet_tree = s;
-  document_tree = d;
-  sheet_held = held;
-  document_held = rw keeps.held at x;
-}
-
--- the result is refused, after both
-pub refused_third : (sheet document : List ℕ) (s d : Tree) (old mid new : FilesState) (status : Status)
-    → HoldsSheet old.held sheet s → KeepsFiles old mid → HoldsDocument mid.held document d
-    → IsResultRefusedAs s d status
-    → IsRefusedAs (Transform sheet document) old new status
-refused_third sheet document s d old mid new (Dynamic code) held keeps doc x =
-    (both_held sheet document s d old mid held keeps doc, x)
-refused_third sheet document s d old mid new (Deep depth) held keeps doc x =
-    (both_held sheet document s d old mid held keeps doc, x.0, x.1)
-refused_third sheet document s d old mid new Memory held keeps doc x = x
-refused_third sheet document s d old mid new _ held keeps doc x = absurd x
-
--- the text is that of the request
-pub text_made : (sheet document text : List ℕ) (s d : Tree) (old mid : FilesState)
-    → HoldsSheet old.held sheet s → KeepsFiles old mid → HoldsDocument mid.held document d
-    → Makes s d text
-    → HasText (Transform sheet document) old text
-text_made sheet document text s d old mid held keeps doc x = record {
-  inputs = both_held sheet document s d old mid held keeps doc;
-  makes = x;
-}

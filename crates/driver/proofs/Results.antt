@@ -1,5 +1,5 @@
 -- The result tree of a run is a document, which has a text.
-use Rattle.std.proofs.Common.{◌≡◌, List, Bool, true, false, if◌then◌else◌, None, sym, subst}
+use Rattle.std.proofs.Common.{◌≡◌, ℕ, List, Bool, true, false, if◌then◌else◌, None, sym, subst}
 use Rattle.xt_names.specs.declared.codes.Code.{Code}
 use Rattle.xt_names.specs.declared.codes.Code.TheVariants.{Dynamic}
 use Rattle.xt_names.specs.declared.codes.DynamicCode.TheVariants.{XTLM0002}
@@ -28,7 +28,8 @@ document_has_text (Fails code) tree ends none = cc
 document_has_text Deep tree ends none = cc
 
 -- a result tree without a text there is none
-pub result_has_text : (sheet document tree : Tree) → outcome_of sheet document ≡ Ends tree
+pub result_has_text : (depth : ℕ) (sheet document tree : Tree)
+    → outcome_of depth sheet document ≡ Ends tree
     → written_tree tree ≡ None → ⊥
 unfolding outcome_of
-result_has_text sheet document tree ends none = document_has_text _ tree ends none
+result_has_text depth sheet document tree ends none = document_has_text _ tree ends none

@@ -5,7 +5,9 @@ use Rattle.std.specs.Str.{encode_utf8_all}
 use Rattle.xt_io.specs.Files.{FilesState, IsMissing, HoldsAtLeast}
 use Rattle.xt_io.specs.Sink.{SinkState, Puts}
 use Rattle.xt_io.proofs.SinkLemmas.{Puts-none, Puts-whole}
-use Rattle.driver.specs.Request.{Asked, Transform, request_of}
+use Rattle.command_words.specs.Requests.{Asked, Transform, Query, Inputs}
+use Rattle.driver.specs.Inputs.{IsInput, IsLoadedOf, Holdings}
+use Rattle.driver.specs.Request.{request_of}
 use Rattle.driver.specs.Meaning.{HasText, IsRefusedAs, IsReached, IsNamed}
 use Rattle.driver.specs.Status.{Tells, Writes}
 use Rattle.driver.specs.Theorem.{Answers, Completes, IsClean, Notes}
@@ -61,11 +63,17 @@ notes_told notes notes' _ t = t
 some_same : {A : Type 0} {x y : A} → Some x ≡ Some y → x ≡ y
 some_same e = cc
 
+input_named : (inputs : Inputs) (files : Holdings) (name : List ℕ)
+    → IsLoadedOf inputs files name → IsInput inputs name
+input_named inputs files name (inl first) = inl first
+input_named inputs files name (inr further) = inr further.0
+
 -- a file that a request comes to is one that it names
 reached_named : (request : Asked) (files : FilesState) (name : List ℕ)
     → IsReached request files name → IsNamed request name
-reached_named (Transform sheet document) files name x =
-    elim x [ inl first ↦ inl first | inr second ↦ inr second.0 ]
+reached_named (Transform sheet inputs) files name x =
+    elim x [ inl first ↦ inl first | inr second ↦ inr (input_named inputs files.held name second.1) ]
+reached_named (Query query inputs) files name x = absurd x
 
 held_same : (files : FilesState) (map : List ℕ → Option (List ℕ)) (name bytes : List ℕ)
     → files.held ≡ Some map → map name ≡ Some bytes → IsMissing files.held name → ⊥

@@ -1,3 +1,4 @@
+pub mod Further
 pub mod Inputs
 pub mod Meaning
 pub mod Request

@@ -8,20 +8,23 @@ use Rattle.xt_names.specs.declared.codes.Code.TheVariants as code_variants
 use Rattle.xt_names.specs.declared.codes.SheetStaticCode.TheVariants.{XTUN0001}
 use Rattle.doc_grammar.specs.declared.spots.Spot.{Spot}
 use Rattle.sheet_meaning.specs.Outcome as outcome
-use Rattle.driver.specs.Inputs.{Holdings, HoldsDocument, HoldsNoDocument, HoldsSheet, HoldsNoSheet}
-use Rattle.driver.specs.Inputs.{IsLoadFailure, IsTooLong}
-use Rattle.driver.specs.Request.{Words, Asked, Transform, request_of}
-use Rattle.driver.specs.Result.{Makes, outcome_of, depth_limit}
+use Rattle.command_words.specs.Requests.{Asked, Transform, Query, Inputs}
+use Rattle.command_words.specs.Words.{Words}
+use Rattle.driver.specs.Inputs.{Holdings, HoldsNoDocument, HoldsSheet, HoldsNoSheet, HoldsInputs, IsInput}
+use Rattle.driver.specs.Inputs.{IsLoadFailure, IsTooLong, IsLoadedOf, IsMalformedOf}
+use Rattle.driver.specs.Request.{request_of}
+use Rattle.driver.specs.Result.{Makes, outcome_of}
 use Rattle.driver.specs.declared.status.Status.{Status}
 use Rattle.driver.specs.declared.status.Status.TheVariants.{Load, TooLong, Malformed, Static}
 use Rattle.driver.specs.declared.status.Status.TheVariants.{Dynamic, Deep, Memory}
 
--- a stylesheet and a document, as the files hold them
-pub record HoldsBoth (files : Holdings) (sheet document : List ℕ) : Type 0 where
+-- a stylesheet and what it runs on, as the files hold them
+pub record HoldsAll (files : Holdings) (sheet : List ℕ) (inputs : Inputs) : Type 0 where
   pub sheet_tree : Tree
   pub document_tree : Tree
+  pub further_trees : List Tree
   pub sheet_held : HoldsSheet files sheet sheet_tree
-  pub document_held : HoldsDocument files document document_tree
+  pub inputs_held : HoldsInputs files inputs document_tree further_trees
 
 -- some stylesheet, as the files hold it
 pub record HoldsSomeSheet (files : Holdings) (sheet : List ℕ) : Type 0 where
@@ -29,13 +32,15 @@ pub record HoldsSomeSheet (files : Holdings) (sheet : List ℕ) : Type 0 where
   pub held : HoldsSheet files sheet tree
 
 -- the text is what the stylesheet makes of the document, as the files hold them
-pub record Transforms (files : Holdings) (sheet document text : List ℕ) : Type 0 where
-  pub inputs : HoldsBoth files sheet document
-  pub makes : Makes inputs.sheet_tree inputs.document_tree text
+pub record Transforms (files : Holdings) (sheet : List ℕ) (inputs : Inputs) (text : List ℕ)
+    : Type 0 where
+  pub held : HoldsAll files sheet inputs
+  pub makes : Makes inputs.depth held.sheet_tree held.document_tree text
 
 -- the text that is written for a request
 abbrev pub HasText : Asked → FilesState → List ℕ → Type 0
-HasText (Transform sheet document) files text = Transforms files.held sheet document text
+HasText (Transform sheet inputs) files text = Transforms files.held sheet inputs text
+HasText (Query query inputs) files text = ⊥
 
 -- the words ask for something, and this is its text
 abbrev pub Means : Words → FilesState → List ℕ → Type 0
@@ -44,33 +49,40 @@ Means words files text =
 
 -- a request names this file
 abbrev pub IsNamed : Asked → List ℕ → Type 0
-IsNamed (Transform sheet document) name = (name ≡ sheet) ⊎ (name ≡ document)
+IsNamed (Transform sheet inputs) name = (name ≡ sheet) ⊎ IsInput inputs name
+IsNamed (Query query inputs) name = ⊥
 
 -- a request comes to load this file, with nothing wrong before
 abbrev pub IsReached : Asked → FilesState → List ℕ → Type 0
-IsReached (Transform sheet document) files name =
-    (name ≡ sheet) ⊎ ((name ≡ document) × HoldsSomeSheet files.held sheet)
+IsReached (Transform sheet inputs) files name =
+    (name ≡ sheet) ⊎ (HoldsSomeSheet files.held sheet × IsLoadedOf inputs files.held name)
+IsReached (Query query inputs) files name = ⊥
 
 -- a static rule is broken: the stylesheet's tree is none of a stylesheet
 abbrev pub IsBroken : Asked → FilesState → Type 0
-IsBroken (Transform sheet document) files = HoldsNoSheet files.held sheet
+IsBroken (Transform sheet inputs) files = HoldsNoSheet files.held sheet
+IsBroken (Query query inputs) files = ⊥
 
 -- a request comes to this file, which is no document, and this is its first fault
 abbrev pub IsMalformed : Asked → FilesState → List ℕ → Spot → Type 0
-IsMalformed request files name spot =
-    IsReached request files name × HoldsNoDocument files.held name spot
+IsMalformed (Transform sheet inputs) files name spot =
+    ((name ≡ sheet) × HoldsNoDocument files.held name spot)
+    ⊎ (HoldsSomeSheet files.held sheet × IsMalformedOf inputs files.held name spot)
+IsMalformed (Query query inputs) files name spot = ⊥
 
 -- the run fails with the code
 abbrev pub IsFailing : Asked → FilesState → Code → Type 0
-IsFailing (Transform sheet document) files code =
-    (both : HoldsBoth files.held sheet document)
-    × (outcome_of both.sheet_tree both.document_tree ≡ outcome.Fails code)
+IsFailing (Transform sheet inputs) files code =
+    (all : HoldsAll files.held sheet inputs)
+    × (outcome_of inputs.depth all.sheet_tree all.document_tree ≡ outcome.Fails code)
+IsFailing (Query query inputs) files code = ⊥
 
 -- the run would pass the depth
 abbrev pub IsTooDeep : Asked → FilesState → ℕ → Type 0
-IsTooDeep (Transform sheet document) files depth =
-    (both : HoldsBoth files.held sheet document)
-    × (depth ≡ depth_limit) × (outcome_of both.sheet_tree both.document_tree ≡ outcome.Deep)
+IsTooDeep (Transform sheet inputs) files depth =
+    (all : HoldsAll files.held sheet inputs) × (depth ≡ inputs.depth)
+    × (outcome_of inputs.depth all.sheet_tree all.document_tree ≡ outcome.Deep)
+IsTooDeep (Query query inputs) files depth = ⊥
 
 -- why a request is refused so, before anything is written
 abbrev pub IsRefusedAs : Asked → FilesState → FilesState → Status → Type 0

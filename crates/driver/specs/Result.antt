@@ -8,24 +8,21 @@ use Rattle.doc_writer.specs.Written.{written_tree}
 use Rattle.driver.specs.declared.status.Status.{Status}
 use Rattle.driver.specs.declared.status.Status.TheVariants.{Dynamic, Deep, Memory}
 
--- how many calls may be open at once
-abbrev pub depth_limit : ℕ
-depth_limit = 100
-
--- how the run of a stylesheet on a document ends
-unfoldable pub outcome_of : Tree → Tree → Outcome Tree
-outcome_of sheet document = transform_meaning sheet document depth_limit
+-- how the run of a stylesheet on a document ends, with at most so many calls open at once
+unfoldable pub outcome_of : ℕ → Tree → Tree → Outcome Tree
+outcome_of depth sheet document = transform_meaning sheet document depth
 
 -- the run ends with a tree, and the text is that of the tree
-pub record Makes (sheet document : Tree) (text : List ℕ) : Type 0 where
+pub record Makes (depth : ℕ) (sheet document : Tree) (text : List ℕ) : Type 0 where
   pub tree : Tree
-  pub ends : outcome_of sheet document ≡ Ends tree
+  pub ends : outcome_of depth sheet document ≡ Ends tree
   pub written : written_tree tree ≡ Some text
 
 -- why there is no text of the result
-abbrev pub IsResultRefusedAs : Tree → Tree → Status → Type 0
-IsResultRefusedAs sheet document (Dynamic code) = outcome_of sheet document ≡ Fails code
-IsResultRefusedAs sheet document (Deep depth) =
-    (depth ≡ depth_limit) × (outcome_of sheet document ≡ outcome.Deep)
-IsResultRefusedAs sheet document Memory = ⊤
-IsResultRefusedAs sheet document _ = ⊥
+abbrev pub IsResultRefusedAs : ℕ → Tree → Tree → Status → Type 0
+IsResultRefusedAs depth sheet document (Dynamic code) =
+    outcome_of depth sheet document ≡ Fails code
+IsResultRefusedAs depth sheet document (Deep told) =
+    (told ≡ depth) × (outcome_of depth sheet document ≡ outcome.Deep)
+IsResultRefusedAs depth sheet document Memory = ⊤
+IsResultRefusedAs depth sheet document _ = ⊥

@@ -7,8 +7,10 @@ use Rattle.xt_names.specs.declared.codes.Code.{Code}
 use Rattle.xt_io.specs.Files.{FilesState, KeepsFiles, Rose}
 use Rattle.xt_io.specs.Sink.{SinkState, Puts, PutsPrefix}
 use Rattle.doc_grammar.specs.declared.spots.Spot.{Spot}
+use Rattle.command_words.specs.Requests.{Asked}
+use Rattle.command_words.specs.Words.{Words}
 use Rattle.driver.specs.Inputs.{file_limit}
-use Rattle.driver.specs.Request.{Words, Asked, request_of}
+use Rattle.driver.specs.Request.{request_of}
 use Rattle.driver.specs.Meaning.{Means, IsRefusedAs, IsNamed, IsBroken, IsMalformed, IsFailing}
 use Rattle.driver.specs.Meaning.{IsTooDeep}
 use Rattle.driver.specs.Status.{note_line, Tells}

@@ -1,8 +1,9 @@
 //! The top call of the program: a run of a command line over files and sinks.
 //!
 //! `run` takes the words after the program's name, a source of files, and two sinks, one for the
-//! output and one for notes. It finds out what the words ask for, loads and reads the files that
-//! they name, computes the text, and only then writes it; where there is no text, one line in the
+//! output and one for notes. It finds out what the words ask for, which is to run a stylesheet (no
+//! query runs yet), loads and reads the files that they name, computes the text, and only then
+//! writes it; where there is no text, one line in the
 //! notes says why. The `Status` that it gives says how the run ended, and has the number of the
 //! process's status.
 //!
@@ -17,9 +18,9 @@
 //! and the status is `Status::Done`, whose number is 0.
 #![tactic(auto)]
 
+mod inputs;
 mod load;
 mod program;
-mod request;
 mod status;
 mod transform;
 

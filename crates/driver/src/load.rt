@@ -6,7 +6,7 @@ ghost use Rattle.sheet_meaning.specs.First.{is_first_sheet};
 ghost use Rattle.xt_names.specs.declared.codes.Code.TheVariants.{SheetStatic};
 ghost use Rattle.xt_names.specs.declared.codes.SheetStaticCode.TheVariants.{XTUN0001};
 ghost use Rattle.driver.specs.Inputs.{HoldsBytes, HoldsDocument, HoldsSheet, HoldsNoSheet};
-ghost use Rattle.driver.specs.Inputs.{IsReadRefusedAs};
+ghost use Rattle.driver.specs.Inputs.{IsUnloadedAs, IsReadRefusedAs};
 ghost use Rattle.driver.specs.declared.status.Status.TheVariants.{Static};
 
 use crate::status::Status;
@@ -24,10 +24,10 @@ const FILE_LIMIT: u64 = 67_108_864;
 const NO_SHEET: Status = Status::Static(Code::SheetStatic(SheetStaticCode::XTUN0001));
 
 /// The bytes of a file.
-fn load<F: Files>(alloc: Global, name: &str, files: &mut F) -> Result<Vec<u8>, Status>
+pub(crate) fn load<F: Files>(alloc: Global, name: &str, files: &mut F) -> Result<Vec<u8>, Status>
     ensures held { IfOk result (λ bytes. HoldsBytes (F.state files.old).held name.now bytes.items) }
     ensures refused { IfErr result
-        (IsReadRefusedAs ⊥ name.now (F.state files.old) (F.state files.new)) }
+        (IsUnloadedAs name.now (F.state files.old) (F.state files.new)) }
     ensures keeps { KeepsFiles (F.state files.old) (F.state files.new) }
 {
     match files.load(alloc, name, FILE_LIMIT) {

@@ -1,16 +1,16 @@
 // The run of a command line.
-ghost use Rattle.std.specs.Prelude.{map, IfOk, IfErr, OnErr, OnOk};
+ghost use Rattle.std.specs.Prelude.{◌≡◌, map, option_map, IfOk, OnErr, OnOk};
 ghost use Rattle.std.specs.String.{string_bytes};
 ghost use Rattle.xt_io.specs.Files.{KeepsFiles};
 ghost use Rattle.xt_io.specs.Sink.{PutsPrefix};
-ghost use Rattle.driver.specs.Request.{asked};
-ghost use Rattle.driver.specs.Meaning.{HasText, IsRefusedAs};
+ghost use Rattle.command_words.specs.Requests.{Transform, inputs_in};
+ghost use Rattle.driver.specs.Request.{request_of};
 ghost use Rattle.driver.specs.Status.{note_line, Tells, Writes};
 ghost use Rattle.driver.specs.Theorem.{Answers, Completes, Keeps, Notes};
 
-use crate::request::{Request, read_request};
 use crate::status::Status;
 use crate::transform::transform;
+use command_words::{Inputs, Request, read_request};
 use std::alloc::{AllocError, Global};
 use xt_io::{Files, Sink, SinkFault, put_all};
 
@@ -52,25 +52,27 @@ fn perform<F: Files, S: Sink>(alloc: Global, words: &[String], files: &mut F, ou
         (S.state out.old) (S.state out.new) result }
     ensures keeps { KeepsFiles (F.state files.old) (F.state files.new) }
 {
-    let Some(request) = read_request(words) else {
+    let request = match read_words(alloc, words) {
+        Ok(request) => request,
+        Err(_) => return Status::Memory,
+    };
+    let Some((sheet, inputs)) = request else {
         return Status::Usage;
     };
-    match text_of(alloc, request, files) {
+    match transform(alloc, sheet, &inputs, files) {
         Ok(text) => write(&text, out),
         Err(status) => status,
     }
 }
 
-// The text that is written for a request.
-fn text_of<F: Files>(alloc: Global, request: Request<'_>, files: &mut F) -> Result<Vec<u8>, Status>
-    ensures text { IfOk result
-        (λ text. HasText (asked request.entry) (F.state files.old) text.items) }
-    ensures refused { IfErr result
-        (IsRefusedAs (asked request.entry) (F.state files.old) (F.state files.new)) }
-    ensures keeps { KeepsFiles (F.state files.old) (F.state files.new) }
+// The stylesheet that the words ask to run, and on what.
+fn read_words(alloc: Global, words: &[String]) -> Result<Option<(&str, Inputs<'_>)>, AllocError>
+    ensures { IfOk result (λ run. option_map (λ r. Transform r.0.now (inputs_in r.1)) run
+        ≡ request_of (map string_bytes words.now)) }
 {
-    match request {
-        Request::Transform { sheet, document } => transform(alloc, sheet, document, files),
+    match read_request(alloc, words)? {
+        Some(Request::Transform { sheet, inputs }) => Ok(Some((sheet, inputs))),
+        Some(Request::Query { .. }) | None => Ok(None),
     }
 }
 

@@ -78,6 +78,16 @@ impl ProfileRule {
     }
 }
 
+impl From<AllocError> for Status {
+    ghost use Rattle.driver.specs.declared.status.Status.TheVariants.{Memory};
+
+    ghost from_gives = { λ e status. status ≡ Memory };
+
+    fn from(_: AllocError) -> Status {
+        Status::Memory
+    }
+}
+
 impl Status {
     /// The status of the process.
     pub fn number(&self) -> u8

@@ -1,0 +1,9 @@
+pub mod ApartLemmas
+pub mod DepthLemmas
+pub mod DocumentLemmas
+pub mod ListLemmas
+pub mod OperandLemmas
+pub mod ParameterLemmas
+pub mod SaysLemmas
+pub mod TableLemmas
+pub mod WordLemmas

@@ -1,0 +1,4 @@
+pub mod Apart
+pub mod Requests
+pub mod Texts
+pub mod Words
