@@ -9,7 +9,7 @@ use xt_names::{List, Text, TextBuilder};
 use xt_tree::{Node, Tree};
 
 // so many strings to join, and so many values
-const STRINGS: usize = 500_000;
+const STRINGS: usize = 1_000_000;
 
 const MANY: i64 = 300_000;
 
@@ -80,12 +80,12 @@ fn alphabet(rt: &(impl Abort + AllocGlobal)) -> Text {
 
 // The thousandth character has no partner, and `a` is not among them.
 #[test]
-fn a_megabyte_is_translated_by_a_thousand_characters(rt: HostRuntime) {
-    let whole = repeated(&rt, "\u{4E00}\u{51E7}a\u{51E6}", 100_000);
+fn ten_megabytes_are_translated_by_a_thousand_characters(rt: HostRuntime) {
+    let whole = repeated(&rt, "\u{4E00}\u{51E7}a\u{51E6}", 1_000_000);
     let some = two(&rt, text_list(&rt, whole), text_list(&rt, alphabet(&rt)));
     let args = with(&rt, some, text_list(&rt, repeated(&rt, "x", 999)));
     let items = answer(&rt, Builtin::Translate, args);
-    assert_eq!(rt; bytes_of(&items), 300_000);
+    assert_eq!(rt; bytes_of(&items), 3_000_000);
     drop(items);
 }
 
@@ -133,6 +133,71 @@ fn a_long_text_is_searched_and_cut(rt: HostRuntime) {
     let normal = answer(&rt, Builtin::NormalizeSpace, one(&rt, long_text(&rt)));
     assert_eq!(rt; bytes_of(&normal), 2_999_999);
     drop(normal);
+}
+
+// so many times eight characters are 64 MiB, the greatest text that is read
+const EIGHTS: usize = 8_388_608;
+
+fn copied(rt: &(impl Abort + AllocGlobal), whole: &Text) -> ItemList {
+    text_list(rt, whole.copy().expect(rt, "memory"))
+}
+
+// how long the answer to the text and the other text is, as a text or a number
+fn told_of(rt: &(impl Abort + AllocGlobal), f: Builtin, whole: &Text, other: ItemList) -> i64 {
+    let items = answer(rt, f, two(rt, copied(rt, whole), other));
+    let told = match items.as_slice() {
+        [Item::Atom(Atom::Int(number))] => *number,
+        [Item::Atom(Atom::Bool(truth))] => *truth as i64,
+        _ => i64::try_from(bytes_of(&items)).unwrap_or(-1),
+    };
+    drop(items);
+    told
+}
+
+#[test]
+fn the_greatest_text_passes_through_functions_of_two(rt: HostRuntime) {
+    let whole = repeated(&rt, "abcdefg ", EIGHTS);
+    let cases = [
+        (Builtin::Contains, "gg", 0),
+        (Builtin::StartsWith, "abcdefg a", 1),
+        (Builtin::EndsWith, " abcdefg ", 1),
+        (Builtin::SubstringBefore, "gg", 0),
+        (Builtin::SubstringBefore, "g", 6),
+        (Builtin::SubstringAfter, "g", 67_108_857),
+        (Builtin::Compare, "abcdefg b", -1),
+        (Builtin::CodepointEqual, "abcdefg ", 0),
+        (Builtin::Concat, "abc", 67_108_867),
+        (Builtin::StringJoin, "abc", 67_108_864),
+    ];
+    for (f, other, wanted) in cases {
+        let told = told_of(&rt, f, &whole, word_list(&rt, other));
+        assert_eq!(rt; told, wanted, "{other}");
+    }
+    let rest = told_of(
+        &rt,
+        Builtin::Substring,
+        &whole,
+        list_of(&rt, number(67_108_860)),
+    );
+    assert_eq!(rt; rest, 5);
+    drop(whole);
+}
+
+#[test]
+fn the_greatest_text_is_counted_and_changed(rt: HostRuntime) {
+    let whole = repeated(&rt, "abcdefg ", EIGHTS);
+    let count = answer(&rt, Builtin::StringLength, one(&rt, copied(&rt, &whole)));
+    assert!(rt; matches!(count.as_slice(), [Item::Atom(Atom::Int(67_108_864))]));
+    drop(count);
+    let normal = answer(&rt, Builtin::NormalizeSpace, one(&rt, copied(&rt, &whole)));
+    assert_eq!(rt; bytes_of(&normal), 67_108_863);
+    drop(normal);
+    let some = two(&rt, copied(&rt, &whole), word_list(&rt, "ga"));
+    let args = with(&rt, some, word_list(&rt, "x"));
+    let translated = answer(&rt, Builtin::Translate, args);
+    assert_eq!(rt; bytes_of(&translated), 7 * EIGHTS);
+    drop(translated);
+    drop(whole);
 }
 
 // What is looked for begins at every place of the text, and occurs at none.

@@ -25,6 +25,7 @@ fn nodes_have_names(rt: HostRuntime) {
         ("namespace-uri", "n:b", "s:"),
         ("namespace-uri", "n:pi", "s:"),
         ("namespace-uri", "", "s:"),
+        ("namespace-uri", "n:a,n:b", "XPTY0004"),
         ("node-name", "n:a", "q:p{urn:p}a"),
         ("node-name", "n:k", "q:{}k"),
         ("node-name", "n:pi", "q:{}g"),

@@ -85,6 +85,7 @@ fn items_are_put_in_and_left_out(rt: HostRuntime) {
         ),
         ("remove", ";i:3", ""),
         ("remove", "s:a;s:1", "XPTY0004"),
+        ("remove", "s:a;u:x", "FORG0001"),
         ("reverse", "s:a,s:b,s:c", "s:c,s:b,s:a"),
         ("reverse", "s:hello", "s:hello"),
         ("reverse", "", ""),
@@ -127,6 +128,7 @@ fn parts_of_sequences(rt: HostRuntime) {
             "s:1,s:2,s:3,s:4,s:5",
         ),
         ("subsequence", "s:a;u:x;s:y", "FORG0001"),
+        ("subsequence", "s:a;s:y;u:x", "XPTY0004"),
         ("subsequence", "s:a;;u:x", "XPTY0004"),
         ("subsequence", "s:a;i:1;", "XPTY0004"),
     ];

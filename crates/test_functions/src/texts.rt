@@ -56,10 +56,12 @@ fn parts_are_taken(rt: HostRuntime) {
         ("substring-before", "s:tattoo;s:tatto", "s:"),
         ("substring-before", "s:tattoo;s:x", "s:"),
         ("substring-before", "s:tattoo;", "s:"),
+        ("substring-before", "i:1;s:a", "XPTY0004"),
         ("substring-after", "s:tattoo;s:tat", "s:too"),
         ("substring-after", "s:tattoo;s:tattoo", "s:"),
         ("substring-after", "s:tattoo;s:x", "s:"),
         ("substring-after", "s:tattoo;", "s:tattoo"),
+        ("substring-after", "s:a;s:b,s:c", "XPTY0004"),
     ];
     for (word, words, wanted) in cases {
         let found = answer(&rt, word, words);
@@ -79,9 +81,11 @@ fn strings_are_searched(rt: HostRuntime) {
         ("starts-with", "s:tattoo;s:tat", "true"),
         ("starts-with", "s:tattoo;s:att", "false"),
         ("starts-with", ";s:t", "false"),
+        ("starts-with", "s:a,s:b;s:a", "XPTY0004"),
         ("ends-with", "s:tattoo;s:tattoo", "true"),
         ("ends-with", "s:tattoo;s:atto", "false"),
         ("ends-with", "s:tattoo;", "true"),
+        ("ends-with", "s:a;true", "XPTY0004"),
     ];
     for (word, words, wanted) in cases {
         let found = answer(&rt, word, words);
@@ -96,6 +100,7 @@ fn strings_are_changed(rt: HostRuntime) {
         ("normalize-space", "s:  a \t b\n", "s:a b"),
         ("normalize-space", "", "s:"),
         ("normalize-space", "s: \r\n ", "s:"),
+        ("normalize-space", "i:1", "XPTY0004"),
         ("translate", "s:bar;s:abc;s:AB", "s:BAr"),
         ("translate", "s:--aaa--;s:abc-;s:ABC", "s:AAA"),
         ("translate", "s:abcdabc;s:abc;s:AB", "s:ABdAB"),
@@ -131,6 +136,7 @@ fn characters_are_counted_and_compared(rt: HostRuntime) {
         ("codepoint-equal", "s:abc;u:abc", "true"),
         ("codepoint-equal", "s:abc;s:abd", "false"),
         ("codepoint-equal", "s:a;", ""),
+        ("codepoint-equal", "i:1;s:a", "XPTY0004"),
         (
             "codepoints-to-string",
             "i:2309,i:2358,i:2378,i:2325",
@@ -149,6 +155,7 @@ fn characters_are_counted_and_compared(rt: HostRuntime) {
             "i:84,i:104,i:233,i:114,i:232,i:115,i:101",
         ),
         ("string-to-codepoints", "", ""),
+        ("string-to-codepoints", "s:a,s:b", "XPTY0004"),
     ];
     for (word, words, wanted) in cases {
         let found = answer(&rt, word, words);

@@ -1,8 +1,8 @@
 // Calls and answers as texts.
 //
 // Arguments stand apart by `;` and items by `,`. An item is `s:`, `u:` or `i:` and a string, an
-// untyped value or an integer, `q:` and a QName as `prefix{uri}local`, `n:` and a node of the sample,
-// or `true` or `false`. An answer is its items, or the code of its error.
+// untyped value or an integer, `q:` and a QName as `prefix{uri}local`, `n:` and a node of the
+// sample, or `true` or `false`. An answer is its items, or the code of its error.
 use crate::made::{name, node, text, with};
 use fn_lib::{Builtin, call, find};
 use std::alloc::AllocGlobal;
