@@ -1,0 +1,18 @@
+//! Values that are walked on demand, between evaluations (XPath 2.0, 2.3.1).
+//!
+//! A sequence that no one has walked yet answers how many items it has, whether it has any, and
+//! which item stands at a place, with no more steps than that takes. Each call gives exactly what
+//! the meaning of the expression gives of the whole list.
+//!
+//! Example: `count(1 to 9223372036854775807)` takes as long as `count(1 to 2)`.
+#![tactic(auto)]
+
+mod answers;
+mod places;
+mod variables;
+mod walks;
+
+pub use answers::late_answer;
+pub use places::late_item;
+pub use variables::late_variable;
+pub use walks::late_step;
