@@ -1,0 +1,4 @@
+pub mod Follow
+pub mod Forms
+pub mod Places
+pub mod CallLemmas
