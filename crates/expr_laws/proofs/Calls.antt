@@ -19,17 +19,17 @@ use Rattle.expr_laws.proofs.Steps.{same_step, any_step}
 module _ (c : Carrier) where
   pub lists_meet : (ms ns : List Meaning) → AllMeet c ms ns → (e f : Env) → c.at e f → (k : ℕ) →
       c.rel (List (List Item)) (Every (Every c.good)) (lists_of ms e k) (lists_of ns f k)
-  lists_meet [] [] h e f s k = c.carries.same _ _ _ tt
+  lists_meet [] [] h e f s k = c.carries.ends _ _ _ _ tt
   lists_meet [] (n ∷ ns) h e f s k = absurd h
   lists_meet (m ∷ ms) [] h e f s k = absurd h
   lists_meet (m ∷ ms) (n ∷ ns) h e f s k =
       c.carries.next _ _ (Every (Every c.good)) (Every (Every c.good)) (listed e m k)
       (listed f n k) _ _
       (c.carries.next _ _ (Every c.good) (Every (Every c.good)) (m e k) (n f k) _ _ (h.0 e f s k)
-      (λ xs j g. c.carries.same _ _ _ (g, tt))) (λ xs j g.
+      (λ xs j g. c.carries.ends _ _ _ _ (g, tt))) (λ xs j g.
       c.carries.next _ _ (Every (Every c.good)) (Every (Every c.good)) (lists_of ms e j)
       (lists_of ns f j) _ _ (lists_meet ms ns h.1 e f s j)
-      (λ ys i d. c.carries.same _ _ _ (every_append (Every c.good) xs ys g d)))
+      (λ ys i d. c.carries.ends _ _ _ _ (every_append (Every c.good) xs ys g d)))
 
   -- lists of meanings that are related are as long
   pub as_long : (ms ns : List Meaning) → AllMeet c ms ns → length ms ≡ length ns
@@ -75,11 +75,11 @@ module _ (c : Carrier) where
     value_meets current_group name e f s args g k =
         subst (λ t. c.rel (List Item) (Every c.good) (Ends (members_of e.state.group) k)
         (Ends (members_of t.group) k)) (c.places.state e f s)
-        (c.carries.same _ _ _ (c.places.members e f s))
+        (c.carries.ends _ _ _ _ (c.places.members e f s))
     value_meets current_key name e f s args g k =
         subst (λ t. c.rel (List Item) (Every c.good) (Ends (key_of e.state.group) k)
         (Ends (key_of t.group) k)) (c.places.state e f s)
-        (c.carries.same _ _ _ (c.places.key e f s))
+        (c.carries.ends _ _ _ _ (c.places.key e f s))
     value_meets key name e f s args g k = keyed_meets e f s args k
     value_meets declared name e f s args g k = meet.calls name args g k
 

@@ -1,103 +1,37 @@
 -- More calls change nothing but an outcome that lacked one.
 use Rattle.std.proofs.Common.{◌≡◌, ◌+◌, ℕ, zero, suc, List, [], ◌∷◌, refl, sym, ap, subst, length}
 use Rattle.std.proofs.Common.{arith}
-use Rattle.std.specs.Prelude.{Option, Some, None, Result, Ok, Err}
-use Rattle.xt_names.specs.declared.codes.Code.{Code}
+use Rattle.std.specs.Prelude.{Option, Some, None}
 use Rattle.xt_names.specs.declared.names.ExprName.{ExprName}
 use Rattle.xdm_items.specs.declared.items.Item.{Item}
 use Rattle.xt_syntax.specs.declared.exprs.Expr.{Expr}
 use Rattle.xt_syntax.specs.declared.queries.QueryFunction.{QueryFunction}
 use Rattle.xt_syntax.specs.declared.queries.QueryVar.{QueryVar}
-use Rattle.function_arguments.specs.Answers.{of_integer, of_truth}
-use Rattle.lazy_seq.specs.Orders.{in_document_order}
-use Rattle.expr_meaning.specs.Calls.{members_of, key_of}
-use Rattle.expr_meaning.specs.Making.{joined_atoms}
 use Rattle.outcomes.specs.Outcome.{Outcome, Ends, Fails, Deep, step_outcome, OnEnds, Every}
 use Rattle.outcomes.specs.Outcome.{Anything}
 use Rattle.outcomes.specs.Follow.{Follows, FailsLike, same_code, deeper}
-use Rattle.outcomes.proofs.Relations.{deeper_carries, nothing_known}
-use Rattle.expr_meaning.specs.Env.{Binding, Env, bind_all, at_focus, variable_value}
+use Rattle.outcomes.proofs.Relations.{carried_same, deeper_carries, nothing_known}
+use Rattle.expr_meaning.specs.Env.{Binding, Env, variable_value}
 use Rattle.expr_meaning.specs.Logic.{typed}
 use Rattle.expr_meaning.specs.Meaning.{outcome}
 use Rattle.expr_meaning.specs.Queries.{Run, converted_to, bound_params, find_function, program_of}
 use Rattle.expr_meaning.specs.Queries.{body_env, body_value, called_function, calls_at}
 use Rattle.expr_meaning.specs.Queries.{program_at, top_env}
 use Rattle.expr_meaning.specs.Queries.{initialised, globals_from, query_outcome}
-use Rattle.expr_laws.specs.Carrier.{Carrier, OnValue, IsKept, AreAlike, ProgramsMeet, IsMade}
+use Rattle.expr_laws.specs.Carrier.{Carrier, ProgramsMeet, IsMade}
 use Rattle.expr_laws.specs.Depth.{CallsChangeNothing}
+use Rattle.expr_laws.proofs.Anything.{any_list, any_made, any_value, in_one_place}
 use Rattle.expr_laws.proofs.Steps.{any_step}
 use Rattle.expr_laws.proofs.Whole.{whole_meets}
 
-all_any : {A : Type 0} (xs : List A) → Every Anything xs
-all_any [] = tt
-all_any (x ∷ xs) = (tt, all_any xs)
-
-any_value : {A : Type 0} (v : Result (List A) Code) → OnValue (Every Anything) v
-any_value (Ok xs) = all_any xs
-any_value (Err code) = tt
-
-any_list : {A : Type 0} (o : Outcome (List A)) → OnEnds (Every Anything) o
-any_list (Ends xs k) = all_any xs
-any_list (Fails code) = tt
-any_list Deep = tt
-
-any_kept : IsKept Anything
-any_kept = record {
-  truth = λ t. all_any (of_truth t);
-  integer = λ n. all_any (of_integer n);
-  general = λ op xs ys g h. any_value _;
-  single = λ op xs ys g h. any_value _;
-  is = λ xs ys g h. any_value _;
-  before = λ xs ys g h. any_value _;
-  after = λ xs ys g h. any_value _;
-  range = λ xs ys g h. any_value _;
-  arithmetic = λ op xs ys g h. any_value _;
-  negated = λ xs g. any_value _;
-  signed = λ xs g. any_value _;
-  union = λ xs ys g h. any_value _;
-  intersect = λ xs ys g h. any_value _;
-  except = λ xs ys g h. any_value _;
-  instance = λ type xs g. any_value _;
-  treated = λ type xs g. any_value _;
-  castable = λ type empty xs g. any_value _;
-  cast = λ type empty xs g. any_value _;
-  root = λ x g. any_value _;
-  step = λ axis wanted x g. any_value _;
-  ordered = λ xs g. all_any (in_document_order xs);
-  library = λ f focus args g. any_value _;
-}
-
-same_places : AreAlike Anything (λ e f. e ≡ f)
-same_places = record {
-  bound = λ e f h bs g. ap (λ x. bind_all bs x) h;
-  focused = λ e f h p g. ap (λ x. at_focus x p) h;
-  focus = λ e f h. ap (λ x. x.focus) h;
-  item = λ e f h p g. tt;
-  state = λ e f h. ap (λ x. x.state) h;
-  current = λ e f h. any_value _;
-  members = λ e f h. all_any (members_of e.state.group);
-  key = λ e f h. all_any (key_of e.state.group);
-}
-
 abbrev depth : Carrier
-depth = record {
-  like = same_code;
-  alike = λ code. refl;
-  rel = deeper;
-  carries = deeper_carries;
-  good = Anything;
-  kept = any_kept;
-  at = λ e f. e ≡ f;
-  places = same_places;
-}
+depth = in_one_place same_code (λ code. refl) deeper deeper_carries
 
-any_made : IsMade depth
-any_made = record {
-  any = λ t k. any_list _;
-  atom = λ a. tt;
-  literal = λ t. tt;
-  joined = λ xs g. all_any (joined_atoms xs);
-}
+made : IsMade depth
+made = any_made same_code (λ code. refl) deeper deeper_carries
+
+unchanged : (A : Type 0) (P : A → Type 0) (o : Outcome A) → OnEnds P o → deeper A P o o
+unchanged = carried_same same_code (λ code. refl)
 
 deep_first : {A : Type 0} (P : A → Type 0) (p : Outcome A) → deeper A P Deep p
 deep_first P p = (tt, tt)
@@ -121,7 +55,7 @@ module _ (run : Run) where
       ProgramsMeet depth (program_at run globals n) (program_at run globals (suc n))
   programs_meet globals n h = record {
     calls = λ name args g k. h name args k;
-    keys = λ name values root k. deeper_carries.same (List Item) (Every Anything) (Ends [] k) tt;
+    keys = λ name values root k. unchanged (List Item) (Every Anything) (Ends [] k) tt;
     document = λ xs. refl;
     documents = λ xs. any_value _;
     namespaces = refl;
@@ -134,7 +68,7 @@ module _ (run : Run) where
       (k : ℕ) → deeper (List Item) (Every Anything) (outcome (program_at run globals n) x e k)
       (outcome (program_at run globals (suc n)) x e k)
   expr_deeper globals n h x e k =
-      whole_meets depth any_made (program_at run globals n) (program_at run globals (suc n))
+      whole_meets depth made (program_at run globals n) (program_at run globals (suc n))
       (programs_meet globals n h) x e e refl k
 
   body_deeper : (globals : List Binding) (n : ℕ) → CallsMeet globals n → (f : QueryFunction)
@@ -144,14 +78,14 @@ module _ (run : Run) where
   body_deeper globals n h f bound k =
       deeper_carries.next _ _ (Every Anything) (Every Anything) _ _ _ _
       (expr_deeper globals n h f.body (body_env bound) k)
-      (λ xs j g. deeper_carries.same _ _ _ (any_list (step_outcome (converted_to f.kind xs) j)))
+      (λ xs j g. unchanged _ _ _ (any_list (step_outcome (converted_to f.kind xs) j)))
 
   none_left : (globals : List Binding) (o : Option QueryFunction)
       (body : QueryFunction → List Binding → ℕ → Outcome (List Item)) (args : List (List Item))
       (k : ℕ) → deeper (List Item) (Every Anything) (called_function o None args k)
       (called_function o (Some body) args k)
   none_left globals None body args k =
-      deeper_carries.same (List Item) (Every Anything) (called_function None None args k) tt
+      unchanged (List Item) (Every Anything) (called_function None None args k) tt
   none_left globals (Some f) body args k =
       deeper_carries.next _ _ Anything (Every Anything) _ _ _ _
       (any_step depth (bound_params f.params args) k)
@@ -164,7 +98,7 @@ module _ (run : Run) where
       (args : List (List Item)) (k : ℕ) → deeper (List Item) (Every Anything)
       (called_function o (Some b) args k) (called_function o (Some d) args k)
   some_left None b d h args k =
-      deeper_carries.same (List Item) (Every Anything) (called_function None (Some b) args k) tt
+      unchanged (List Item) (Every Anything) (called_function None (Some b) args k) tt
   some_left (Some f) b d h args k =
       deeper_carries.next _ _ Anything (Every Anything) _ _ _ _
       (any_step depth (bound_params f.params args) k) (λ bound j u. h f bound j)
@@ -184,19 +118,19 @@ module _ (run : Run) where
       (initialised run (program_at run globals n) document v o k)
       (initialised run (program_at run globals (suc n)) document v o k)
   value_meets globals n document v None k =
-      deeper_carries.same (List Item) (Every Anything)
+      unchanged (List Item) (Every Anything)
       (initialised run (program_at run globals n) document v None k)
       (any_list (initialised run (program_at run globals n) document v None k))
   value_meets globals n document v (Some x) k =
       deeper_carries.next _ _ (Every Anything) (Every Anything) _ _ _ _
       (expr_deeper globals n (calls_meet globals n) x (top_env document) k)
-      (λ xs j g. deeper_carries.same _ _ _ (any_list (step_outcome (typed v.kind xs) j)))
+      (λ xs j g. unchanged _ _ _ (any_list (step_outcome (typed v.kind xs) j)))
 
   globals_meet : (document : Item) (n : ℕ) (vs : List QueryVar) (globals : List Binding) (k : ℕ) →
       deeper (List Binding) Anything (globals_from run document n vs globals k)
       (globals_from run document (suc n) vs globals k)
   globals_meet document n [] globals k =
-      deeper_carries.same (List Binding) Anything (Ends globals k) tt
+      unchanged (List Binding) Anything (Ends globals k) tt
   globals_meet document n (v ∷ vs) globals k =
       deeper_carries.next _ _ (Every Anything) Anything _ _ _ _
       (value_meets globals n document v v.value k)
@@ -223,7 +157,7 @@ module _ (run : Run) where
       (query_outcome run document n k)
       (query_outcome run document (raise more n) k)
   many_more document n zero k =
-      (deeper_carries.same _ Anything _ (nothing_known (query_outcome run document n k))).0
+      (unchanged _ Anything _ (nothing_known (query_outcome run document n k))).0
   many_more document n (suc more) k =
       follows_on (query_outcome run document n k) (query_outcome run document (raise more n) k)
       (query_outcome run document (suc (raise more n)) k) (many_more document n more k)

@@ -5,7 +5,7 @@ use Rattle.xt_names.specs.declared.names.ExprName.{ExprName}
 use Rattle.xt_atoms.specs.Casts.{wrong_type}
 use Rattle.order_group.specs.Rows.{Keyed}
 use Rattle.outcomes.specs.Outcome.{step_outcome, Every, Anything}
-use Rattle.outcomes.proofs.Relations.{each_carried}
+use Rattle.outcomes.proofs.Relations.{each_carried, step_carried}
 use Rattle.sort_meaning.specs.Sorted.{places, key_cell}
 use Rattle.sort_meaning.specs.Related.{ColumnsRelate}
 use Rattle.sort_meaning.proofs.Carried.{every_places, with_row_carried, ordered_carried}
@@ -73,7 +73,7 @@ module _ (c : Carrier) where
       (h.1.1 (bind_all bound e) (bind_all bound f) (c.places.bound e f s bound w) k) (λ xs j all.
       c.carries.next _ _ (Every (λ p. c.good p.value)) (Every (GoodRow c))
       (step_outcome (places xs) j) (step_outcome (places xs) j) _ _
-      (c.carries.same _ _ _ (every_places c.good xs j all)) (λ fs i ones.
+      (step_carried c.like c.rel c.carries _ (places xs) j (every_places c.good xs j all)) (λ fs i ones.
       each_carried c.like c.rel c.carries (λ p. c.good p.value) (GoodRow c) _ _ (λ p m d.
       c.carries.next _ _ (Every c.good) (Every (GoodRow c))
       (step_outcome (typed a.kind (p.value ∷ [])) m)
@@ -98,7 +98,7 @@ module _ (c : Carrier) where
       c.rel (List (Keyed (List Binding))) (Every (GoodRow c)) (kept_tuple t bound e b k)
       (kept_tuple u bound f b k)
   tuple_meets t u g true e f s bound w k = g e f s bound w k
-  tuple_meets t u g false e f s bound w k = c.carries.same _ _ _ tt
+  tuple_meets t u g false e f s bound w k = c.carries.ends _ _ _ _ tt
 
   where_meets : (a b : Option Meaning) → TestMeets c a b →
       ClauseMeets c (where_clause a) (where_clause b)

@@ -6,4 +6,6 @@ pub mod Flow
 pub mod Calls
 pub mod Making
 pub mod Whole
+pub mod Anything
 pub mod Depth
+pub mod Ended

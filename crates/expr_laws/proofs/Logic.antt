@@ -57,11 +57,11 @@ module _ (c : Carrier) where
       c.rel Bool Anything (unless d o t j) (unless d p t j)
   unless_meets d t o p h j =
       by_truth c Anything (beq t d) (Ends t j) (Ends t j) (o j) (p j)
-      (c.carries.same _ _ _ tt) (h j)
+      (c.carries.ends _ _ _ _ tt) (h j)
 
   pub first_meets : (d : Bool) (ms ns : List Meaning) → AllMeet c ms ns → (e f : Env) →
       c.at e f → (k : ℕ) → c.rel Bool Anything (first_of d ms e k) (first_of d ns f k)
-  first_meets d [] [] h e f s k = c.carries.same _ _ _ tt
+  first_meets d [] [] h e f s k = c.carries.ends _ _ _ _ tt
   first_meets d [] (n ∷ ns) h e f s k = absurd h
   first_meets d (m ∷ ms) [] h e f s k = absurd h
   first_meets d (m ∷ ms) (n ∷ ns) h e f s k =
@@ -74,7 +74,7 @@ module _ (c : Carrier) where
       c.rel (List Item) (Every c.good) (as_items o) (as_items p)
   items_meet o p h =
       c.carries.next _ _ Anything (Every c.good) o p _ _ h
-      (λ t j u. c.carries.same _ _ _ (c.kept.truth t))
+      (λ t j u. c.carries.ends _ _ _ _ (c.kept.truth t))
 
   pub or_meets : (ms ns : List Meaning) → AllMeet c ms ns → Meet c (or_of ms) (or_of ns)
   or_meets ms ns h e f s k =
@@ -108,7 +108,7 @@ module _ (c : Carrier) where
       (t u : Env → ℕ → Outcome Bool) → TruthMeet t u → (e f : Env) → c.at e f →
       (xs : List Item) → Every c.good xs → (k : ℕ) →
       c.rel Bool Anything (item_decides d a t e xs k) (item_decides d b u f xs k)
-  item_meets d a b v w t u h e f s [] g k = c.carries.same _ _ _ tt
+  item_meets d a b v w t u h e f s [] g k = c.carries.ends _ _ _ _ tt
   item_meets d a b v w t u h e f s (x ∷ xs) g k =
       rw (← v, ← w)
       (c.carries.next _ _ (Every c.good) Anything (step_outcome (typed a.kind (x ∷ [])) k)

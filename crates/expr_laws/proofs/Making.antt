@@ -5,16 +5,18 @@ use Rattle.xt_tree.specs.declared.trees.Tree.{Tree}
 use Rattle.xt_tree.specs.declared.trees.Tree.TheVariants as tree
 use Rattle.xdm_items.specs.declared.items.Item.{Item}
 use Rattle.function_arguments.specs.Arguments.{and_then as result_then}
-use Rattle.node_builder.specs.Made.{Made, Gives}
-use Rattle.node_builder.specs.Trees.{element_of, document_of, comment_of, pi_of}
+use Rattle.node_builder.specs.Made.{Made, Gives, Fails as Refuses}
+use Rattle.node_builder.specs.Trees.{numbered, element_of, document_of, comment_of, pi_of}
 use Rattle.node_builder.specs.declared.kinds.Duplicates.TheVariants.{Refuse}
-use Rattle.outcomes.specs.Outcome.{Ends, and_then, step_outcome, for_each, Every, Anything}
-use Rattle.outcomes.proofs.Relations.{nothing_known, every_append}
+use Rattle.outcomes.specs.Outcome.{Ends, and_then, step_outcome, for_each, OnEnds, Every}
+use Rattle.outcomes.specs.Outcome.{Anything}
+use Rattle.outcomes.proofs.Relations.{every_append}
 use Rattle.expr_meaning.specs.Env.{Env, Meaning, Program}
 use Rattle.expr_meaning.specs.Names.{NameMeaning, fixed, computed, name_of_items, attribute_name}
-use Rattle.expr_meaning.specs.Names.{target_of_items, element_name_at, attribute_name_at}
+use Rattle.expr_meaning.specs.Names.{target_of_items, target_of_text}
+use Rattle.expr_meaning.specs.Names.{element_name_at, attribute_name_at}
 use Rattle.expr_meaning.specs.Names.{target_at}
-use Rattle.expr_meaning.specs.Making.{made, spaced_text, element_made, document_made}
+use Rattle.expr_meaning.specs.Making.{made, made_outcome, spaced_text, element_made, document_made}
 use Rattle.expr_meaning.specs.Making.{attribute_made, text_node, text_made, comment_made, pi_made}
 use Rattle.expr_meaning.specs.Making.{PartMeaning, chars, enclosed, child, literal_node}
 use Rattle.expr_meaning.specs.Making.{attribute_part, attribute_text}
@@ -55,7 +57,12 @@ AttributesMeet c (x ∷ xs) (y ∷ ys) =
 
 module _ (c : Carrier) (makes : IsMade c) where
   same_made : (t : Made Tree) (k : ℕ) → c.rel (List Item) (Every c.good) (made t k) (made t k)
-  same_made t k = c.carries.same _ _ _ (makes.any t k)
+  same_made t k = by (numbered k t) (makes.any t k)
+    where
+      by : (t : Made Tree) → OnEnds (Every c.good) (made_outcome k t) →
+          c.rel (List Item) (Every c.good) (made_outcome k t) (made_outcome k t)
+      by (Gives t) g = c.carries.ends _ _ _ _ g
+      by (Refuses code) g = c.carries.fails _ _ code
 
   -- content or a value, and then the tree
   content_meets : (t : List Item → Made Tree) (m n : Meaning) → Meet c m n → (e f : Env) →
@@ -74,7 +81,7 @@ module _ (c : Carrier) (makes : IsMade c) where
 
   text_node_meets : (xs : List Item) (k : ℕ) →
       c.rel (List Item) (Every c.good) (text_node xs k) (text_node xs k)
-  text_node_meets [] k = c.carries.same _ _ _ tt
+  text_node_meets [] k = c.carries.ends _ _ _ _ tt
   text_node_meets (x ∷ xs) k = same_made (Gives (tree.Text (spaced_text (x ∷ xs)))) k
 
   pub text_meets : (m n : Meaning) → Meet c m n → Meet c (text_made m) (text_made n)
@@ -86,7 +93,7 @@ module _ (c : Carrier) (makes : IsMade c) where
       c.rel (List ℕ) Anything (target_at a e k) (target_at b f k)
   target_meets (fixed a) (fixed b) h e f s k =
       subst (λ x. c.rel (List ℕ) Anything (target_at (fixed a) e k) (target_at (fixed x) f k)) h
-      (c.carries.same _ _ _ (nothing_known (target_at (fixed a) e k)))
+      (any_step c (target_of_text a.local) k)
   target_meets (fixed a) (computed n) h e f s k = absurd h
   target_meets (computed m) (fixed b) h e f s k = absurd h
   target_meets (computed m) (computed n) h e f s k =
@@ -104,11 +111,11 @@ module _ (c : Carrier) (makes : IsMade c) where
   value_part_meets : (x y : PartMeaning) → PartMeets c x y → (e f : Env) → c.at e f → (k : ℕ) →
       c.rel (List ℕ) Anything (attribute_part e x k) (attribute_part f y k)
   value_part_meets (chars a) (chars b) h e f s k =
-      subst (λ t. c.rel (List ℕ) Anything (Ends a k) (Ends t k)) h (c.carries.same _ _ _ tt)
+      subst (λ t. c.rel (List ℕ) Anything (Ends a k) (Ends t k)) h (c.carries.ends _ _ _ _ tt)
   value_part_meets (enclosed m) (enclosed n) h e f s k =
       c.carries.next _ _ (Every c.good) Anything (m e k) (n f k) _ _ (h e f s k)
-      (λ xs j g. c.carries.same _ _ _ tt)
-  value_part_meets (child m) (child n) h e f s k = c.carries.same _ _ _ tt
+      (λ xs j g. c.carries.ends _ _ _ _ tt)
+  value_part_meets (child m) (child n) h e f s k = c.carries.ends _ _ _ _ tt
   value_part_meets (chars a) (enclosed n) h e f s k = absurd h
   value_part_meets (chars a) (child n) h e f s k = absurd h
   value_part_meets (enclosed m) (chars b) h e f s k = absurd h
@@ -118,24 +125,24 @@ module _ (c : Carrier) (makes : IsMade c) where
 
   value_parts_meet : (xs ys : List PartMeaning) → PartsMeet c xs ys → (e f : Env) → c.at e f →
       (k : ℕ) → c.rel (List ℕ) Anything (attribute_text xs e k) (attribute_text ys f k)
-  value_parts_meet [] [] h e f s k = c.carries.same _ _ _ tt
+  value_parts_meet [] [] h e f s k = c.carries.ends _ _ _ _ tt
   value_parts_meet [] (y ∷ ys) h e f s k = absurd h
   value_parts_meet (x ∷ xs) [] h e f s k = absurd h
   value_parts_meet (x ∷ xs) (y ∷ ys) h e f s k =
       c.carries.next _ _ Anything Anything (attribute_part e x k) (attribute_part f y k) _ _
       (value_part_meets x y h.0 e f s k) (λ t j u.
       c.carries.next _ _ Anything Anything (attribute_text xs e j) (attribute_text ys f j) _ _
-      (value_parts_meet xs ys h.1 e f s j) (λ v i w. c.carries.same _ _ _ tt))
+      (value_parts_meet xs ys h.1 e f s j) (λ v i w. c.carries.ends _ _ _ _ tt))
 
   content_part_meets : (x y : PartMeaning) → PartMeets c x y → (e f : Env) → c.at e f → (k : ℕ) →
       c.rel (List Item) (Every c.good) (content_part e x k) (content_part f y k)
   content_part_meets (chars a) (chars b) h e f s k =
       subst (λ t. c.rel (List Item) (Every c.good) (Ends (literal_node (tree.Text a) ∷ []) k)
       (Ends (literal_node (tree.Text t) ∷ []) k)) h
-      (c.carries.same _ _ _ (makes.literal (tree.Text a), tt))
+      (c.carries.ends _ _ _ _ (makes.literal (tree.Text a), tt))
   content_part_meets (enclosed m) (enclosed n) h e f s k =
       c.carries.next _ _ (Every c.good) (Every c.good) (m e k) (n f k) _ _ (h e f s k)
-      (λ xs j g. c.carries.same _ _ _ (makes.joined xs g))
+      (λ xs j g. c.carries.ends _ _ _ _ (makes.joined xs g))
   content_part_meets (child m) (child n) h e f s k = h e f s k
   content_part_meets (chars a) (enclosed n) h e f s k = absurd h
   content_part_meets (chars a) (child n) h e f s k = absurd h
@@ -147,7 +154,7 @@ module _ (c : Carrier) (makes : IsMade c) where
   content_parts_meet : (xs ys : List PartMeaning) → PartsMeet c xs ys → (e f : Env) → c.at e f →
       (k : ℕ) → c.rel (List Item) (Every c.good) (for_each (content_part e) xs k)
       (for_each (content_part f) ys k)
-  content_parts_meet [] [] h e f s k = c.carries.same _ _ _ tt
+  content_parts_meet [] [] h e f s k = c.carries.ends _ _ _ _ tt
   content_parts_meet [] (y ∷ ys) h e f s k = absurd h
   content_parts_meet (x ∷ xs) [] h e f s k = absurd h
   content_parts_meet (x ∷ xs) (y ∷ ys) h e f s k =
@@ -155,12 +162,12 @@ module _ (c : Carrier) (makes : IsMade c) where
       _ _ (content_part_meets x y h.0 e f s k) (λ us j g.
       c.carries.next _ _ (Every c.good) (Every c.good) (for_each (content_part e) xs j)
       (for_each (content_part f) ys j) _ _ (content_parts_meet xs ys h.1 e f s j)
-      (λ vs i d. c.carries.same _ _ _ (every_append c.good us vs g d)))
+      (λ vs i d. c.carries.ends _ _ _ _ (every_append c.good us vs g d)))
 
   attributes_meet : (xs ys : List AttributeMeaning) → AttributesMeet c xs ys → (e f : Env) →
       c.at e f → (k : ℕ) → c.rel (List Item) (Every c.good) (for_each (direct_attribute e) xs k)
       (for_each (direct_attribute f) ys k)
-  attributes_meet [] [] h e f s k = c.carries.same _ _ _ tt
+  attributes_meet [] [] h e f s k = c.carries.ends _ _ _ _ tt
   attributes_meet [] (y ∷ ys) h e f s k = absurd h
   attributes_meet (x ∷ xs) [] h e f s k = absurd h
   attributes_meet (x ∷ xs) (y ∷ ys) h e f s k =
@@ -170,10 +177,10 @@ module _ (c : Carrier) (makes : IsMade c) where
       (attribute_text y.1 f k) _ _ (value_parts_meet x.1 y.1 h.0.1 e f s k) (λ t j u.
       subst (λ n. c.rel (List Item) (Every c.good)
       (Ends (literal_node (tree.Attr x.0 t) ∷ []) j) (Ends (literal_node (tree.Attr n t) ∷ []) j))
-      h.0.0 (c.carries.same _ _ _ (makes.literal (tree.Attr x.0 t), tt)))) (λ us j g.
+      h.0.0 (c.carries.ends _ _ _ _ (makes.literal (tree.Attr x.0 t), tt)))) (λ us j g.
       c.carries.next _ _ (Every c.good) (Every c.good) (for_each (direct_attribute e) xs j)
       (for_each (direct_attribute f) ys j) _ _ (attributes_meet xs ys h.1 e f s j)
-      (λ vs i d. c.carries.same _ _ _ (every_append c.good us vs g d)))
+      (λ vs i d. c.carries.ends _ _ _ _ (every_append c.good us vs g d)))
 
   pub direct_meets : (name : Name) (xs ys : List AttributeMeaning) → AttributesMeet c xs ys →
       (us vs : List PartMeaning) → PartsMeet c us vs →
@@ -189,7 +196,7 @@ module _ (c : Carrier) (makes : IsMade c) where
     element_name_meets : (a b : NameMeaning) → NameMeets c a b → (e f : Env) → c.at e f →
         (k : ℕ) → c.rel Name Anything (element_name_at p a e k) (element_name_at q b f k)
     element_name_meets (fixed a) (fixed b) h e f s k =
-        subst (λ n. c.rel Name Anything (Ends a k) (Ends n k)) h (c.carries.same _ _ _ tt)
+        subst (λ n. c.rel Name Anything (Ends a k) (Ends n k)) h (c.carries.ends _ _ _ _ tt)
     element_name_meets (fixed a) (computed n) h e f s k = absurd h
     element_name_meets (computed m) (fixed b) h e f s k = absurd h
     element_name_meets (computed m) (computed n) h e f s k =

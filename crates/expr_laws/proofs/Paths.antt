@@ -11,7 +11,7 @@ use Rattle.function_arguments.specs.Arguments.{and_then as result_then}
 use Rattle.lazy_seq.specs.Orders.{in_document_order}
 use Rattle.operator_values.specs.Nodes.{is_node}
 use Rattle.outcomes.specs.Outcome.{step_outcome, Every, Anything}
-use Rattle.outcomes.proofs.Relations.{each_carried}
+use Rattle.outcomes.proofs.Relations.{each_carried, step_carried}
 use Rattle.sort_meaning.specs.Sorted.{Placed, places}
 use Rattle.sort_meaning.proofs.Carried.{every_places}
 use Rattle.expr_meaning.specs.Env.{Env, Meaning, at_focus}
@@ -30,8 +30,8 @@ module _ (c : Carrier) where
 
   alone_meets : (x : Item) → c.good x → (b : Bool) (k : ℕ) →
       c.rel (List Item) (Every c.good) (alone_if x b k) (alone_if x b k)
-  alone_meets x g true k = c.carries.same _ _ _ (g, tt)
-  alone_meets x g false k = c.carries.same _ _ _ tt
+  alone_meets x g true k = c.carries.ends _ _ _ _ (g, tt)
+  alone_meets x g false k = c.carries.ends _ _ _ _ tt
 
   kept_item_meets : (m n : Meaning) → Meet c m n → (e f : Env) → c.at e f → (p : Placed Item)
       (k : ℕ) → c.good p.value →
@@ -49,14 +49,14 @@ module _ (c : Carrier) where
   kept_meets m n h e f s xs g k =
       c.carries.next _ _ (Every (λ p. c.good p.value)) (Every c.good) (step_outcome (places xs) k)
       (step_outcome (places xs) k) _ _
-      (c.carries.same _ _ _ (every_places c.good xs k g)) (λ fs j all.
+      (step_carried c.like c.rel c.carries _ (places xs) k (every_places c.good xs k g)) (λ fs j all.
       each_carried c.like c.rel c.carries (λ p. c.good p.value) c.good (kept_item m e)
       (kept_item n f) (λ p i d. kept_item_meets m n h e f s p i d) fs all j)
 
   pub in_turn_meets : (ms ns : List Meaning) → AllMeet c ms ns → (e f : Env) → c.at e f →
       (xs : List Item) → Every c.good xs → (k : ℕ) →
       c.rel (List Item) (Every c.good) (kept_in_turn ms e xs k) (kept_in_turn ns f xs k)
-  in_turn_meets [] [] h e f s xs g k = c.carries.same _ _ _ g
+  in_turn_meets [] [] h e f s xs g k = c.carries.ends _ _ _ _ g
   in_turn_meets [] (n ∷ ns) h e f s xs g k = absurd h
   in_turn_meets (m ∷ ms) [] h e f s xs g k = absurd h
   in_turn_meets (m ∷ ms) (n ∷ ns) h e f s xs g k =
@@ -78,7 +78,7 @@ module _ (c : Carrier) where
       (λ p g. c.kept.step axis test p.value g) e f s k) (λ xs j g.
       c.carries.next _ _ (Every c.good) (Every c.good) (kept_in_turn ms e xs j)
       (kept_in_turn ns f xs j) _ _ (in_turn_meets ms ns h e f s xs g j)
-      (λ ys i d. c.carries.same _ _ _ (c.kept.ordered ys d)))
+      (λ ys i d. c.carries.ends _ _ _ _ (c.kept.ordered ys d)))
 
   value_known : (xs : List Item) → Every c.good xs → (b d : Bool) →
       OnValue (Every c.good) (if b then Ok (in_document_order xs)
@@ -91,8 +91,9 @@ module _ (c : Carrier) where
       c.rel (List (Placed Item)) (Every (λ p. c.good p.value))
       (step_outcome (result_then (if b then Ok xs else Err (Dynamic XPTY0019)) places) k)
       (step_outcome (result_then (if b then Ok xs else Err (Dynamic XPTY0019)) places) k)
-  spots_by xs g true k = c.carries.same _ _ _ (every_places c.good xs k g)
-  spots_by xs g false k = c.carries.same _ _ _ tt
+  spots_by xs g true k =
+      step_carried c.like c.rel c.carries _ (places xs) k (every_places c.good xs k g)
+  spots_by xs g false k = c.carries.fails _ _ _
 
   spots_meet : (xs : List Item) → Every c.good xs → (k : ℕ) →
       c.rel (List (Placed Item)) (Every (λ p. c.good p.value))

@@ -4,7 +4,7 @@ use Rattle.std.specs.Prelude.{Bool, true, false, if◌then◌else◌, Result, Ok
 use Rattle.xt_names.specs.declared.codes.Code.{Code}
 use Rattle.outcomes.specs.Outcome.{Outcome, step_outcome, OnEnds}
 use Rattle.outcomes.specs.Outcome.{Anything}
-use Rattle.outcomes.proofs.Relations.{nothing_known}
+use Rattle.outcomes.proofs.Relations.{nothing_known, step_carried}
 use Rattle.expr_laws.specs.Carrier.{Carrier, OnValue}
 
 pub step_known : {A : Type 0} (P : A → Type 0) (v : Result A Code) → OnValue P v → (k : ℕ) →
@@ -16,12 +16,13 @@ module _ (c : Carrier) where
   -- the same step on both sides
   pub same_step : {A : Type 0} (P : A → Type 0) (v : Result A Code) → OnValue P v → (k : ℕ) →
       c.rel A P (step_outcome v k) (step_outcome v k)
-  same_step P v h k = c.carries.same _ _ _ (step_known P v h k)
+  same_step P v h k = step_carried c.like c.rel c.carries P v k (step_known P v h k)
 
   -- .. of which nothing is known
   pub any_step : {A : Type 0} (v : Result A Code) (k : ℕ) →
       c.rel A Anything (step_outcome v k) (step_outcome v k)
-  any_step v k = c.carries.same _ _ _ (nothing_known (step_outcome v k))
+  any_step v k =
+      step_carried c.like c.rel c.carries Anything v k (nothing_known (step_outcome v k))
 
   pub by_truth : {A : Type 0} (P : A → Type 0) (b : Bool) (o p q s : Outcome A) →
       c.rel A P o p → c.rel A P q s →

@@ -15,7 +15,7 @@ use Rattle.expr_laws.proofs.Steps.{same_step}
 
 module _ (c : Carrier) where
   pub just_meets : (xs : List Item) → Every c.good xs → Meet c (just xs) (just xs)
-  just_meets xs g e f s k = c.carries.same _ _ _ g
+  just_meets xs g e f s k = c.carries.ends _ _ _ _ g
 
   pub variable_meets : (p q : Program) → ProgramsMeet c p q → (name : ExprName) →
       Meet c (variable p name) (variable q name)
@@ -48,7 +48,7 @@ module _ (c : Carrier) where
 
   pub comma_meets : (ms ns : List Meaning) → AllMeet c ms ns →
       Meet c (comma_of ms) (comma_of ns)
-  comma_meets [] [] h e f s k = c.carries.same _ _ _ tt
+  comma_meets [] [] h e f s k = c.carries.ends _ _ _ _ tt
   comma_meets [] (n ∷ ns) h e f s k = absurd h
   comma_meets (m ∷ ms) [] h e f s k = absurd h
   comma_meets (m ∷ ms) (n ∷ ns) h e f s k =
@@ -56,7 +56,7 @@ module _ (c : Carrier) where
       (λ xs j g.
       c.carries.next _ _ (Every c.good) (Every c.good) (comma_of ms e j) (comma_of ns f j) _ _
       (comma_meets ms ns h.1 e f s j)
-      (λ ys i d. c.carries.same _ _ _ (every_append c.good xs ys g d)))
+      (λ ys i d. c.carries.ends _ _ _ _ (every_append c.good xs ys g d)))
 
   pub unary_meets : (value : List Item → Result (List Item) Code) → Keeps c.good value →
       (a b : Meaning) → Meet c a b → Meet c (unary value a) (unary value b)

@@ -1,2 +1,3 @@
 pub mod Carrier
 pub mod Depth
+pub mod Ended

@@ -1,9 +1,9 @@
 -- What there is to know of a relation between outcomes: proved once of each relation, and used for all.
 use Rattle.std.proofs.Common.{ℕ, ◌++◌, List, [], ◌∷◌, refl, sym, subst}
-use Rattle.std.specs.Prelude.{map}
+use Rattle.std.specs.Prelude.{map, Result, Ok, Err}
 use Rattle.xt_names.specs.declared.codes.Code.{Code}
 use Rattle.outcomes.specs.Outcome.{Outcome, Ends, Fails, Deep, and_then, for_each, OnEnds, Every}
-use Rattle.outcomes.specs.Outcome.{Anything}
+use Rattle.outcomes.specs.Outcome.{Anything, step_outcome}
 use Rattle.outcomes.specs.Follow.{any_code, same_code, FailsLike, Follows, Relation, there, back}
 use Rattle.outcomes.specs.Follow.{deeper, IsCarrying}
 
@@ -11,7 +11,8 @@ module _ (like : Code → Code → Type 0) (alike : (c : Code) → like c c) whe
   abbrev Carried : Relation
   Carried A P o p = Follows like o p × OnEnds P o
 
-  carried_same : (A : Type 0) (P : A → Type 0) (o : Outcome A) → OnEnds P o → Carried A P o o
+  -- an outcome is carried to itself
+  pub carried_same : (A : Type 0) (P : A → Type 0) (o : Outcome A) → OnEnds P o → Carried A P o o
   carried_same A P (Ends v k) h = (refl, h)
   carried_same A P (Fails c) h = (alike c, tt)
   carried_same A P Deep h = (tt, tt)
@@ -39,7 +40,8 @@ module _ (like : Code → Code → Type 0) (alike : (c : Code) → like c c) whe
 
   pub follows_carries : IsCarrying like Carried
   follows_carries = record {
-    same = carried_same;
+    ends = λ A P v k h. carried_same A P (Ends v k) h;
+    fails = λ A P c. carried_same A P (Fails c) tt;
     errors = λ A P c d h. (h, tt);
     next = carried_next;
     also = λ A P Q o p r q. (r.0, q);
@@ -47,7 +49,8 @@ module _ (like : Code → Code → Type 0) (alike : (c : Code) → like c c) whe
 
   pub followed_carries : IsCarrying (λ c d. like d c) (λ A P o p. Carried A P p o)
   followed_carries = record {
-    same = carried_same;
+    ends = λ A P v k h. carried_same A P (Ends v k) h;
+    fails = λ A P c. carried_same A P (Fails c) tt;
     errors = λ A P c d h. (h, tt);
     next = λ A B P Q o p f g. carried_next A B P Q p o g f;
     also = λ A P Q o p r q. (r.0, value_back A Q o p r.0 q);
@@ -79,15 +82,21 @@ nothing_known (Fails c) = tt
 nothing_known Deep = tt
 
 module _ (like : Code → Code → Type 0) (rel : Relation) (r : IsCarrying like rel) where
+  -- the same step on both sides
+  pub step_carried : {A : Type 0} (P : A → Type 0) (v : Result A Code) (k : ℕ) →
+      OnEnds P (step_outcome v k) → rel A P (step_outcome v k) (step_outcome v k)
+  step_carried P (Ok v) k h = r.ends _ P v k h
+  step_carried P (Err c) k h = r.fails _ P c
+
   pub each_carried : {A B : Type 0} (P : A → Type 0) (Q : B → Type 0)
       (f g : A → ℕ → Outcome (List B)) →
       ((x : A) (k : ℕ) → P x → rel _ (Every Q) (f x k) (g x k)) →
       (xs : List A) → Every P xs → (k : ℕ) → rel _ (Every Q) (for_each f xs k) (for_each g xs k)
-  each_carried P Q f g h [] e k = r.same _ _ _ tt
+  each_carried P Q f g h [] e k = r.ends _ _ _ _ tt
   each_carried P Q f g h (x ∷ xs) e k =
       r.next _ _ (Every Q) (Every Q) (f x k) (g x k) _ _ (h x k e.0) (λ ys j ey.
       r.next _ _ (Every Q) (Every Q) (for_each f xs j) (for_each g xs j) _ _
-      (each_carried P Q f g h xs e.1 j) (λ zs i ez. r.same _ _ _ (every_append Q ys zs ey ez)))
+      (each_carried P Q f g h xs e.1 j) (λ zs i ez. r.ends _ _ _ _ (every_append Q ys zs ey ez)))
 
 every_anything : {A : Type 0} (xs : List A) → Every Anything xs
 every_anything [] = tt

@@ -37,9 +37,11 @@ abbrev pub deeper : Relation
 deeper A P o p = Follows same_code o p × OnEnds P o
 
 -- What is asked of a relation, so that a form of expressions or instructions is carried through it
--- where its parts are: proved once of each relation, and used for all forms.
+-- where its parts are: proved once of each relation, and used for all forms. Nothing is asked of Deep
+-- alone, so that never to be Deep is such a relation.
 pub record IsCarrying (like : Code → Code → Type 0) (rel : Relation) : Type 1 where
-  pub same : (A : Type 0) (P : A → Type 0) (o : Outcome A) → OnEnds P o → rel A P o o
+  pub ends : (A : Type 0) (P : A → Type 0) (v : A) (k : ℕ) → P v → rel A P (Ends v k) (Ends v k)
+  pub fails : (A : Type 0) (P : A → Type 0) (c : Code) → rel A P (Fails c) (Fails c)
   pub errors : (A : Type 0) (P : A → Type 0) (c d : Code) → like c d →
       rel A P (Fails c) (Fails d)
   pub next : (A B : Type 0) (P : A → Type 0) (Q : B → Type 0) (o p : Outcome A)

@@ -9,7 +9,7 @@ use Rattle.order_group.specs.Rows.{Keyed, mixed_column, in_order, stands_before}
 use Rattle.order_group.specs.Stable.{put_in, stable_order}
 use Rattle.outcomes.specs.Outcome.{Outcome, step_outcome, for_each, OnEnds, Every, Anything}
 use Rattle.outcomes.specs.Follow.{Relation, IsCarrying}
-use Rattle.outcomes.proofs.Relations.{every_map, each_carried}
+use Rattle.outcomes.proofs.Relations.{step_carried, every_map, each_carried}
 use Rattle.sort_meaning.specs.Sorted.{Column, row_of, with_row, directions, unless_mixed, ordered}
 use Rattle.sort_meaning.specs.Sorted.{sorted, Placed, places, placed, placed_from, values}
 use Rattle.sort_meaning.specs.Sorted.{sorted_places, visit}
@@ -50,20 +50,20 @@ module _ (like : Code → Code → Type 0) (rel : Relation) (r : IsCarrying like
   row_carried : {A : Type 0} (P : A → Type 0) (cs ds : List (Column A)) →
       ColumnsRelate rel P cs ds → (x : A) (k : ℕ) → P x → rel _ Anything (row_of cs x k)
       (row_of ds x k)
-  row_carried P [] [] h x k p = r.same _ _ _ tt
+  row_carried P [] [] h x k p = r.ends _ _ _ _ tt
   row_carried P [] (d ∷ ds) h x k p = absurd h
   row_carried P (c ∷ cs) [] h x k p = absurd h
   row_carried P (c ∷ cs) (d ∷ ds) h x k p =
       r.next _ _ Anything Anything (c.key x k) (d.key x k) _ _ (h.0 x k p) (λ cell j u.
       r.next _ _ Anything Anything (row_of cs x j) (row_of ds x j) _ _
-      (row_carried P cs ds h.2 x j p) (λ cells i w. r.same _ _ _ tt))
+      (row_carried P cs ds h.2 x j p) (λ cells i w. r.ends _ _ _ _ tt))
 
   pub with_row_carried : {A : Type 0} (P : A → Type 0) (cs ds : List (Column A)) →
       ColumnsRelate rel P cs ds → (x : A) (k : ℕ) → P x → rel _ (Every (λ row. P row.value))
       (with_row cs x k) (with_row ds x k)
   with_row_carried P cs ds h x k p =
       r.next _ _ Anything _ (row_of cs x k) (row_of ds x k) _ _ (row_carried P cs ds h x k p)
-      (λ cells j u. r.same _ _ _ (p, tt))
+      (λ cells j u. r.ends _ _ _ _ (p, tt))
 
   directions_same : {A : Type 0} (P : A → Type 0) (cs ds : List (Column A)) →
       ColumnsRelate rel P cs ds → directions cs ≡ directions ds
@@ -74,7 +74,7 @@ module _ (like : Code → Code → Type 0) (rel : Relation) (r : IsCarrying like
 
   mixed_carried : {A : Type 0} (P : A → Type 0) (c : Option ℕ) (m n : Code) → like m n → (v : A) →
       P v → (k : ℕ) → rel _ P (unless_mixed c m v k) (unless_mixed c n v k)
-  mixed_carried P None m n h v p k = r.same _ _ _ p
+  mixed_carried P None m n h v p k = r.ends _ _ _ _ p
   mixed_carried P (Some c) m n h v p k = r.errors _ _ m n h
 
   pub ordered_carried : {A : Type 0} (P : A → Type 0) (m n : Code) → like m n →
@@ -105,10 +105,10 @@ module _ (like : Code → Code → Type 0) (rel : Relation) (r : IsCarrying like
       (sorted_places m cs xs k) (sorted_places n ds xs k)
   places_carried P m n h cs ds e xs g k =
       r.next _ _ (Every (λ f. P f.value)) _ (step_outcome (places xs) k)
-      (step_outcome (places xs) k) _ _ (r.same _ _ _ (every_places P xs k g)) (λ fs j good.
+      (step_outcome (places xs) k) _ _ (step_carried like rel r _ (places xs) k (every_places P xs k g)) (λ fs j good.
       r.next _ _ (Every (λ f. P f.value)) _ (sorted m cs fs j) (sorted n ds fs j) _ _
       (sorted_carried (λ f. P f.value) m n h cs ds e fs good j) (λ gs i more.
-      r.same _ _ _ (every_placed P 1 (length (values gs)) (values gs)
+      r.ends _ _ _ _ (every_placed P 1 (length (values gs)) (values gs)
       (every_map P (λ f. f.value) gs more))))
 
   pub visit_carried : {A B : Type 0} (P : A → Type 0) (Q : B → Type 0) (m n : Code) → like m n →

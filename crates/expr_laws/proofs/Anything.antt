@@ -1,0 +1,86 @@
+-- Where nothing is asked of items.
+use Rattle.std.proofs.Common.{◌≡◌, List, [], ◌∷◌, ap}
+use Rattle.std.specs.Prelude.{Result, Ok, Err}
+use Rattle.xt_names.specs.declared.codes.Code.{Code}
+use Rattle.function_arguments.specs.Answers.{of_integer, of_truth}
+use Rattle.lazy_seq.specs.Orders.{in_document_order}
+use Rattle.outcomes.specs.Outcome.{Outcome, Ends, Fails, Deep, OnEnds, Every, Anything}
+use Rattle.outcomes.specs.Follow.{Relation, IsCarrying}
+use Rattle.expr_meaning.specs.Env.{bind_all, at_focus}
+use Rattle.expr_meaning.specs.Calls.{members_of, key_of}
+use Rattle.expr_meaning.specs.Making.{joined_atoms}
+use Rattle.expr_laws.specs.Carrier.{Carrier, OnValue, IsKept, IsMade, AreAlike}
+
+all_any : {A : Type 0} (xs : List A) → Every Anything xs
+all_any [] = tt
+all_any (x ∷ xs) = (tt, all_any xs)
+
+pub any_value : {A : Type 0} (v : Result (List A) Code) → OnValue (Every Anything) v
+any_value (Ok xs) = all_any xs
+any_value (Err code) = tt
+
+pub any_list : {A : Type 0} (o : Outcome (List A)) → OnEnds (Every Anything) o
+any_list (Ends xs k) = all_any xs
+any_list (Fails code) = tt
+any_list Deep = tt
+
+pub any_kept : IsKept Anything
+any_kept = record {
+  truth = λ t. all_any (of_truth t);
+  integer = λ n. all_any (of_integer n);
+  general = λ op xs ys g h. any_value _;
+  single = λ op xs ys g h. any_value _;
+  is = λ xs ys g h. any_value _;
+  before = λ xs ys g h. any_value _;
+  after = λ xs ys g h. any_value _;
+  range = λ xs ys g h. any_value _;
+  arithmetic = λ op xs ys g h. any_value _;
+  negated = λ xs g. any_value _;
+  signed = λ xs g. any_value _;
+  union = λ xs ys g h. any_value _;
+  intersect = λ xs ys g h. any_value _;
+  except = λ xs ys g h. any_value _;
+  instance = λ type xs g. any_value _;
+  treated = λ type xs g. any_value _;
+  castable = λ type empty xs g. any_value _;
+  cast = λ type empty xs g. any_value _;
+  root = λ x g. any_value _;
+  step = λ axis wanted x g. any_value _;
+  ordered = λ xs g. all_any (in_document_order xs);
+  library = λ f focus args g. any_value _;
+}
+
+pub same_places : AreAlike Anything (λ e f. e ≡ f)
+same_places = record {
+  bound = λ e f h bs g. ap (λ x. bind_all bs x) h;
+  focused = λ e f h p g. ap (λ x. at_focus x p) h;
+  focus = λ e f h. ap (λ x. x.focus) h;
+  item = λ e f h p g. tt;
+  state = λ e f h. ap (λ x. x.state) h;
+  current = λ e f h. any_value _;
+  members = λ e f h. all_any (members_of e.state.group);
+  key = λ e f h. all_any (key_of e.state.group);
+}
+
+module _ (like : Code → Code → Type 0) (alike : (code : Code) → like code code) (rel : Relation)
+    (carries : IsCarrying like rel) where
+  -- the relation, looked at in the same place on both sides
+  abbrev pub in_one_place : Carrier
+  in_one_place = record {
+    like = like;
+    alike = alike;
+    rel = rel;
+    carries = carries;
+    good = Anything;
+    kept = any_kept;
+    at = λ e f. e ≡ f;
+    places = same_places;
+  }
+
+  pub any_made : IsMade in_one_place
+  any_made = record {
+    any = λ t k. any_list _;
+    atom = λ a. tt;
+    literal = λ t. tt;
+    joined = λ xs g. all_any (joined_atoms xs);
+  }
