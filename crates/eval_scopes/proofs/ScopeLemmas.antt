@@ -1,6 +1,7 @@
 -- Variables within others.
 use Rattle.std.proofs.Common.{◌≡◌, ℕ, zero, suc, ◌-◌, ◌<◌, ◌≤◌, refl, ap, ◌∙◌, sym, arith, List}
 use Rattle.std.proofs.Common.{[], ◌∷◌, ◌++◌, append_assoc, length, take, get_or}
+use Rattle.std.proofs.Math.Seq.{take-length}
 use Rattle.std.specs.Prelude.{Bool, true, false, if◌then◌else◌, Option, Some, None}
 use Rattle.xt_names.specs.declared.names.ExprName.{ExprName}
 use Rattle.xdm_items.specs.declared.items.Item.{Item}
@@ -50,39 +51,48 @@ found_within outer vs name =
     ap (λ bs. look_up bs name) (pushed_append outer vs)
     ∙ look_up_append (pushed_on [] vs) outer name
 
-front_and_last : (vs : List Variable) (v d : Variable) (n : ℕ) → length vs ≡ suc n →
-    v ≡ get_or vs n d → vs ≡ take n vs ++ v ∷ []
-front_and_last [] v d n l e = absurd (omega (arith, l))
-front_and_last (w ∷ []) v d zero l e = ap (λ x. x ∷ []) (sym e)
-front_and_last (w ∷ x ∷ vs) v d zero l e = absurd (omega (arith, l))
-front_and_last (w ∷ vs) v d (suc n) l e =
-    ap (λ xs. w ∷ xs) (front_and_last vs v d n (omega (arith, l)) e)
+taken_next : (vs : List Variable) (i : ℕ) (v : Variable) → i < length vs → v ≡ get_or vs i v →
+    take (suc i) vs ≡ take i vs ++ v ∷ []
+taken_next [] i v h e = absurd (omega (arith, h))
+taken_next (w ∷ vs) zero v h e = ap (λ x. x ∷ []) (sym e)
+taken_next (w ∷ vs) (suc i) v h e =
+    ap (λ xs. w ∷ xs) (taken_next vs i v (omega (arith, h)) e)
 
--- the last variable is looked at first
-module _ (vs : List Variable) (v d : Variable) (name : ExprName) (long : 1 ≤ length vs)
-    (is : v ≡ get_or vs (length vs - 1) d) where
-  parted : look_up (pushed_on [] vs) name
-      ≡ look_up (binding_of v ∷ pushed_on [] (take (length vs - 1) vs)) name
+-- the last of the variables that are left is looked at first
+module _ (vs : List Variable) (n : ℕ) (v : Variable) (name : ExprName) (some : 0 < n)
+    (within : n ≤ length vs) (is : v ≡ get_or vs (n - 1) v)
+    (left : look_up (pushed_on [] (take n vs)) name ≡ look_up (pushed_on [] vs) name) where
+  parted : look_up (binding_of v ∷ pushed_on [] (take (n - 1) vs)) name
+      ≡ look_up (pushed_on [] vs) name
   parted =
-      ap (λ xs. look_up (pushed_on [] xs) name)
-      (front_and_last vs v d (length vs - 1) (omega (arith, long)) is)
-      ∙ ap (λ bs. look_up bs name) (pushed_last [] (take (length vs - 1) vs) v)
+      let k : suc (n - 1) ≡ n = omega (arith, some) in
+      ap (λ bs. look_up bs name) (sym (pushed_last [] (take (n - 1) vs) v))
+      ∙ ap (λ xs. look_up (pushed_on [] xs) name)
+      (sym (taken_next vs (n - 1) v (omega (arith, some, within)) is))
+      ∙ ap (λ m. look_up (pushed_on [] (take m vs)) name) k
+      ∙ left
 
   pub last_found : same_name v.name name ≡ true →
       Some (given v.value.moves) ≡ look_up (pushed_on [] vs) name
   unfolding look_up
-  last_found h = rw (parted, h) refl
+  last_found h = rw h at parted
 
   pub last_passed : same_name v.name name ≡ false →
-      look_up (pushed_on [] (take (length vs - 1) vs)) name ≡ look_up (pushed_on [] vs) name
+      look_up (pushed_on [] (take (n - 1) vs)) name ≡ look_up (pushed_on [] vs) name
   unfolding look_up
-  last_passed h = rw (parted, h) refl
+  last_passed h = rw h at parted
 
-pub none_found : (vs : List Variable) (name : ExprName) → length vs < 1 →
+pub all_left : (vs : List Variable) (name : ExprName) →
+    look_up (pushed_on [] (take (length vs) vs)) name ≡ look_up (pushed_on [] vs) name
+all_left vs name = ap (λ xs. look_up (pushed_on [] xs) name) (take-length vs)
+
+pub none_found : (vs : List Variable) (n : ℕ) (name : ExprName) → n ≤ 0 →
+    look_up (pushed_on [] (take n vs)) name ≡ look_up (pushed_on [] vs) name →
     None ≡ look_up (pushed_on [] vs) name
 unfolding look_up
-none_found [] name h = refl
-none_found (v ∷ vs) name h = absurd (omega (arith, h))
+none_found vs n name h left =
+    let e : n ≡ 0 = omega (arith, h) in
+    rw e at left
 
 pub none_outermost : (s : Scope) (name : ExprName) → s ≡ Outermost
     → None ≡ look_up (bindings s) name

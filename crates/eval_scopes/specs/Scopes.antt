@@ -2,7 +2,6 @@
 use Rattle.std.specs.Prelude.{ℕ, List, [], ◌∷◌, Option, Some, None, Result, Ok, Err}
 use Rattle.std.specs.Borrow.{Bor}
 use Rattle.xt_names.specs.declared.codes.Code.{Code}
-use Rattle.xt_names.specs.declared.names.Binding.{Binding as Namespace}
 use Rattle.xt_atoms.specs.declared.atoms.Atom.{Atom as AtomValue}
 use Rattle.xdm_items.specs.declared.items.Item.{Item}
 use Rattle.node_walks.specs.Moves.{given}

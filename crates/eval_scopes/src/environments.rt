@@ -1,4 +1,8 @@
 // What an expression can read.
+ghost use Rattle.std.specs.Prelude.{◌≡◌, []};
+ghost use Rattle.expr_meaning.specs.Env.{no_state as without_state};
+ghost use Rattle.eval_scopes.specs.Scopes.{bindings, state_of};
+
 use crate::scopes::Scope;
 use doc_set::DocSet;
 use eval_values::Place;
@@ -35,6 +39,20 @@ pub struct State<'a> {
     pub mode: u32,
     pub group: Option<&'a Group<'a>>,
     pub tunnel: &'a Scope<'a>,
+}
+
+/// What a query has of it, which is nothing (XQuery 1.0, 2.1.2). The scope is one without variables.
+pub fn no_state<'a>(outermost: &'a Scope<'a>) -> State<'a>
+    requires { bindings outermost.now ≡ [] }
+    ensures { state_of result ≡ without_state }
+{
+    State {
+        current: None,
+        rule: None,
+        mode: 0,
+        group: None,
+        tunnel: outermost,
+    }
 }
 
 /// What an expression can read (XPath 2.0, 2.1.2).

@@ -14,9 +14,9 @@ mod faults;
 mod leaves;
 mod scopes;
 
-pub use environments::{Env, Fixed, Focus, Group, State};
+pub use environments::{Env, Fixed, Focus, Group, State, no_state};
 pub use faults::EvalFault;
 pub use leaves::{
     context_item, document_of, document_root, document_value, variable, variable_list,
 };
-pub use scopes::{Scope, Variable, look_up};
+pub use scopes::{Scope, Variable, copy_variables, look_up};

@@ -1,9 +1,10 @@
 // The variables that an expression can read.
-ghost use Rattle.std.specs.Prelude.{◌≡◌, []};
+ghost use Rattle.std.specs.Prelude.{◌≡◌, [], IfOk};
 ghost use Rattle.expr_meaning.specs.Env.{look_up};
 ghost use Rattle.eval_scopes.specs.Scopes.{bindings, value_behind, pushed_on};
 
 use lazy_seq::Seq;
+use std::alloc::{AllocError, Global};
 use xt_names::ExprName;
 
 /// A variable with its value.
@@ -11,6 +12,26 @@ use xt_names::ExprName;
 pub struct Variable {
     pub name: ExprName,
     pub value: Seq,
+}
+
+fn copy_variable(variable: &Variable) -> Result<Variable, AllocError>
+    ensures { IfOk result (λ copy. copy ≡ variable.now) }
+{
+    Ok(Variable {
+        name: variable.name.copy()?,
+        value: variable.value.copy()?,
+    })
+}
+
+/// The same variables; their values share what they hold (XPath 2.0, 3.1.2).
+pub fn copy_variables(alloc: Global, variables: &[Variable]) -> Result<Vec<Variable>, AllocError>
+    ensures { IfOk result (λ copy. copy.items ≡ variables.now) }
+{
+    let mut copy = Vec::with_capacity(alloc, variables.len())?;
+    for variable in variables {
+        copy.push(copy_variable(variable)?)?;
+    }
+    Ok(copy)
 }
 
 /// The variables in scope at a place (XPath 2.0, 3.1.2).
@@ -43,14 +64,13 @@ pub fn look_up<'a>(scope: &'a Scope<'a>, name: &ExprName) -> Option<&'a Seq>
 fn look_up_last<'a>(variables: &'a [Variable], name: &ExprName) -> Option<&'a Seq>
     ensures { value_behind result ≡ look_up (pushed_on [] variables.entry.now) name.now }
 {
-    match variables {
-        [] => None,
-        [more @ .., last] => {
-            if last.name == *name {
-                Some(&last.value)
-            } else {
-                look_up_last(more, name)
-            }
+    let mut left = variables.len();
+    while left > 0 {
+        left -= 1;
+        let variable = &variables[left];
+        if variable.name == *name {
+            return Some(&variable.value);
         }
     }
+    None
 }
