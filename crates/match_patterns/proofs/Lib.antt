@@ -1,3 +1,4 @@
 mod StepLemmas
 mod MemberLemmas
+mod AboveLemmas
 mod FreeLemmas

@@ -31,14 +31,14 @@ path_eq [] (j ∷ q) = refl
 path_eq (i ∷ p) [] = refl
 path_eq (i ∷ p) (j ∷ q) = ap (λ (b : Bool). nat_eq i j && b) (path_eq p q)
 
-path_same : (p : List ℕ) → same_path p p ≡ true
+pub path_same : (p : List ℕ) → same_path p p ≡ true
 unfolding same_path
 path_same [] = refl
 path_same (i ∷ p) = rw (eq-eqb i i refl, path_same p) refl
 
 -- a node that passes a test is there
 
-below_there : (o : Option Tree) (a : Option ℕ) (along : Axis) (wanted : Test) → tree_passes along wanted (subtree_below o a) ≡ true → has_attribute o a ≡ true
+pub below_there : (o : Option Tree) (a : Option ℕ) (along : Axis) (wanted : Test) → tree_passes along wanted (subtree_below o a) ≡ true → has_attribute o a ≡ true
 unfolding tree_passes
 below_there None None along wanted h = absurd cc
 below_there None (Some i) along wanted h = absurd cc
@@ -72,11 +72,11 @@ on_forward_axis along p s r h o =
 
 -- the last step of the way down
 
-take_all : (xs : List ℕ) → take (length xs) xs ≡ xs
+pub take_all : {X : Type 0} (xs : List X) → take (length xs) xs ≡ xs
 take_all [] = refl
-take_all (x ∷ xs) = ap (λ (z : List ℕ). x ∷ z) (take_all xs)
+take_all (x ∷ xs) = ap (λ z. x ∷ z) (take_all xs)
 
-last_of : (i : ℕ) (path : List ℕ) → i ∷ path ≡ take (length path) (i ∷ path) ++ get_or (i ∷ path) (length path) 0 ∷ []
+pub last_of : (i : ℕ) (path : List ℕ) → i ∷ path ≡ take (length path) (i ∷ path) ++ get_or (i ∷ path) (length path) 0 ∷ []
 last_of i path =
     let l : length path < length (i ∷ path) = omega arith in
     let e : length path + 1 ≡ length (i ∷ path) = omega arith in

@@ -6,6 +6,7 @@
 //! Example: `b/c[2]` matches the second `c` of those that a `b` has as children.
 #![tactic(auto)]
 
+mod findings;
 mod patterns;
 mod steps;
 
