@@ -9,7 +9,9 @@
 #![tactic(auto)]
 
 mod indexes;
+mod laws;
 mod merges;
 mod nodes;
 
 pub use indexes::{KeyIndex, KeyPair};
+pub use laws::look_ups_stand_in_document_order;
