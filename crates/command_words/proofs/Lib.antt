@@ -2,6 +2,7 @@ pub mod ApartLemmas
 pub mod DepthLemmas
 pub mod DocumentLemmas
 pub mod ListLemmas
+pub mod OnceLemmas
 pub mod OperandLemmas
 pub mod ParameterLemmas
 pub mod SaysLemmas

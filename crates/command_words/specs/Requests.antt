@@ -30,6 +30,11 @@ pub data Asked : Type 0 where
   Transform : (sheet : List ℕ) (inputs : Inputs) → Asked
   Query : (query : List ℕ) (inputs : Inputs) → Asked
 
+-- on what a request runs
+abbrev pub inputs_asked : Asked → Inputs
+inputs_asked (Transform sheet inputs) = inputs
+inputs_asked (Query query inputs) = inputs
+
 -- the number that digits spell, after the number so far; the code of `0` is 48
 abbrev pub number_on : ℕ → List ℕ → ℕ
 number_on n [] = n

@@ -24,6 +24,6 @@ mod parameters;
 mod pieces;
 mod requests;
 
-pub use laws::words_say_one;
+pub use laws::{requests_name_once, words_say_one};
 pub use parameters::Parameter;
 pub use requests::{Inputs, Request, read_request};
