@@ -1,0 +1,155 @@
+// Expressions that decide.
+ghost use Rattle.std.specs.Prelude.{map};
+ghost use Rattle.eval_scopes.specs.Answers.{Answers};
+ghost use Rattle.eval_scopes.specs.Scopes.{env_of, program_of};
+ghost use Rattle.expr_eval.specs.Serves.{Serves};
+ghost use Rattle.expr_meaning.specs.Meaning.{outcome};
+ghost use Rattle.expr_meaning.specs.Logic.{truth_at, first_of, choice_of, quantified, item_decides};
+ghost use Rattle.eval_steps.specs.Parts.{arm_outcome, bind_outcome};
+
+use crate::hosts::{Callee, Host};
+use eval_scopes::{Env, EvalFault, Scope};
+use eval_steps::{bound_item, truth_of};
+use xdm_items::{Item, ItemList};
+use xt_names::ExprName;
+use xt_syntax::{Arm, Bind, Expr};
+
+impl<'a, G: Callee, F: Fn(&ExprName, &[ItemList], &mut u64) -> Result<ItemList, EvalFault>> Host<
+    'a,
+    G,
+    F,
+> {
+    /// The truth value of an expression (XPath 2.0, 2.4.3).
+    #[cycle(eval)]
+    #[inline(never)]
+    pub(crate) fn eval_truth(&self, env: &Env, next: &mut u64, e: &Expr) -> Result<bool, EvalFault>
+        requires callable { F.IsAlwaysCallable self.now.calls }
+        requires serves { Serves (F.post self.now.calls) (G.calls self.now.given) }
+        ensures { let p = program_of self.now.fixed (G.calls self.now.given)
+            (G.keys self.now.given) in
+            Answers result next.new (truth_at (outcome p e.now) (env_of env.now) next.old) }
+    {
+        let list = self.eval(env, next, e)?;
+        truth_of(list)
+    }
+
+    /// Truth values in order until one is the decisive one (XPath 2.0, 3.6).
+    #[cycle(eval)]
+    #[inline(never)]
+    pub(crate) fn eval_first(
+        &self,
+        env: &Env,
+        next: &mut u64,
+        decisive: bool,
+        all: &[Expr],
+    ) -> Result<bool, EvalFault>
+        requires callable { F.IsAlwaysCallable self.now.calls }
+        requires serves { Serves (F.post self.now.calls) (G.calls self.now.given) }
+        ensures { let p = program_of self.now.fixed (G.calls self.now.given)
+            (G.keys self.now.given) in
+            Answers result next.new (first_of decisive (map (outcome p) all.now) (env_of env.now)
+            next.old) }
+    {
+        for e in all {
+            let truth = self.eval_truth(env, next, e)?;
+            if truth == decisive {
+                return Ok(decisive);
+            }
+        }
+        Ok(!decisive)
+    }
+
+    /// The first arm whose test is true (XPath 2.0, 3.8).
+    #[cycle(eval)]
+    #[inline(never)]
+    pub(crate) fn eval_if(
+        &self,
+        env: &Env,
+        next: &mut u64,
+        arms: &[Arm],
+        other: &Expr,
+    ) -> Result<ItemList, EvalFault>
+        requires callable { F.IsAlwaysCallable self.now.calls }
+        requires serves { Serves (F.post self.now.calls) (G.calls self.now.given) }
+        ensures { let p = program_of self.now.fixed (G.calls self.now.given)
+            (G.keys self.now.given) in
+            Answers result next.new (choice_of (map (arm_outcome p) arms.now)
+            (outcome p other.now) (env_of env.now) next.old) }
+    {
+        for arm in arms {
+            let truth = self.eval_truth(env, next, arm.test.get())?;
+            if truth {
+                return self.eval(env, next, arm.then.get());
+            }
+        }
+        self.eval(env, next, other)
+    }
+
+    /// The bindings of a quantifier that are left (XPath 2.0, 3.9).
+    #[cycle(eval)]
+    #[inline(never)]
+    pub(crate) fn eval_binds(
+        &self,
+        env: &Env,
+        next: &mut u64,
+        decisive: bool,
+        binds: &[Bind],
+        test: &Expr,
+    ) -> Result<bool, EvalFault>
+        requires callable { F.IsAlwaysCallable self.now.calls }
+        requires serves { Serves (F.post self.now.calls) (G.calls self.now.given) }
+        ensures { let p = program_of self.now.fixed (G.calls self.now.given)
+            (G.keys self.now.given) in
+            Answers result next.new (quantified decisive (map (bind_outcome p) binds.now)
+            (outcome p test.now) (env_of env.now) next.old) }
+    {
+        match binds {
+            [] => self.eval_truth(env, next, test),
+            [first, rest @ ..] => {
+                let items = self.eval(env, next, first.source.get())?;
+                self.eval_items(env, next, decisive, first, items.as_slice(), rest, test)
+            }
+        }
+    }
+
+    /// One item of a quantifier's binding after another, until the rest decides (XPath 2.0, 3.9).
+    #[cycle(eval)]
+    #[inline(never)]
+    pub(crate) fn eval_items(
+        &self,
+        env: &Env,
+        next: &mut u64,
+        decisive: bool,
+        bind: &Bind,
+        items: &[Item],
+        rest: &[Bind],
+        test: &Expr,
+    ) -> Result<bool, EvalFault>
+        requires callable { F.IsAlwaysCallable self.now.calls }
+        requires serves { Serves (F.post self.now.calls) (G.calls self.now.given) }
+        ensures { let p = program_of self.now.fixed (G.calls self.now.given)
+            (G.keys self.now.given) in
+            Answers result next.new (item_decides decisive (bind_outcome p bind.now)
+            (quantified decisive (map (bind_outcome p) rest.now) (outcome p test.now))
+            (env_of env.now) items.now next.old) }
+    {
+        for item in items {
+            let bound = bound_item(self.alloc, bind, item)?;
+            let variable = [bound];
+            let scope = Scope::Inner {
+                variables: &variable,
+                outer: &*env.locals,
+            };
+            let inner = Env {
+                locals: &scope,
+                focus: &*env.focus,
+                state: &*env.state,
+            };
+            let truth = self.eval_binds(&inner, next, decisive, rest, test)?;
+            if truth == decisive {
+                return Ok(decisive);
+            }
+        }
+        Ok(!decisive)
+    }
+}

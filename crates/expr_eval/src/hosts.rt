@@ -1,0 +1,122 @@
+// The program that expressions stand in.
+ghost use Rattle.std.specs.Prelude.{◌≡◌, map, length};
+ghost use Rattle.outcomes.specs.Outcome.{step_outcome};
+ghost use Rattle.expr_meaning.specs.Env.{Calls, Keys};
+ghost use Rattle.expr_meaning.specs.Calls.{call_value, found_by_key};
+ghost use Rattle.operator_values.specs.Operands.{atom_of};
+ghost use Rattle.eval_calls.specs.Called.{called_as};
+ghost use Rattle.eval_scopes.specs.Answers.{Answers};
+ghost use Rattle.eval_scopes.specs.Scopes.{env_of, program_of};
+ghost use Rattle.expr_eval.specs.Serves.{Serves};
+
+use eval_calls::{
+    Called, call_library, current_item, group_key, group_members, key_name, key_root,
+};
+use eval_scopes::{Env, EvalFault, Fixed, document_value};
+use fn_lib::argument;
+use std::alloc::Global;
+use xdm_items::ItemList;
+use xt_names::{ExprName, List, Text};
+use xt_tree::Node;
+
+/// Of what program the calls are, and what key() finds in it.
+pub trait Callee {
+    ghost use Rattle.std.specs.Prelude.{map};
+    ghost use Rattle.expr_meaning.specs.Env.{Calls, Keys};
+    ghost use Rattle.operator_values.specs.Operands.{atom_of};
+    ghost use Rattle.eval_scopes.specs.Answers.{Answers};
+
+    ghost calls: { Self → Calls };
+
+    ghost keys: { Self → Keys };
+
+    /// What key() of this name finds in the tree of this root, where one of the values is the same
+    /// (XSLT 2.0, 16.3).
+    fn find_by_key(
+        &self,
+        alloc: Global,
+        name: &Text,
+        values: &ItemList,
+        root: &Node,
+        next: &mut u64,
+    ) -> Result<ItemList, EvalFault>
+        ensures { Answers result next.new (keys self.now name.now (map atom_of values.now) root.now
+            next.old) };
+}
+
+/// A program whose expressions are evaluated.
+#[derive(Drop)]
+pub struct Host<'a, G, F> {
+    pub alloc: Global,
+    pub fixed: Fixed<'a>,
+    /// Which calls these are.
+    pub given: G,
+    /// What makes them: the name, the arguments, and the next number of a tree.
+    pub calls: F,
+}
+
+impl<'a, G: Callee, F: Fn(&ExprName, &[ItemList], &mut u64) -> Result<ItemList, EvalFault>> Host<
+    'a,
+    G,
+    F,
+> {
+    /// A call of a function that the program declares.
+    #[tactic(auto, unfolding(crate::specs::Serves::Serves))]
+    fn call_declared(
+        &self,
+        next: &mut u64,
+        name: &ExprName,
+        lists: &[ItemList],
+    ) -> Result<ItemList, EvalFault>
+        requires callable { F.IsAlwaysCallable self.now.calls }
+        requires serves { Serves (F.post self.now.calls) (G.calls self.now.given) }
+        ensures { Answers result next.new (G.calls self.now.given name.now lists.now next.old) }
+    {
+        (self.calls)(name, lists, next)
+    }
+
+    /// key(), once its arguments are evaluated (XSLT 2.0, 16.3).
+    fn call_key(&self, env: &Env, next: &mut u64, lists: &[ItemList]) -> Result<ItemList, EvalFault>
+        ensures { let p = program_of self.now.fixed (G.calls self.now.given)
+            (G.keys self.now.given) in
+            Answers result next.new (found_by_key p (env_of env.now) lists.now next.old) }
+    {
+        let alloc = self.alloc;
+        let none = List::new(alloc);
+        let root = key_root(alloc, env.focus)?;
+        let name = key_name(alloc, argument(lists, 0, &none))?;
+        self.given
+            .find_by_key(alloc, &name, argument(lists, 1, &none), &root, next)
+    }
+
+    /// A call, once its arguments are evaluated (XPath 2.0, 3.1.5).
+    pub(crate) fn call(
+        &self,
+        env: &Env,
+        next: &mut u64,
+        called: Called,
+        name: &ExprName,
+        lists: &[ItemList],
+    ) -> Result<ItemList, EvalFault>
+        requires callable { F.IsAlwaysCallable self.now.calls }
+        requires serves { Serves (F.post self.now.calls) (G.calls self.now.given) }
+        ensures { let p = program_of self.now.fixed (G.calls self.now.given)
+            (G.keys self.now.given) in
+            Answers result next.new (call_value p (called_as called) name.now (env_of env.now)
+            lists.now next.old) }
+    {
+        let alloc = self.alloc;
+        match called {
+            Called::Library(f) => Ok(call_library(alloc, f, env.focus, lists)?),
+            Called::Document => {
+                let none = List::new(alloc);
+                document_value(alloc, &self.fixed, argument(lists, 0, &none))
+            }
+            Called::Current => Ok(current_item(alloc, env.state.current)?),
+            Called::CurrentGroup => Ok(group_members(alloc, env.state.group)?),
+            Called::CurrentKey => Ok(group_key(alloc, env.state.group)?),
+            Called::Key => self.call_key(env, next, lists),
+            Called::Declared => self.call_declared(next, name, lists),
+        }
+    }
+}

@@ -1,0 +1,154 @@
+// Computed constructors.
+ghost use Rattle.eval_scopes.specs.Answers.{Answers};
+ghost use Rattle.eval_scopes.specs.Scopes.{env_of, program_of};
+ghost use Rattle.expr_eval.specs.Serves.{Serves};
+ghost use Rattle.expr_meaning.specs.Meaning.{outcome};
+ghost use Rattle.eval_steps.specs.Parts.{name_outcome};
+ghost use Rattle.expr_meaning.specs.Making.{element_made, document_made, attribute_made, text_made};
+ghost use Rattle.expr_meaning.specs.Making.{comment_made, pi_made};
+
+use crate::hosts::{Callee, Host};
+use eval_nodes::{
+    make_attribute, make_comment, make_document, make_element, make_pi, make_text, spaced_text,
+};
+use eval_scopes::{Env, EvalFault};
+use xdm_items::ItemList;
+use xt_names::ExprName;
+use xt_syntax::{Expr, NameSource};
+
+impl<'a, G: Callee, F: Fn(&ExprName, &[ItemList], &mut u64) -> Result<ItemList, EvalFault>> Host<
+    'a,
+    G,
+    F,
+> {
+    /// `element n { a }` (XQuery 1.0, 3.7.3.1).
+    #[cycle(eval)]
+    #[inline(never)]
+    pub(crate) fn eval_element(
+        &self,
+        env: &Env,
+        next: &mut u64,
+        name: &NameSource,
+        content: &Expr,
+    ) -> Result<ItemList, EvalFault>
+        requires callable { F.IsAlwaysCallable self.now.calls }
+        requires serves { Serves (F.post self.now.calls) (G.calls self.now.given) }
+        ensures { let p = program_of self.now.fixed (G.calls self.now.given)
+            (G.keys self.now.given) in
+            Answers result next.new (element_made p (name_outcome p name.now)
+            (outcome p content.now) (env_of env.now) next.old) }
+    {
+        let name = self.eval_element_name(env, next, name)?;
+        let list = self.eval(env, next, content)?;
+        make_element(self.alloc, next, name, &list)
+    }
+
+    /// `document { a }` (XQuery 1.0, 3.7.3.3).
+    #[cycle(eval)]
+    #[inline(never)]
+    pub(crate) fn eval_document(
+        &self,
+        env: &Env,
+        next: &mut u64,
+        content: &Expr,
+    ) -> Result<ItemList, EvalFault>
+        requires callable { F.IsAlwaysCallable self.now.calls }
+        requires serves { Serves (F.post self.now.calls) (G.calls self.now.given) }
+        ensures { let p = program_of self.now.fixed (G.calls self.now.given)
+            (G.keys self.now.given) in
+            Answers result next.new (document_made (outcome p content.now) (env_of env.now)
+            next.old) }
+    {
+        let list = self.eval(env, next, content)?;
+        make_document(self.alloc, next, &list)
+    }
+
+    /// `attribute n { a }` (XQuery 1.0, 3.7.3.2).
+    #[cycle(eval)]
+    #[inline(never)]
+    pub(crate) fn eval_attribute(
+        &self,
+        env: &Env,
+        next: &mut u64,
+        name: &NameSource,
+        value: &Expr,
+    ) -> Result<ItemList, EvalFault>
+        requires callable { F.IsAlwaysCallable self.now.calls }
+        requires serves { Serves (F.post self.now.calls) (G.calls self.now.given) }
+        ensures { let p = program_of self.now.fixed (G.calls self.now.given)
+            (G.keys self.now.given) in
+            Answers result next.new (attribute_made p (name_outcome p name.now)
+            (outcome p value.now) (env_of env.now) next.old) }
+    {
+        let name = self.eval_attribute_name(env, next, name)?;
+        let list = self.eval(env, next, value)?;
+        let text = spaced_text(self.alloc, &list)?;
+        make_attribute(self.alloc, next, name, text.as_str())
+    }
+
+    /// `text { a }`: no node of the empty list (XQuery 1.0, 3.7.3.4).
+    #[cycle(eval)]
+    #[inline(never)]
+    pub(crate) fn eval_text(
+        &self,
+        env: &Env,
+        next: &mut u64,
+        value: &Expr,
+    ) -> Result<ItemList, EvalFault>
+        requires callable { F.IsAlwaysCallable self.now.calls }
+        requires serves { Serves (F.post self.now.calls) (G.calls self.now.given) }
+        ensures { let p = program_of self.now.fixed (G.calls self.now.given)
+            (G.keys self.now.given) in
+            Answers result next.new (text_made (outcome p value.now) (env_of env.now) next.old) }
+    {
+        let list = self.eval(env, next, value)?;
+        if list.is_empty() {
+            return Ok(list);
+        }
+        let text = spaced_text(self.alloc, &list)?;
+        make_text(self.alloc, next, text.as_str())
+    }
+
+    /// `comment { a }` (XQuery 1.0, 3.7.3.6).
+    #[cycle(eval)]
+    #[inline(never)]
+    pub(crate) fn eval_comment(
+        &self,
+        env: &Env,
+        next: &mut u64,
+        value: &Expr,
+    ) -> Result<ItemList, EvalFault>
+        requires callable { F.IsAlwaysCallable self.now.calls }
+        requires serves { Serves (F.post self.now.calls) (G.calls self.now.given) }
+        ensures { let p = program_of self.now.fixed (G.calls self.now.given)
+            (G.keys self.now.given) in
+            Answers result next.new (comment_made (outcome p value.now) (env_of env.now) next.old) }
+    {
+        let list = self.eval(env, next, value)?;
+        let text = spaced_text(self.alloc, &list)?;
+        make_comment(self.alloc, next, text.as_str())
+    }
+
+    /// `processing-instruction n { a }` (XQuery 1.0, 3.7.3.5).
+    #[cycle(eval)]
+    #[inline(never)]
+    pub(crate) fn eval_pi(
+        &self,
+        env: &Env,
+        next: &mut u64,
+        name: &NameSource,
+        value: &Expr,
+    ) -> Result<ItemList, EvalFault>
+        requires callable { F.IsAlwaysCallable self.now.calls }
+        requires serves { Serves (F.post self.now.calls) (G.calls self.now.given) }
+        ensures { let p = program_of self.now.fixed (G.calls self.now.given)
+            (G.keys self.now.given) in
+            Answers result next.new (pi_made (name_outcome p name.now) (outcome p value.now)
+            (env_of env.now) next.old) }
+    {
+        let target = self.eval_target(env, next, name)?;
+        let list = self.eval(env, next, value)?;
+        let text = spaced_text(self.alloc, &list)?;
+        make_pi(self.alloc, next, target.as_str(), text.as_str())
+    }
+}
