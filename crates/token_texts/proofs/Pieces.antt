@@ -232,12 +232,13 @@ value_doubles c h rest = one_of (piece_at (attribute double) (c ∷ c ∷ rest) 
 
 -- by cases on the characters that references are written for
 pub refers : (P : ℕ → Type 0) → P 38 → P 60 → P 62 → P 34 → P 39 → P 9 → P 10 → P 13
-    → (c : ℕ) → is_referred c ≡ true → P c
-refers P a b d e f i j k c h =
-    at 38 a (60 ∷ 62 ∷ 34 ∷ 39 ∷ 9 ∷ 10 ∷ 13 ∷ [])
-    (at 60 b (62 ∷ 34 ∷ 39 ∷ 9 ∷ 10 ∷ 13 ∷ []) (at 62 d (34 ∷ 39 ∷ 9 ∷ 10 ∷ 13 ∷ [])
-    (at 34 e (39 ∷ 9 ∷ 10 ∷ 13 ∷ []) (at 39 f (9 ∷ 10 ∷ 13 ∷ []) (at 9 i (10 ∷ 13 ∷ [])
-    (at 10 j (13 ∷ []) (at 13 k [] (λ g. absurd (cc))))))))) h
+    → P 32 → (c : ℕ) → is_referred c ≡ true → P c
+refers P a b d e f i j k l c h =
+    at 38 a (60 ∷ 62 ∷ 34 ∷ 39 ∷ 9 ∷ 10 ∷ 13 ∷ 32 ∷ [])
+    (at 60 b (62 ∷ 34 ∷ 39 ∷ 9 ∷ 10 ∷ 13 ∷ 32 ∷ [])
+    (at 62 d (34 ∷ 39 ∷ 9 ∷ 10 ∷ 13 ∷ 32 ∷ []) (at 34 e (39 ∷ 9 ∷ 10 ∷ 13 ∷ 32 ∷ [])
+    (at 39 f (9 ∷ 10 ∷ 13 ∷ 32 ∷ []) (at 9 i (10 ∷ 13 ∷ 32 ∷ []) (at 10 j (13 ∷ 32 ∷ [])
+    (at 13 k (32 ∷ []) (at 32 l [] (λ g. absurd (cc)))))))))) h
   where
     at : (d : ℕ) → P d → (ds : List ℕ) → (list_any (λ x. c == x) ds ≡ true → P c)
         → list_any (λ x. c == x) (d ∷ ds) ≡ true → P c
@@ -254,12 +255,12 @@ Refers x c = (rest : List ℕ) → piece_at x (reference_text c ++ rest) ≡ Som
 content_refers : (c : ℕ) → is_referred c ≡ true → Refers content c
 unfolding is_content is_char is_name_char is_digit digit value is_in_ranges
 content_refers = refers (Refers content) (λ r. refl) (λ r. refl) (λ r. refl) (λ r. refl)
-    (λ r. refl) (λ r. refl) (λ r. refl) (λ r. refl)
+    (λ r. refl) (λ r. refl) (λ r. refl) (λ r. refl) (λ r. refl)
 
 value_refers : (c : ℕ) → is_referred c ≡ true → Refers (attribute double) c
 unfolding is_value is_char is_name_char is_digit digit value is_in_ranges is_space
 value_refers = refers (Refers (attribute double)) (λ r. refl) (λ r. refl) (λ r. refl) (λ r. refl)
-    (λ r. refl) (λ r. refl) (λ r. refl) (λ r. refl)
+    (λ r. refl) (λ r. refl) (λ r. refl) (λ r. refl) (λ r. refl)
 
 pub value_enter : (rest : List ℕ) → eaten 123 rest ≡ None
     → Reads (attribute double) token.Enter rest

@@ -162,7 +162,7 @@ module _ (g : Layout) (layout : IsLayout g) where
 
   reference_ends : (p : ℕ → Bool) → p 38 ≡ false → (c : ℕ) → is_referred c ≡ true
       → (rest : List ℕ) → Ends p (reference_text c ++ rest)
-  reference_ends p e c h rest = refers (λ d. Ends p (reference_text d ++ rest)) e e e e e e e e c h
+  reference_ends p e c h rest = refers (λ d. Ends p (reference_text d ++ rest)) e e e e e e e e e c h
 
   content_ends : (cs : List Context) (ts : List Token) → is_written_in (content ∷ cs) ts ≡ true
       → joins content ts ≡ false → Ends is_content (text_in g (content ∷ cs) ts)

@@ -19,7 +19,7 @@ reference_text c =
     if c == 38 then codes "&amp;" else if c == 60 then codes "&lt;"
     else if c == 62 then codes "&gt;" else if c == 34 then codes "&quot;"
     else if c == 39 then codes "&apos;" else if c == 9 then codes "&#9;"
-    else if c == 10 then codes "&#10;" else codes "&#13;"
+    else if c == 10 then codes "&#10;" else if c == 32 then codes "&#32;" else codes "&#13;"
 
 -- a character of a literal between double quotes
 abbrev pub said_text : ℕ → List ℕ

@@ -49,9 +49,10 @@ abbrev pub joins : Context → List Token → Bool
 joins x (token.Chars (c ∷ cs) true ∷ ts) = is_itself x c
 joins x _ = false
 
--- the characters that references are written for: the predefined entities, tabs and line ends
+-- the characters that references are written for: the predefined entities and white space
 abbrev pub is_referred : ℕ → Bool
-is_referred c = list_any (λ d. c == d) (38 ∷ 60 ∷ 62 ∷ 34 ∷ 39 ∷ 9 ∷ 10 ∷ 13 ∷ [])
+is_referred c =
+    list_any (λ d. c == d) (38 ∷ 60 ∷ 62 ∷ 34 ∷ 39 ∷ 9 ∷ 10 ∷ 13 ∷ 32 ∷ [])
 
 -- as many characters as stand for themselves, a brace or a quote, or one that a reference is
 abbrev pub is_chars : Context → List ℕ → Bool → List Token → Bool
