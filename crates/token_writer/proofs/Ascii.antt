@@ -1,0 +1,10 @@
+-- Texts of ASCII characters are their own characters.
+use Rattle.std.proofs.Common.{◌≡◌, ℕ, List, true}
+use Rattle.std.proofs.lemmas.Str.{chars-IsAscii}
+use Rattle.std.specs.List.{list_all}
+use Rattle.std.specs.Prelude.{nat_lt}
+use Rattle.std.specs.Str.{chars}
+use Rattle.xt_names.proofs.TextLemmas.{ascii_list}
+
+pub chars_ascii : (e : List ℕ) → list_all (λ b. nat_lt b 128) e ≡ true → chars e ≡ e
+chars_ascii e a = chars-IsAscii e (ascii_list e a)

@@ -1,0 +1,4 @@
+pub mod Ascii
+pub mod Doubles
+pub mod Said
+pub mod Names
