@@ -1,5 +1,6 @@
 -- The nodes above a node: its parent, and those above its parent.
-use Rattle.std.proofs.Common.{◌≡◌, ℕ, zero, suc, ◌≤◌, ◌+◌, ◌-◌, ◌<◌, List, [], ◌∷◌, ◌++◌, length, get_or, take, map, reverse, refl, ap, sym, ◌∙◌, subst, Bool, true, false, cond, arith, eq-eqb}
+use Rattle.std.proofs.Common.{◌≡◌, ℕ, zero, suc, ◌≤◌, ◌+◌, ◌-◌, ◌<◌, List, [], ◌∷◌, ◌++◌, length, get_or, take, map, reverse, refl, ap}
+use Rattle.std.proofs.Common.{sym, ◌∙◌, subst, Bool, true, false, cond, arith, eq-eqb}
 use Rattle.std.specs.Prelude.{◌&&◌, ◌||◌, not, nat_eq, nat_lt, slice_get, Option, Some, None, is_some, option_map}
 use Rattle.std.specs.List.{filter, list_any, Contains}
 use Rattle.std.specs.Bool.{IsTrue}
@@ -18,12 +19,14 @@ use Rattle.xt_tree.specs.declared.attributes.Attribute.{Attribute}
 use Rattle.xt_tree.specs.declared.kinds.Kind.{Kind}
 use Rattle.xt_tree.specs.Kinds.{kind_of}
 use Rattle.xt_tree.specs.TreeView.{attributes_of}
-use Rattle.xt_tree.specs.Place.{Place, above_place, attribute_tree, has_attribute, has_place, parent_of, subtree_at, subtree_below, subtree_of}
+use Rattle.xt_tree.specs.Place.{Place, above_place, attribute_tree, has_attribute, has_place, parent_of, subtree_at, subtree_below}
+use Rattle.xt_tree.specs.Place.{subtree_of}
 use Rattle.xt_tree.specs.Walk.{Spot, spots_of}
 use Rattle.xt_tree.proofs.PlaceLemmas.{above_exists}
 use Rattle.xt_tree.proofs.WalkPlaces.{walk_is_exact}
 use Rattle.node_tests.specs.Tests.{passes_at, passes_test, tree_passes}
-use Rattle.node_axes.specs.Axes.{axis_nodes, begins_with, in_axis_order, is_ancestor, is_attribute, is_itself, is_reverse, on_axis, place_at, same_attribute, same_path, spot_of, way_length}
+use Rattle.node_axes.specs.Axes.{axis_nodes, begins_with, in_axis_order, is_ancestor, is_attribute, is_itself, is_reverse, on_axis}
+use Rattle.node_axes.specs.Axes.{place_at, same_attribute, same_path, spot_of, way_length}
 use Rattle.node_axes.specs.Paths.{Stands, before, above as over, same, below, after, then_stands, stands, is_over}
 use Rattle.node_axes.proofs.AxisLemmas.{is_up, is_one, ancestor_is, attribute_ancestor_is, same_path_is}
 use Rattle.node_axes.proofs.PathLemmas.{same_is}
@@ -37,7 +40,8 @@ any_filter : {X : Type 0} (p q : X → Bool) (xs : List X) → list_any p (filte
 any_filter p q [] = refl
 any_filter p q (x ∷ xs) = by (q x) (any_filter p q xs)
   where
-    by : (b : Bool) → list_any p (filter q xs) ≡ list_any (λ x. q x && p x) xs → list_any p (cond b (x ∷ filter q xs) (filter q xs)) ≡ ((b && p x) || list_any (λ x. q x && p x) xs)
+    by : (b : Bool) → list_any p (filter q xs) ≡ list_any (λ x. q x && p x) xs
+        → list_any p (cond b (x ∷ filter q xs) (filter q xs)) ≡ ((b && p x) || list_any (λ x. q x && p x) xs)
     by true e = ap (λ (z : Bool). p x || z) e
     by false e = e
 
@@ -49,7 +53,8 @@ pub any_same : {X : Type 0} (p q : X → Bool) (xs : List X) → ((x : X) → p 
 any_same p q [] h = refl
 any_same p q (x ∷ xs) h = rw (h x, any_same p q xs h) refl
 
-pub any_more : {X : Type 0} (p q : X → Bool) (xs : List X) → ((x : X) → p x ≡ true → q x ≡ true) → list_any p xs ≡ true → list_any q xs ≡ true
+pub any_more : {X : Type 0} (p q : X → Bool) (xs : List X) → ((x : X) → p x ≡ true → q x ≡ true) → list_any p xs ≡ true
+    → list_any q xs ≡ true
 any_more p q [] h e = e
 any_more p q (x ∷ xs) h e = by (p x) refl e (any_more p q xs h)
   where
@@ -76,7 +81,8 @@ not_true false h = refl
 pub true_or_false : {G : Type 0} (b : Bool) → b ≡ true → b ≡ false → G
 true_or_false b e f = cc
 
-pub none_more : {X : Type 0} (p q : X → Bool) (xs : List X) → ((x : X) → q x ≡ true → p x ≡ true) → list_any p xs ≡ false → list_any q xs ≡ false
+pub none_more : {X : Type 0} (p q : X → Bool) (xs : List X) → ((x : X) → q x ≡ true → p x ≡ true) → list_any p xs ≡ false
+    → list_any q xs ≡ false
 none_more p q xs h e = not_true (list_any q xs) (λ f. true_or_false (list_any p xs) (any_more q p xs h f) e)
 
 -- the nodes above, as those of all nodes of the tree that are
@@ -156,7 +162,8 @@ it_or_above p q =
     ∙ ap (λ (b : Bool). b || is_up (stands q p)) (sym (same_path_is q p) ∙ same_both q p ∙ and_all (same_path p q))
     ∙ ap (λ (b : Bool). is_itself (p, None) (q, None) || b) (sym (ancestor_is p q))
 
-no_attribute_above : (p : Spot) (u q : List ℕ) (k : ℕ) → is_ancestor p (q, Some k) ≡ (is_itself (u, None) (q, Some k) || is_ancestor (u, None) (q, Some k))
+no_attribute_above : (p : Spot) (u q : List ℕ) (k : ℕ)
+    → is_ancestor p (q, Some k) ≡ (is_itself (u, None) (q, Some k) || is_ancestor (u, None) (q, Some k))
 unfolding is_itself same_attribute is_ancestor is_attribute
 no_attribute_above p u q k = ap (λ (b : Bool). b || false) (sym (none_and (same_path u q)))
 
@@ -174,7 +181,8 @@ next_of_longer p z (q, Some j) = no_attribute_above (p ++ z ∷ [], None) p q j
 
 next_of_path : (i : ℕ) (path : List ℕ) → IsNext (i ∷ path, None) (take (length path) (i ∷ path), None)
 next_of_path i path =
-    subst (λ (p : List ℕ). IsNext (p, None) (take (length path) (i ∷ path), None)) (sym (last_of i path)) (next_of_longer (take (length path) (i ∷ path)) (get_or (i ∷ path) (length path) 0))
+    subst (λ (p : List ℕ). IsNext (p, None) (take (length path) (i ∷ path), None)) (sym (last_of i path))
+    (next_of_longer (take (length path) (i ∷ path)) (get_or (i ∷ path) (length path) 0))
 
 -- the parent
 abbrev at : Place → List ℕ → Place
@@ -196,16 +204,19 @@ same_inside v u e = cc
 parent_parts : (number : ℕ) (tree : Tree) (path : List ℕ) (attribute : Option ℕ) (u : Place)
     → parent_of (record { number = number; tree = tree; path = path; attribute = attribute }) ≡ Some u
     → IsParent (record { number = number; tree = tree; path = path; attribute = attribute }) u
-parent_parts number tree path (Some k) u e = record { up = path; is = same_inside _ u e; next = next_of_attribute path k; exists = owner_there (subtree_at tree path) k }
+parent_parts number tree path (Some k) u e =
+    record { up = path; is = same_inside _ u e; next = next_of_attribute path k; exists = owner_there (subtree_at tree path) k }
 parent_parts number tree [] None u e = absurd cc
 parent_parts number tree (i ∷ path) None u e =
-    record { up = take (length path) (i ∷ path); is = same_inside _ u e; next = next_of_path i path; exists = above_exists tree (i ∷ path) (length path) None }
+    let there = above_exists tree (i ∷ path) (length path) None in
+    record { up = take (length path) (i ∷ path); is = same_inside _ u e; next = next_of_path i path; exists = there }
 
 parent_is : (n u : Place) → parent_of n ≡ Some u → IsParent n u
 parent_is n u e = parent_parts n.number n.tree n.path n.attribute u e
 
 -- a node that is there passes the test of all nodes
-there_passes : (tree : Tree) (path : List ℕ) → has_attribute (subtree_at tree path) None ≡ true → tree_passes axis.Ancestor test.Node (subtree_below (subtree_at tree path) None) ≡ true
+there_passes : (tree : Tree) (path : List ℕ) → has_attribute (subtree_at tree path) None ≡ true
+    → tree_passes axis.Ancestor test.Node (subtree_below (subtree_at tree path) None) ≡ true
 unfolding tree_passes passes_test
 there_passes tree path h = by (subtree_at tree path) h
   where
@@ -237,8 +248,10 @@ all_three a b c e f g = rw (e, f, g) refl
 
 -- a test holds above a node where it holds at the parent, or above that
 
-parent_fails : (f : Place → Bool) (n : Place) (up : List ℕ) → IsNext (spot_of n) (up, None) → f (at n up) ≡ false → list_any f (above true n) ≡ list_any f (above true (at n up))
-parent_fails f n up next h = above_any f n ∙ any_same (is_found f n) (is_found f (at n up)) (spots_of n.tree) each ∙ sym (above_any f (at n up))
+parent_fails : (f : Place → Bool) (n : Place) (up : List ℕ) → IsNext (spot_of n) (up, None) → f (at n up) ≡ false
+    → list_any f (above true n) ≡ list_any f (above true (at n up))
+parent_fails f n up next h =
+    above_any f n ∙ any_same (is_found f n) (is_found f (at n up)) (spots_of n.tree) each ∙ sym (above_any f (at n up))
   where
     each : (s : Spot) → is_found f n s ≡ is_found f (at n up) s
     each s = ap (λ (b : Bool). b && rest) (next s) ∙ by (is_itself (up, None) s) refl
@@ -248,14 +261,20 @@ parent_fails f n up next h = above_any f n ∙ any_same (is_found f n) (is_found
 
         by : (b : Bool) → is_itself (up, None) s ≡ b → ((b || is_ancestor (up, None) s) && rest) ≡ (is_ancestor (up, None) s && rest)
         by true e =
-            let g : rest ≡ false = ap (λ (t : Spot). passes_at axis.Ancestor test.Node (place_at n s) && f (place_at n t)) (itself_one up s e) ∙ ap (λ (b : Bool). passes_at axis.Ancestor test.Node (place_at n s) && b) h ∙ none_and _ in
+            let g : rest ≡ false =
+            ap (λ (t : Spot). passes_at axis.Ancestor test.Node (place_at n s) && f (place_at n t)) (itself_one up s e)
+            ∙ ap (λ (b : Bool). passes_at axis.Ancestor test.Node (place_at n s) && b) h ∙ none_and _
+            in
             g ∙ sym (ap (λ (b : Bool). is_ancestor (up, None) s && b) g ∙ none_and (is_ancestor (up, None) s))
         by false e = refl
 
-parent_holds : (f : Place → Bool) (n : Place) (up : List ℕ) → IsNext (spot_of n) (up, None) → has_place (at n up) ≡ true → f (at n up) ≡ true → list_any f (above true n) ≡ true
+parent_holds : (f : Place → Bool) (n : Place) (up : List ℕ) → IsNext (spot_of n) (up, None) → has_place (at n up) ≡ true
+    → f (at n up) ≡ true → list_any f (above true n) ≡ true
 parent_holds f n up next there h =
     let c : Contains (spots_of n.tree) (up, None) = (walk_is_exact n.tree up None).1 there in
-    let a : is_ancestor (spot_of n) (up, None) ≡ true = next (up, None) ∙ ap (λ (b : Bool). b || is_ancestor (up, None) (up, None)) (itself_passes up) in
+    let a : is_ancestor (spot_of n) (up, None) ≡ true =
+    next (up, None) ∙ ap (λ (b : Bool). b || is_ancestor (up, None) (up, None)) (itself_passes up)
+    in
     let g : is_found f n (up, None) ≡ true = all_three _ _ _ a (there_passes n.tree up there) h in
     above_any f n ∙ list_any_at (is_found f n) (spots_of n.tree) c.0 (up, None) c.1 (ap (is_found f n) c.2 ∙ g)
 
@@ -288,7 +307,8 @@ none_above_root f number tree (i ∷ path) None e = absurd cc
 none_above_root f number tree [] None e =
     let n : Place = record { number = number; tree = tree; path = []; attribute = None } in
     above_any f n
-    ∙ any_same (is_found f n) (λ s. false) (spots_of tree) (λ s. ap (λ (b : Bool). b && (passes_at axis.Ancestor test.Node (place_at n s) && f (place_at n s))) (root_way s))
+    ∙ any_same (is_found f n) (λ s. false) (spots_of tree)
+    (λ s. ap (λ (b : Bool). b && (passes_at axis.Ancestor test.Node (place_at n s) && f (place_at n s))) (root_way s))
     ∙ none_of_none (spots_of tree)
 
 pub none_up : (f : Place → Bool) (n : Place) → parent_of n ≡ None → list_any f (above true n) ≡ false
@@ -296,7 +316,8 @@ none_up f n e = none_above_root f n.number n.tree n.path n.attribute e
 
 -- the nodes above, from the nearest on
 
-up_more : (f : Place → Bool) (n u : Place) → parent_of n ≡ Some u → has_place n ≡ true → list_any f (above true n) ≡ (f u || list_any f (above true u))
+up_more : (f : Place → Bool) (n u : Place) → parent_of n ≡ Some u → has_place n ≡ true
+    → list_any f (above true n) ≡ (f u || list_any f (above true u))
 up_more f n u e there = by (f u) refl
   where
     by : (b : Bool) → f u ≡ b → list_any f (above true n) ≡ (b || list_any f (above true u))
@@ -319,30 +340,40 @@ take_twice (suc d) [] h = absurd (omega arith)
 take_twice (suc d) (x ∷ xs) h = ap (λ (z : List ℕ). x ∷ z) (take_twice d xs (omega arith))
 
 parent_on_way : (number : ℕ) (tree : Tree) (path : List ℕ) (attribute : Option ℕ) (d : ℕ) → suc d ≤ length path
-    → parent_of (above_place (record { number = number; tree = tree; path = path; attribute = attribute }) (suc d)) ≡ Some (above_place (record { number = number; tree = tree; path = path; attribute = attribute }) d)
+    → parent_of (above_place (record { number = number; tree = tree; path = path; attribute = attribute }) (suc d))
+    ≡ Some (above_place (record { number = number; tree = tree; path = path; attribute = attribute }) d)
 parent_on_way number tree [] attribute d h = absurd (omega arith)
 parent_on_way number tree (i ∷ path) attribute d h =
-    ap (λ (k : ℕ). Some (record { number = number; tree = tree; path = take k (i ∷ take d path); attribute = None })) (take_short d path (omega arith))
-    ∙ ap (λ (p : List ℕ). Some (record { number = number; tree = tree; path = p; attribute = None })) (take_twice d (i ∷ path) (omega arith))
+    ap (λ (k : ℕ). Some (record { number = number; tree = tree; path = take k (i ∷ take d path); attribute = None }))
+    (take_short d path (omega arith))
+    ∙ ap (λ (p : List ℕ). Some (record { number = number; tree = tree; path = p; attribute = None }))
+    (take_twice d (i ∷ path) (omega arith))
 
 on_way_there : (n : Place) (d : ℕ) → has_place n ≡ true → has_place (above_place n d) ≡ true
 on_way_there n d h = above_exists n.tree n.path d n.attribute h
 
-pub upper_on_way : (f : Place → Bool) (n : Place) (d : ℕ) → d ≤ length n.path → has_place n ≡ true → list_any f (above true (above_place n d)) ≡ upper f n d
+pub upper_on_way : (f : Place → Bool) (n : Place) (d : ℕ) → d ≤ length n.path → has_place n ≡ true
+    → list_any f (above true (above_place n d)) ≡ upper f n d
 upper_on_way f n zero h there = none_up f (above_place n 0) refl
 upper_on_way f n (suc d) h there =
-    up_more f (above_place n (suc d)) (above_place n d) (parent_on_way n.number n.tree n.path n.attribute d h) (on_way_there n (suc d) there)
+    up_more f (above_place n (suc d)) (above_place n d) (parent_on_way n.number n.tree n.path n.attribute d h)
+    (on_way_there n (suc d) there)
     ∙ ap (λ (b : Bool). f (above_place n d) || b) (upper_on_way f n d (omega arith) there)
 
-upper_parts : (f : Place → Bool) (number : ℕ) (tree : Tree) (path : List ℕ) (attribute : Option ℕ) → has_place (record { number = number; tree = tree; path = path; attribute = attribute }) ≡ true
-    → list_any f (above true (record { number = number; tree = tree; path = path; attribute = attribute })) ≡ upper f (record { number = number; tree = tree; path = path; attribute = attribute }) (count_of (length path) attribute)
+upper_parts : (f : Place → Bool) (number : ℕ) (tree : Tree) (path : List ℕ) (attribute : Option ℕ)
+    → has_place (record { number = number; tree = tree; path = path; attribute = attribute }) ≡ true
+    → list_any f (above true (record { number = number; tree = tree; path = path; attribute = attribute }))
+    ≡ upper f (record { number = number; tree = tree; path = path; attribute = attribute }) (count_of (length path) attribute)
 upper_parts f number tree path None there =
     let n : Place = record { number = number; tree = tree; path = path; attribute = None } in
-    ap (λ (p : List ℕ). list_any f (above true (record { number = number; tree = tree; path = p; attribute = None }))) (sym (take_all path)) ∙ upper_on_way f n (length path) (omega arith) there
+    ap (λ (p : List ℕ). list_any f (above true (record { number = number; tree = tree; path = p; attribute = None })))
+    (sym (take_all path)) ∙ upper_on_way f n (length path) (omega arith) there
 upper_parts f number tree path (Some i) there =
     let n : Place = record { number = number; tree = tree; path = path; attribute = Some i } in
     let u : Place = record { number = number; tree = tree; path = path; attribute = None } in
-    let same : above_place n (length path) ≡ u = ap (λ (p : List ℕ). (let r : Place = record { number = number; tree = tree; path = p; attribute = None } in r)) (take_all path) in
+    let same : above_place n (length path) ≡ u =
+    ap (λ (p : List ℕ). (let r : Place = record { number = number; tree = tree; path = p; attribute = None } in r)) (take_all path)
+    in
     let e : length path + 1 ≡ suc (length path) = omega arith in
     up_more f n u refl there
     ∙ ap (λ (m : Place). f m || list_any f (above true m)) (sym same)
@@ -361,14 +392,19 @@ there_of_kind n k h = by (subtree_at n.tree n.path) n.attribute h
     by (Some t) None g = refl
     by (Some t) (Some i) g = inside (slice_get (attributes_of t) i) refl g
       where
-        inside : (o : Option Attribute) → slice_get (attributes_of t) i ≡ o → option_map kind_of (option_map attribute_tree o) ≡ Some k → nat_lt i (length (attributes_of t)) ≡ true
+        inside : (o : Option Attribute) → slice_get (attributes_of t) i ≡ o → option_map kind_of (option_map attribute_tree o) ≡ Some k
+            → nat_lt i (length (attributes_of t)) ≡ true
         inside None e g = absurd cc
         inside (Some a) e g = lt-ltb i (length (attributes_of t)) (slice_get_within (attributes_of t) i a e)
 
-pub ancestor_made : (o : Option Place) (n : Place) (d number : ℕ) (tree : Tree) (path : List ℕ) → number ≡ n.number → tree ≡ n.tree → path ≡ take d n.path → has_place n ≡ true
-    → SomeIff o (IsTrue (has_place (record { number = number; tree = tree; path = path; attribute = None }))) (record { number = number; tree = tree; path = path; attribute = None }) → o ≡ Some (above_place n d)
+pub ancestor_made : (o : Option Place) (n : Place) (d number : ℕ) (tree : Tree) (path : List ℕ) → number ≡ n.number → tree ≡ n.tree
+    → path ≡ take d n.path → has_place n ≡ true
+    → SomeIff o (IsTrue (has_place (record { number = number; tree = tree; path = path; attribute = None })))
+    (record { number = number; tree = tree; path = path; attribute = None }) → o ≡ Some (above_place n d)
 ancestor_made None n d number tree path e f g there s =
-    absurd (s (ap (λ (t : Tree). has_attribute (subtree_at t path) None) f ∙ ap (λ (p : List ℕ). has_attribute (subtree_at n.tree p) None) g ∙ on_way_there n d there))
+    absurd
+    (s (ap (λ (t : Tree). has_attribute (subtree_at t path) None) f
+    ∙ ap (λ (p : List ℕ). has_attribute (subtree_at n.tree p) None) g ∙ on_way_there n d there))
 ancestor_made (Some x) n d number tree path e f g there s =
     ap (λ (z : Place). Some z) (s.1 ∙ made)
   where
@@ -406,12 +442,14 @@ further_above (r, a) (p, None) (q, None) h g =
     rw (begins_further q p r y.0 x.0, lt-ltb (length q + 0) (way_length (r, a)) (omega arith)) refl
 
 -- a test that holds at the parent holds above
-led_above : (deep : Bool) (f : Place → Bool) (m : Place) → has_place m ≡ true → list_any f (above deep m) ≡ true → list_any f (above true m) ≡ true
+led_above : (deep : Bool) (f : Place → Bool) (m : Place) → has_place m ≡ true → list_any f (above deep m) ≡ true
+    → list_any f (above true m) ≡ true
 unfolding above
 led_above true f m there h = h
 led_above false f m there h = by (parent_of m) refl h
   where
-    by : (o : Option Place) → parent_of m ≡ o → list_any f (option_to_list o) ≡ true → list_any f (filter (passes_at axis.Ancestor test.Node) (axis_nodes axis.Ancestor m)) ≡ true
+    by : (o : Option Place) → parent_of m ≡ o → list_any f (option_to_list o) ≡ true
+        → list_any f (filter (passes_at axis.Ancestor test.Node) (axis_nodes axis.Ancestor m)) ≡ true
     by None e g = absurd cc
     by (Some v) e g = up_holds f m v e there (first (f v) g)
       where
@@ -420,7 +458,8 @@ led_above false f m there h = by (parent_of m) refl h
         first false k = k
 
 -- Where a test holds at no node above, what needs it at the parent or above holds at none either.
-pub none_led : (deep : Bool) (f : Place → Bool) (n : Place) → list_any f (above true n) ≡ false → list_any (λ m. list_any f (above deep m)) (above true n) ≡ false
+pub none_led : (deep : Bool) (f : Place → Bool) (n : Place) → list_any f (above true n) ≡ false
+    → list_any (λ m. list_any f (above deep m)) (above true n) ≡ false
 none_led deep f n h = not_true _ (λ e. true_or_false (list_any f (above true n)) (above_any f n ∙ inner (sym (above_any led n) ∙ e)) h)
   where
     led : Place → Bool
@@ -432,7 +471,8 @@ none_led deep f n h = not_true _ (λ e. true_or_false (list_any f (above true n)
         let x = and_parts (is_ancestor (spot_of n) s) (passes_at axis.Ancestor test.Node m && led m) e in
         let y = and_parts (passes_at axis.Ancestor test.Node m) (led m) x.1 in
         let there : has_place m ≡ true = below_there (subtree_at n.tree s.0) s.1 axis.Ancestor test.Node y.0 in
-        any_more (is_found f m) (is_found f n) (spots_of n.tree) (λ t g. further s t x.0 g) (sym (above_any f m) ∙ led_above deep f m there y.1)
+        any_more (is_found f m) (is_found f n) (spots_of n.tree) (λ t g. further s t x.0 g)
+        (sym (above_any f m) ∙ led_above deep f m there y.1)
       where
         further : (s t : Spot) → is_ancestor (spot_of n) s ≡ true → is_found f (place_at n s) t ≡ true → is_found f n t ≡ true
         further s t h g =

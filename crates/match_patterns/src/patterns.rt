@@ -1,13 +1,15 @@
 // The steps of a pattern, from the last to the first.
 //
-// Before `//` a node above is looked for at which the steps from there to the `//` before them match, the nearest first. Where
-// these match and what stands before them does not, the nodes further above need not be tried: each of them has fewer nodes
-// above it. So each `//` goes up once, however many there are.
+// Before `//` a node above is looked for at which the steps from there to the `//` before them
+// match, the nearest first. Where these match and what stands before them does not, the nodes
+// further above need not be tried: each of them has fewer nodes above it. So each `//` goes up
+// once, however many there are.
 ghost use Rattle.std.specs.Prelude.{◌≡◌, ◌≤◌, ◌&&◌, IfOk, Some, true, false, length, reverse, take};
 ghost use Rattle.std.specs.List.{list_any};
 ghost use Rattle.xt_tree.specs.Place.{above_place, has_place};
 ghost use Rattle.match_patterns.specs.Findings.{Tells, count_above, finding_of};
-ghost use Rattle.match_patterns.specs.Patterns.{above, are_allowed_steps, is_led, is_root_document, pattern_matches, steps_match};
+ghost use Rattle.match_patterns.specs.Patterns.{above, are_allowed_steps, is_led};
+ghost use Rattle.match_patterns.specs.Patterns.{is_root_document, pattern_matches, steps_match};
 
 use crate::findings::{Finding, finding_of, is_here};
 use crate::steps::{is_root_document, step_matches};
@@ -15,7 +17,8 @@ use std::alloc::{AllocError, Global};
 use xt_syntax::{Pattern, PatternStep};
 use xt_tree::Node;
 
-/// Whether the pattern matches the node (XSLT 2.0, 5.5.3). It is for patterns of the predicates that patterns may have.
+/// Whether the pattern matches the node (XSLT 2.0, 5.5.3). It is for patterns of the predicates
+/// that patterns may have.
 pub fn matches(alloc: Global, pattern: &Pattern, node: &Node) -> Result<bool, AllocError>
     requires { are_allowed_steps pattern.now.steps ≡ true }
     ensures { IfOk result (λ truth. truth ≡ pattern_matches pattern.now node.now) }
@@ -36,7 +39,8 @@ fn first_match(
 ) -> Result<Finding, AllocError>
     requires quiet { are_allowed_steps steps.now ≡ true }
     requires within { count ≤ length steps.now }
-    ensures { IfOk result (λ finding. Tells finding (steps_match rooted (reverse (take count steps.now))) node.now) }
+    ensures { IfOk result (λ finding. Tells finding
+        (steps_match rooted (reverse (take count steps.now))) node.now) }
 {
     if count == 0 {
         return Ok(match_root(rooted, node));
@@ -48,7 +52,8 @@ fn first_match(
     is_led(alloc, rooted, step.deep, steps, count - 1, node)
 }
 
-/// Whether the node is the document before the first step of a pattern with `/` or `//` at its front.
+/// Whether the node is the document before the first step of a pattern with `/` or `//` at its
+/// front.
 fn match_root(rooted: bool, node: &Node) -> Finding
     ensures { result ≡ finding_of (rooted && is_root_document node.now) }
 {
@@ -67,7 +72,8 @@ fn is_led(
 ) -> Result<Finding, AllocError>
     requires quiet { are_allowed_steps steps.now ≡ true }
     requires within { count ≤ length steps.now }
-    ensures { IfOk result (λ finding. Tells finding (is_led rooted deep (reverse (take count steps.now))) node.now) }
+    ensures { IfOk result (λ finding. Tells finding
+        (is_led rooted deep (reverse (take count steps.now))) node.now) }
 {
     if !rooted && count == 0 {
         return Ok(Finding::Here);
@@ -90,7 +96,9 @@ fn match_parent(
 ) -> Result<Finding, AllocError>
     requires quiet { are_allowed_steps steps.now ≡ true }
     requires within { count ≤ length steps.now }
-    ensures { IfOk result (λ finding. Tells finding (λ n. list_any (steps_match rooted (reverse (take count steps.now))) (above false n)) node.now) }
+    ensures { IfOk result (λ finding. Tells finding
+        (λ n. list_any (steps_match rooted (reverse (take count steps.now))) (above false n))
+        node.now) }
 {
     match node.parent()? {
         Some(parent) => first_match(alloc, rooted, steps, count, &parent),
@@ -109,7 +117,9 @@ fn match_above(
 ) -> Result<Finding, AllocError>
     requires quiet { are_allowed_steps steps.now ≡ true }
     requires within { count ≤ length steps.now }
-    ensures { IfOk result (λ finding. Tells finding (λ n. list_any (steps_match rooted (reverse (take count steps.now))) (above true n)) node.now) }
+    ensures { IfOk result (λ finding. Tells finding
+        (λ n. list_any (steps_match rooted (reverse (take count steps.now))) (above true n))
+        node.now) }
 {
     let mut depth = count_above(node);
     while depth > 0 {
@@ -136,7 +146,8 @@ fn match_ancestor(
     requires quiet { are_allowed_steps steps.now ≡ true }
     requires within { count ≤ length steps.now }
     requires depth { depth ≤ length node.now.path }
-    ensures { IfOk result (λ finding. Tells finding (steps_match rooted (reverse (take count steps.now))) (above_place node.now depth)) }
+    ensures { IfOk result (λ finding. Tells finding
+        (steps_match rooted (reverse (take count steps.now))) (above_place node.now depth)) }
 {
     match ancestor(alloc, node, depth)? {
         Some(above) => first_match(alloc, rooted, steps, count, &above),

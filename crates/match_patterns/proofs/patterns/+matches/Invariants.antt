@@ -23,7 +23,8 @@ decreases-is_led l = 4 * l.count + 3
 
 abbrev pub invariant-match_above-loop-depth : goal.invariant-match_above-loop-depth
 invariant-match_above-loop-depth l = record {
-  rest : list_any (steps_match l.rooted (reverse (take l.count l.steps))) (above true l.node) ≡ upper (steps_match l.rooted (reverse (take l.count l.steps))) l.node l.depth;
+  rest : list_any (steps_match l.rooted (reverse (take l.count l.steps))) (above true l.node)
+      ≡ upper (steps_match l.rooted (reverse (take l.count l.steps))) l.node l.depth;
   within : l.depth ≤ count_above l.node;
   exists : has_place l.node ≡ true;
 }
