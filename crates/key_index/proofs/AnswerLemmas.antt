@@ -1,22 +1,21 @@
 -- Nodes that are put into a list in document order, each of them once.
-use Rattle.std.proofs.Common.{◌≡◌, ℕ, suc, ◌+◌, ◌<◌, ◌-◌, List, [], ◌∷◌, ◌++◌, length, get_or, Bool, true, false, cond, refl, ap, sym}
+use Rattle.std.proofs.Common.{◌≡◌, ℕ, ◌+◌, ◌-◌, List, [], ◌∷◌, ◌++◌, length, Bool, true, false, cond, refl, ap, sym}
 use Rattle.std.proofs.Common.{◌∙◌, arith, length-append}
-use Rattle.std.specs.Prelude.{◌&&◌, ◌||◌, Option, Some, None, slice_get, if◌then◌else◌}
+use Rattle.std.specs.Prelude.{◌&&◌, ◌||◌, Some, slice_get, if◌then◌else◌}
 use Rattle.std.specs.List.{filter, list_any}
 use Rattle.std.specs.Cmp.{IsTotalOrder}
-use Rattle.std.specs.Ordering.{nat_cmp, is_lt, is_le, is_eq}
+use Rattle.std.specs.Ordering.{is_lt, is_le, is_eq}
 use Rattle.std.specs.declared.cmp.Ordering.{Ordering}
 use Rattle.std.specs.declared.cmp.Ordering.TheVariants.{Less, Equal, Greater}
-use Rattle.std.proofs.lemmas.Bool.{and_parts}
 use Rattle.std.proofs.lemmas.Cmp.{nat_cmp_total, on_total, then_total, lists_total}
 use Rattle.std.proofs.lemmas.List.{append_assoc, append-nil}
 use Rattle.xt_tree.specs.Place.{Place, place_cmp, step_cmp, steps}
 use Rattle.xdm_items.specs.declared.items.Item.{Item}
 use Rattle.xdm_items.specs.declared.items.Item.TheVariants as item
 use Rattle.order_group.specs.Groups.{atoms_of, has_key}
-use Rattle.key_index.specs.Answers.{IsFirst, StandInOrder, is_before, IsBefore, Rise, gives, IsKeyAnswer}
+use Rattle.key_index.specs.Answers.{IsFirst, StandInOrder, IsBefore, Rise, IsKeyAnswer}
 use Rattle.key_index.specs.Keys.{key_nodes, put_pairs}
-use Rattle.key_index.specs.Nodes.{is_at, node_order, put_node, stands_last}
+use Rattle.key_index.specs.Nodes.{is_at, node_order, stands_last}
 use Rattle.key_index.specs.declared.indexes.KeyPair.{KeyPair}
 
 step_total : IsTotalOrder step_cmp
