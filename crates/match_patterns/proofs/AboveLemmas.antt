@@ -1,7 +1,7 @@
 -- The nodes above a node: its parent, and those above its parent.
 use Rattle.std.proofs.Common.{◌≡◌, ℕ, zero, suc, ◌≤◌, ◌+◌, ◌-◌, ◌<◌, List, [], ◌∷◌, ◌++◌, length, get_or, take, map, reverse, refl, ap}
 use Rattle.std.proofs.Common.{sym, ◌∙◌, subst, Bool, true, false, cond, arith, eq-eqb}
-use Rattle.std.specs.Prelude.{◌&&◌, ◌||◌, not, nat_eq, nat_lt, slice_get, Option, Some, None, is_some, option_map}
+use Rattle.std.specs.Prelude.{◌&&◌, ◌||◌, nat_eq, nat_lt, slice_get, Option, Some, None, option_map}
 use Rattle.std.specs.List.{filter, list_any, Contains}
 use Rattle.std.specs.Bool.{IsTrue}
 use Rattle.std.specs.Option.{option_to_list, SomeIff}

@@ -1,7 +1,5 @@
-use Rattle.std.proofs.Common.{◌≡◌, ◌-◌, false, true, List, reverse, take, ap, sym, subst, ◌∙◌, arith, rules}
-use Rattle.std.specs.Prelude.{IfOk}
-use Rattle.std.specs.List.{list_any}
-use Rattle.xt_tree.specs.Place.{Place, above_place}
+use Rattle.std.proofs.Common.{◌≡◌, ◌-◌, false, true, reverse, take, ap, sym, subst, ◌∙◌, arith, rules}
+use Rattle.xt_tree.specs.Place.{above_place}
 use Rattle.match_patterns.specs.Findings.{Tells}
 use Rattle.match_patterns.specs.Patterns.{above, is_led, steps_match}
 use Rattle.match_patterns.proofs.AboveLemmas.{upper, upper_is, within_path}

@@ -1,4 +1,4 @@
-use Rattle.std.proofs.Common.{◌≡◌, ◌≤◌, ◌+◌, ◌*◌, length, take, reverse, true}
+use Rattle.std.proofs.Common.{◌≡◌, ◌≤◌, ◌+◌, ◌*◌, take, reverse, true}
 use Rattle.std.specs.List.{list_any}
 use Rattle.xt_tree.specs.Place.{has_place}
 use Rattle.match_patterns.specs.Findings.{count_above}
