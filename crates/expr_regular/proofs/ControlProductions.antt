@@ -1,0 +1,382 @@
+-- The productions of operators, types, lists and bindings, by what their parts mean.
+use Rattle.std.proofs.Common.{◌≡◌, List, [], ◌∷◌, ◌++◌, Bool, true, false, Option, Some, None, refl}
+use Rattle.std.proofs.Common.{sym, subst}
+use Rattle.xt_syntax.specs.declared.exprs.Expr.{Expr}
+use Rattle.xt_syntax.specs.declared.exprs.Expr.TheVariants as expr
+use Rattle.xt_syntax.specs.declared.exprs.Bind.{Bind}
+use Rattle.xt_syntax.specs.declared.exprs.Clause.{Clause}
+use Rattle.xt_syntax.specs.declared.exprs.Order.{Order}
+use Rattle.expr_terms.specs.Productions.{body}
+use Rattle.expr_terms.specs.declared.keys.Key.TheVariants as key
+use Rattle.expr_terms.specs.declared.tokens.Token.{Token}
+use Rattle.expr_terms.specs.declared.productions.Class.TheVariants as class
+use Rattle.expr_terms.specs.declared.productions.Level.{Level}
+use Rattle.expr_terms.specs.declared.productions.Level.TheVariants as level
+use Rattle.expr_terms.specs.declared.productions.Nonterminal.TheVariants as nonterminal
+use Rattle.expr_terms.specs.declared.productions.Production.{Production}
+use Rattle.expr_terms.specs.declared.productions.Production.TheVariants as production
+use Rattle.expr_terms.specs.declared.productions.Symbol.TheVariants.{Tok as tok, One as one}
+use Rattle.expr_terms.specs.declared.productions.Symbol.TheVariants.{Maybe as maybe, Many as many}
+use Rattle.expr_meant.specs.declared.meant.Meant.{Meant}
+use Rattle.expr_meant.specs.declared.meant.Meant.TheVariants as meant
+use Rattle.expr_meant.specs.Parts.{expr_of, exprs_of, expr_or, expr_in, key_of}
+use Rattle.expr_rules.specs.Known.{name_of}
+use Rattle.expr_rules.specs.Rules.{own_broken, end_broken}
+use Rattle.expr_control.specs.Bindings.{kind_or, place_or, clause_and, clauses_in, clauses_and}
+use Rattle.expr_control.specs.Bindings.{all_clauses, where_or, where_in, order_and, orders_in}
+use Rattle.expr_control.specs.Bindings.{orders_or, all_orders, stable_or, is_stable}
+use Rattle.expr_control.specs.Lists.{bind_and, binds_of, is_every_first}
+use Rattle.expr_control.specs.Operators.{joined, left_chain, chained, operated, single_of}
+use Rattle.expr_control.specs.Table.{control_value}
+use Rattle.expr_resolve.specs.declared.setting.Setting.{Setting}
+use Rattle.expr_resolve.specs.Tables.{family_of, value_in, act, end as end_rules}
+use Rattle.sound_forms.specs.Sound.{SoundPrefixes}
+use Rattle.sound_forms.proofs.FormLemmas.{Fine, Form, AllFine, form_comma, form_or, form_and}
+use Rattle.sound_forms.proofs.FormLemmas.{form_flwor, form_quant, fine_for, fine_let, AllBinds}
+use Rattle.sound_forms.proofs.FormLemmas.{AllClauses, AllOrders, FineTest, IsOrdered}
+use Rattle.expr_regular.proofs.Claims.{IsExpr, expr_is, IsForm, form_is, AreClauses, clauses_are}
+use Rattle.expr_regular.proofs.Claims.{IsClause, clause_is, IsBind, bind_is, IsSequence}
+use Rattle.expr_regular.proofs.Claims.{sequence_is, IsPlace, place_is, IsWhere, where_is}
+use Rattle.expr_regular.proofs.Claims.{AreOrders, orders_are, IsOrder, order_is, IsTail}
+use Rattle.expr_regular.proofs.Claims.{tail_operand, tail_type, tail_single, IsType, type_sequence}
+use Rattle.expr_regular.proofs.Claims.{IsItem, item_any, IsSingle, single_is}
+use Rattle.expr_regular.proofs.Claims.{Filled, end, taken, next, without, with, stop, again, given}
+use Rattle.expr_regular.proofs.Lists.{All, many_are, expr_fine, exprs_fine, tail_fine, tails_fine}
+use Rattle.expr_regular.proofs.ControlForms.{empty_good, item_good, sequence_good, kind_regular}
+use Rattle.expr_regular.proofs.ControlForms.{kind_sound, no_kind, single_good, joined_form}
+use Rattle.expr_regular.proofs.ControlForms.{chain_form, signed_form, name_good, bind_good}
+use Rattle.expr_regular.proofs.ControlForms.{no_place, place_good, typed_place_good}
+use Rattle.expr_regular.proofs.ControlForms.{clauses_append}
+
+one_clause : (m : Meant) (cs : List Clause) → IsClause m → AllClauses cs
+    → AllClauses (clause_and m cs)
+unfolding clause_and
+one_clause _ cs (clause_is f) g = (f, g)
+
+one_order : (m : Meant) (os : List Order) → IsOrder m → AllOrders os → AllOrders (order_and m os)
+unfolding order_and
+one_order _ os (order_is f) g = (f, g)
+
+clauses_so : (ms : List Meant) → All IsClause ms → AllClauses (clauses_in ms)
+clauses_so [] a = tt
+clauses_so (m ∷ ms) a = one_clause m (clauses_in ms) a.0 (clauses_so ms a.1)
+
+orders_so : (ms : List Meant) → All IsOrder ms → AllOrders (orders_in ms)
+orders_so [] a = tt
+orders_so (m ∷ ms) a = one_order m (orders_in ms) a.0 (orders_so ms a.1)
+
+chain_made : (l : Level) (e : Expr) (n : Meant) (ms : List Meant) → Fine e → IsTail n
+    → All IsTail ms → Form (left_chain l (meant.Expr e ∷ n ∷ ms))
+unfolding expr_of
+chain_made l e n ms f g h = chain_form l (joined l e n) ms (joined_form l e n f g) h
+
+-- what stands behind the first clause
+record Returns (ms : List Meant) : Type 0 where
+  clauses : AllClauses (all_clauses ms)
+  test : FineTest (where_in ms)
+  orders : AllOrders (all_orders ms)
+  ordered : IsOrdered (all_orders ms) (is_stable ms)
+  body : Fine (expr_in ms)
+
+module _ (s : Setting) (u : SoundPrefixes s.prefixes) where
+  abbrev pub Meaning : Production → List Meant → Type 0
+  Meaning p ms = Filled s p true (body p) ms
+
+  pub listing_made : {m n : Meant} {ms : List Meant} → Meaning production.Listing (m ∷ n ∷ ms)
+      → IsForm (act s production.Listing (m ∷ n ∷ ms))
+  unfolding family_of value_in control_value
+  listing_made {m = m} {n = n} {ms = ms} (next g o (again h p q)) =
+      form_is (form_comma (expr_of m) (expr_of n) (exprs_of ms)
+      (exprs_fine (m ∷ n ∷ ms) (g, h, many_are q)))
+
+  returns : {p : Production} {b : Bool} {ms : List Meant} → Filled s p b
+      (many nonterminal.NextClause ∷ maybe nonterminal.WherePart ∷ maybe nonterminal.OrderPart
+      ∷ tok (class.Key key.ReturnWord) ∷ one nonterminal.Single ∷ []) ms → Returns ms
+  unfolding clauses_and where_or orders_or stable_or expr_or
+  returns (again (clauses_are {c = c} {cs = cs} f) o q) =
+      let r = returns q in
+      record {
+        clauses = clauses_append (c ∷ cs) _ f r.clauses;
+        test = r.test;
+        orders = r.orders;
+        ordered = r.ordered;
+        body = r.body;
+      }
+  returns (stop (without (without (taken a b c (next (expr_is f) o end))))) =
+      record { clauses = tt; test = tt; orders = tt; ordered = refl; body = f }
+  returns (stop (with (where_is w) p (without (taken a b c (next (expr_is f) o end))))) =
+      record { clauses = tt; test = w; orders = tt; ordered = refl; body = f }
+  returns (stop (without (with (orders_are k) r (taken a b c (next (expr_is f) o end))))) =
+      record { clauses = tt; test = tt; orders = k; ordered = tt; body = f }
+  returns (stop (with (where_is w) p (with (orders_are k) r (taken a b c (next (expr_is f) o end))))) =
+      record { clauses = tt; test = w; orders = k; ordered = tt; body = f }
+
+  pub flwor_made : {ms : List Meant} → Meaning production.Flwor ms
+      → IsForm (act s production.Flwor ms)
+  unfolding family_of value_in control_value clauses_and where_or orders_or stable_or expr_or
+  flwor_made (next {ms = ms} (clauses_are {c = c} {cs = cs} f) o q) =
+      let r = returns q in
+      form_is (form_flwor c (cs ++ all_clauses ms) (where_in ms) (all_orders ms) (is_stable ms)
+      (expr_in ms) (clauses_append (c ∷ cs) (all_clauses ms) f r.clauses) r.test r.orders r.ordered
+      r.body)
+
+  satisfied : {p : Production} {b : Bool} {ms : List Meant} → Filled s p b
+      (many nonterminal.CommaQuant ∷ tok (class.Key key.SatisfiesWord) ∷ one nonterminal.Single ∷ [])
+      ms → AllBinds (binds_of ms) × Fine (expr_in ms)
+  unfolding bind_and expr_or
+  satisfied (again (bind_is f) o q) = let r = satisfied q in ((f, r.0), r.1)
+  satisfied (stop (taken a b c (next (expr_is f) o end))) = (tt, f)
+
+  pub quantified_made : {ms : List Meant} → Meaning production.Quantified ms
+      → IsForm (act s production.Quantified ms)
+  unfolding family_of value_in control_value bind_and expr_or
+  quantified_made (taken {t = t} a b c (next {ms = ms} (bind_is {b = v} f) o q)) =
+      let r = satisfied q in
+      form_is (form_quant _ v (binds_of ms) (expr_in ms) (f, r.0) r.1)
+
+  pub for_clause_made : {ms : List Meant} → Meaning production.ForClause ms
+      → AreClauses (act s production.ForClause ms)
+  unfolding family_of value_in control_value clause_and
+  for_clause_made (taken a b c (next {ms = ms} (clause_is f) o q)) =
+      clauses_are (f, clauses_so ms (many_are q))
+
+  pub let_clause_made : {ms : List Meant} → Meaning production.LetClause ms
+      → AreClauses (act s production.LetClause ms)
+  unfolding family_of value_in control_value clause_and
+  let_clause_made (taken a b c (next {ms = ms} (clause_is f) o q)) =
+      clauses_are (f, clauses_so ms (many_are q))
+
+  pub bind_made : {ms : List Meant} → Meaning production.Bind ms
+      → end_rules s production.Bind ms ≡ [] → IsClause (act s production.Bind ms)
+  unfolding family_of value_in control_value kind_or place_or expr_or end_broken
+  bind_made (taken a b c (taken {t = t} d e f (without (without (taken g h i (next (expr_is k) o end)))))) r =
+      let n = name_good s.prefixes.bound t u.bound d e in
+      clause_is (fine_for _ None (bind_good _ None _ n no_kind.0 no_kind.1 k) (no_place _))
+  bind_made (taken a b c (taken {t = t} d e f (with (sequence_is {k = w} x) p (without (taken g h i (next (expr_is k) o end)))))) r =
+      let n = name_good s.prefixes.bound t u.bound d e in
+      clause_is (fine_for _ None (bind_good _ (Some w) _ n (kind_regular w x) (kind_sound w x) k)
+      (no_place _))
+  bind_made (taken a b c (taken {t = t} d e f (without (with (place_is {n = v} y) p (taken g h i (next (expr_is {e = z} k) o end)))))) r =
+      let n = name_good s.prefixes.bound t u.bound d e in
+      clause_is (fine_for _ (Some v) (bind_good _ None _ n no_kind.0 no_kind.1 k)
+      (place_good (name_of s.prefixes.bound [] (meant.Token t)) v z _ y r))
+  bind_made (taken a b c (taken {t = t} d e f (with (sequence_is {k = w} x) p (with (place_is {n = v} y) j (taken g h i (next (expr_is {e = z} k) o end)))))) r =
+      let n = name_good s.prefixes.bound t u.bound d e in
+      clause_is (fine_for _ (Some v) (bind_good _ (Some w) _ n (kind_regular w x) (kind_sound w x) k)
+      (typed_place_good (name_of s.prefixes.bound [] (meant.Token t)) v w z _ y r))
+
+  pub let_bind_made : {ms : List Meant} → Meaning production.LetBind ms
+      → IsClause (act s production.LetBind ms)
+  unfolding family_of value_in control_value kind_or expr_or
+  let_bind_made (taken a b c (taken {t = t} d e f (without (taken g h i (next (expr_is k) o end))))) =
+      let n = name_good s.prefixes.bound t u.bound d e in
+      clause_is (fine_let _ (bind_good _ None _ n no_kind.0 no_kind.1 k))
+  let_bind_made (taken a b c (taken {t = t} d e f (with (sequence_is {k = w} x) p (taken g h i (next (expr_is k) o end))))) =
+      let n = name_good s.prefixes.bound t u.bound d e in
+      clause_is (fine_let _ (bind_good _ (Some w) _ n (kind_regular w x) (kind_sound w x) k))
+
+  pub quant_bind_made : {ms : List Meant} → Meaning production.QuantBind ms
+      → IsBind (act s production.QuantBind ms)
+  unfolding family_of value_in control_value kind_or expr_or
+  quant_bind_made (taken a b c (taken {t = t} d e f (without (taken g h i (next (expr_is k) o end))))) =
+      let n = name_good s.prefixes.bound t u.bound d e in
+      bind_is (bind_good _ None _ n no_kind.0 no_kind.1 k)
+  quant_bind_made (taken a b c (taken {t = t} d e f (with (sequence_is {k = w} x) p (taken g h i (next (expr_is k) o end))))) =
+      let n = name_good s.prefixes.bound t u.bound d e in
+      bind_is (bind_good _ (Some w) _ n (kind_regular w x) (kind_sound w x) k)
+
+  pub typed_made : {ms : List Meant} → Meaning production.Typed ms
+      → IsSequence (act s production.Typed ms)
+  unfolding family_of value_in control_value
+  typed_made (taken a b c (next {m = m} g o end)) =
+      sequence_is (sequence_good s.prefixes.bound m g)
+
+  pub placed_made : {ms : List Meant} → Meaning production.Placed ms
+      → IsPlace (act s production.Placed ms)
+  unfolding family_of value_in control_value
+  placed_made (taken a b c (taken d e f (taken {t = t} g h i end))) =
+      place_is (name_good s.prefixes.bound t u.bound g h)
+
+  pub where_made : {ms : List Meant} → Meaning production.WhereTest ms
+      → IsWhere (act s production.WhereTest ms)
+  unfolding family_of value_in control_value expr_or
+  where_made (taken a b c (next (expr_is f) o end)) = where_is f
+
+  pub ordered_made : {ms : List Meant} → Meaning production.Ordered ms
+      → AreOrders (act s production.Ordered ms)
+  unfolding family_of value_in control_value order_and
+  ordered_made (taken a b c (taken d e f (next {ms = ms} (order_is g) o q))) =
+      orders_are (g, orders_so ms (many_are q))
+
+  pub stable_made : {ms : List Meant} → Meaning production.Stable ms
+      → AreOrders (act s production.Stable ms)
+  unfolding family_of value_in control_value order_and
+  stable_made (taken x y z (taken a b c (taken d e f (next {ms = ms} (order_is g) o q)))) =
+      orders_are (g, orders_so ms (many_are q))
+
+  pub key_spec_made : {ms : List Meant} → Meaning production.KeySpec ms
+      → IsOrder (act s production.KeySpec ms)
+  unfolding family_of value_in control_value expr_of
+  key_spec_made (next (expr_is f) o q) = order_is f
+
+  pub ors_made : {m n : Meant} {ms : List Meant}
+      → Meaning (production.Chain level.Ors) (m ∷ n ∷ ms)
+      → IsForm (act s (production.Chain level.Ors) (m ∷ n ∷ ms))
+  unfolding family_of value_in control_value chained
+  ors_made {m = m} {n = n} {ms = ms} (next g o (again h p q)) =
+      form_is (form_or (expr_of m) (expr_of n) (exprs_of ms)
+      (expr_fine m g, tails_fine (n ∷ ms) (h, many_are q)))
+
+  pub ands_made : {m n : Meant} {ms : List Meant}
+      → Meaning (production.Chain level.Ands) (m ∷ n ∷ ms)
+      → IsForm (act s (production.Chain level.Ands) (m ∷ n ∷ ms))
+  unfolding family_of value_in control_value chained
+  ands_made {m = m} {n = n} {ms = ms} (next g o (again h p q)) =
+      form_is (form_and (expr_of m) (expr_of n) (exprs_of ms)
+      (expr_fine m g, tails_fine (n ∷ ms) (h, many_are q)))
+
+  -- the other levels
+  abbrev pub IsLeft : Level → Type 0
+  IsLeft l = (m n : Meant) (ms : List Meant) → IsExpr m → IsTail n → All IsTail ms
+      → IsForm (act s (production.Chain l) (m ∷ n ∷ ms))
+
+  lefts : (l : Level) → ((ms : List Meant) → chained l ms ≡ left_chain l ms) → (m n : Meant)
+      (ms : List Meant) → IsExpr m → IsTail n → All IsTail ms
+      → IsForm (act s (production.Chain l) (m ∷ n ∷ ms))
+  unfolding family_of value_in control_value
+  lefts l e _ n ms (expr_is {e = x} f) g h =
+      subst (λ z. IsForm (meant.Expr z)) (sym (e (meant.Expr x ∷ n ∷ ms)))
+      (form_is (chain_made l x n ms f g h))
+
+  compares_left : IsLeft level.Compares
+  unfolding chained
+  compares_left = lefts level.Compares (λ ms. refl)
+
+  ranges_left : IsLeft level.Ranges
+  unfolding chained
+  ranges_left = lefts level.Ranges (λ ms. refl)
+
+  instances_left : IsLeft level.Instances
+  unfolding chained
+  instances_left = lefts level.Instances (λ ms. refl)
+
+  treats_left : IsLeft level.Treats
+  unfolding chained
+  treats_left = lefts level.Treats (λ ms. refl)
+
+  castables_left : IsLeft level.Castables
+  unfolding chained
+  castables_left = lefts level.Castables (λ ms. refl)
+
+  casts_left : IsLeft level.Casts
+  unfolding chained
+  casts_left = lefts level.Casts (λ ms. refl)
+
+  adds_left : IsLeft level.Adds
+  unfolding chained
+  adds_left = lefts level.Adds (λ ms. refl)
+
+  multiplies_left : IsLeft level.Multiplies
+  unfolding chained
+  multiplies_left = lefts level.Multiplies (λ ms. refl)
+
+  unions_left : IsLeft level.Unions
+  unfolding chained
+  unions_left = lefts level.Unions (λ ms. refl)
+
+  crosses_left : IsLeft level.Crosses
+  unfolding chained
+  crosses_left = lefts level.Crosses (λ ms. refl)
+
+  pub compares_made : {m n : Meant} → Meaning (production.Chain level.Compares) (m ∷ n ∷ [])
+      → IsForm (act s (production.Chain level.Compares) (m ∷ n ∷ []))
+  compares_made {m = m} {n = n} (next g o (with h p end)) = compares_left m n [] g h tt
+
+  pub ranges_made : {m n : Meant} → Meaning (production.Chain level.Ranges) (m ∷ n ∷ [])
+      → IsForm (act s (production.Chain level.Ranges) (m ∷ n ∷ []))
+  ranges_made {m = m} {n = n} (next g o (with h p end)) = ranges_left m n [] g h tt
+
+  pub instances_made : {m n : Meant} → Meaning (production.Chain level.Instances) (m ∷ n ∷ [])
+      → IsForm (act s (production.Chain level.Instances) (m ∷ n ∷ []))
+  instances_made {m = m} {n = n} (next g o (with h p end)) = instances_left m n [] g h tt
+
+  pub treats_made : {m n : Meant} → Meaning (production.Chain level.Treats) (m ∷ n ∷ [])
+      → IsForm (act s (production.Chain level.Treats) (m ∷ n ∷ []))
+  treats_made {m = m} {n = n} (next g o (with h p end)) = treats_left m n [] g h tt
+
+  pub castables_made : {m n : Meant} → Meaning (production.Chain level.Castables) (m ∷ n ∷ [])
+      → IsForm (act s (production.Chain level.Castables) (m ∷ n ∷ []))
+  castables_made {m = m} {n = n} (next g o (with h p end)) = castables_left m n [] g h tt
+
+  pub casts_made : {m n : Meant} → Meaning (production.Chain level.Casts) (m ∷ n ∷ [])
+      → IsForm (act s (production.Chain level.Casts) (m ∷ n ∷ []))
+  casts_made {m = m} {n = n} (next g o (with h p end)) = casts_left m n [] g h tt
+
+  pub adds_made : {m n : Meant} {ms : List Meant}
+      → Meaning (production.Chain level.Adds) (m ∷ n ∷ ms)
+      → IsForm (act s (production.Chain level.Adds) (m ∷ n ∷ ms))
+  adds_made {m = m} {n = n} {ms = ms} (next g o (again h p q)) =
+      adds_left m n ms g h (many_are q)
+
+  pub multiplies_made : {m n : Meant} {ms : List Meant}
+      → Meaning (production.Chain level.Multiplies) (m ∷ n ∷ ms)
+      → IsForm (act s (production.Chain level.Multiplies) (m ∷ n ∷ ms))
+  multiplies_made {m = m} {n = n} {ms = ms} (next g o (again h p q)) =
+      multiplies_left m n ms g h (many_are q)
+
+  pub unions_made : {m n : Meant} {ms : List Meant}
+      → Meaning (production.Chain level.Unions) (m ∷ n ∷ ms)
+      → IsForm (act s (production.Chain level.Unions) (m ∷ n ∷ ms))
+  unions_made {m = m} {n = n} {ms = ms} (next g o (again h p q)) =
+      unions_left m n ms g h (many_are q)
+
+  pub crosses_made : {m n : Meant} {ms : List Meant}
+      → Meaning (production.Chain level.Crosses) (m ∷ n ∷ ms)
+      → IsForm (act s (production.Chain level.Crosses) (m ∷ n ∷ ms))
+  crosses_made {m = m} {n = n} {ms = ms} (next g o (again h p q)) =
+      crosses_left m n ms g h (many_are q)
+
+  pub operated_made : (l : Level) {ms : List Meant} → Meaning (production.Operated l) ms
+      → IsTail (act s (production.Operated l) ms)
+  unfolding family_of value_in control_value operated single_of expr_or
+  operated_made level.Instances (taken a b c (taken d e f (next {m = m} g o end))) =
+      tail_type (sequence_good s.prefixes.bound m g)
+  operated_made level.Treats (taken a b c (taken d e f (next {m = m} g o end))) =
+      tail_type (sequence_good s.prefixes.bound m g)
+  operated_made level.Castables (taken a b c (taken d e f (next (single_is g) o end))) =
+      tail_single g
+  operated_made level.Casts (taken a b c (taken d e f (next (single_is g) o end))) = tail_single g
+  operated_made level.Ors (taken a b c (next (expr_is g) o end)) = tail_operand g
+  operated_made level.Ands (taken a b c (next (expr_is g) o end)) = tail_operand g
+  operated_made level.Compares (taken a b c (next (expr_is g) o end)) = tail_operand g
+  operated_made level.Ranges (taken a b c (next (expr_is g) o end)) = tail_operand g
+  operated_made level.Adds (taken a b c (next (expr_is g) o end)) = tail_operand g
+  operated_made level.Multiplies (taken a b c (next (expr_is g) o end)) = tail_operand g
+  operated_made level.Unions (taken a b c (next (expr_is g) o end)) = tail_operand g
+  operated_made level.Crosses (taken a b c (next (expr_is g) o end)) = tail_operand g
+
+  pub signed_made : {ms : List Meant} → Meaning production.Signed ms
+      → IsForm (act s production.Signed ms)
+  unfolding family_of value_in control_value expr_or
+  signed_made (taken {t = t} a b c (next (expr_is {e = e} f) o end)) =
+      form_is (signed_form (key_of (meant.Token t)) e f)
+
+  pub empty_type_made : IsType (act s production.EmptyType [])
+  unfolding family_of value_in control_value
+  empty_type_made = type_sequence empty_good
+
+  pub items_made : {m n : Meant} → Meaning production.ItemsType (m ∷ n ∷ [])
+      → IsType (act s production.ItemsType (m ∷ n ∷ []))
+  unfolding family_of value_in control_value
+  items_made {m = m} (next g o (given h p end)) =
+      type_sequence (item_good s.prefixes.bound m _ g)
+
+  pub any_item_made : IsItem (act s production.AnyItem [])
+  unfolding family_of value_in control_value
+  any_item_made = item_any
+
+  pub one_type_made : {ms : List Meant} → Meaning production.OneType ms
+      → IsSingle (act s production.OneType ms)
+  unfolding family_of value_in control_value own_broken
+  one_type_made (taken {t = t} a b c (without end)) = single_is (single_good s.prefixes.bound t c)
+  one_type_made (taken {t = t} a b c (with g o end)) = single_is (single_good s.prefixes.bound t c)

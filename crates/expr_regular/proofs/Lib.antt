@@ -1,0 +1,13 @@
+pub mod Claims
+pub mod Found
+pub mod Lists
+pub mod PathForms
+pub mod ControlForms
+pub mod ElementForms
+pub mod PathProductions
+pub mod ControlProductions
+pub mod ElementProductions
+pub mod Produced
+pub mod Chains
+pub mod TypeShapes
+pub mod Regular

@@ -1,0 +1,5 @@
+pub mod Names
+pub mod Terms
+pub mod Literals
+pub mod Pieces
+pub mod Splitting
