@@ -2,12 +2,10 @@
 use Rattle.std.proofs.Common.{◌≡◌, List, [], ◌∷◌, ◌++◌, map, reverse, Bool, true, false, cond, Option}
 use Rattle.std.proofs.Common.{Some, None, refl, sym, ap, subst, ◌∙◌}
 use Rattle.std.proofs.lemmas.List.{reverse-append}
-use Rattle.xt_syntax.specs.declared.exprs.Arm.{Arm}
 use Rattle.xt_syntax.specs.declared.exprs.Expr.{Expr}
-use Rattle.xt_syntax.specs.declared.exprs.Expr.TheVariants as expr
-use Rattle.expr_terms.specs.Raws.{build, in_parens, in_else, in_chain, as_parens, as_chain}
+use Rattle.expr_terms.specs.Raws.{in_parens, in_else, in_chain, as_parens, as_chain}
 use Rattle.expr_terms.specs.Raws.{as_inner_chain, only_chain, as_else, chain_or, is_parens}
-use Rattle.expr_terms.specs.Raws.{is_conditional, is_otherwise}
+use Rattle.expr_terms.specs.Raws.{is_conditional}
 use Rattle.expr_terms.specs.declared.productions.Nonterminal.TheVariants as nonterminal
 use Rattle.expr_terms.specs.declared.productions.Production.{Production}
 use Rattle.expr_terms.specs.declared.productions.Production.TheVariants as production
@@ -21,17 +19,16 @@ use Rattle.expr_meant.specs.Parts.{expr_of}
 use Rattle.expr_control.specs.Lists.{arm, arms_of, other_of, conditional}
 use Rattle.expr_control.specs.Table.{control_value}
 use Rattle.expr_resolve.specs.declared.setting.Setting.{Setting}
-use Rattle.expr_resolve.specs.Tables.{act, family_of, value_in, is_chain}
+use Rattle.expr_resolve.specs.Tables.{family_of, value_in, is_chain}
 use Rattle.expr_resolve.specs.Folds.{value_of}
 use Rattle.sound_forms.specs.Sound.{SoundPrefixes}
-use Rattle.sound_forms.proofs.FormLemmas.{Fine, Form, AllArms, fine_if}
+use Rattle.sound_forms.proofs.FormLemmas.{Form, AllArms, fine_if}
 use Rattle.expr_regular.proofs.Claims.{IsExpr, expr_is, IsForm, form_is, Kept, EachKept, AreArms}
 use Rattle.expr_regular.proofs.Claims.{IsChain, IfChain, Claim, IsElse, Good}
-use Rattle.expr_regular.proofs.Found.{value_node, value_chain, kept_parts, each_own, chain_each}
+use Rattle.expr_regular.proofs.Found.{value_node, value_chain, kept_parts, chain_each}
 use Rattle.expr_regular.proofs.Found.{each_chain, parens_kept}
 use Rattle.expr_regular.proofs.Lists.{form_expr}
 use Rattle.expr_regular.proofs.PathProductions.{parens_same, empty_made}
-use Rattle.expr_regular.proofs.Produced.{no_chain}
 
 -- what the parts of a chain give in reading order
 record Ends (ms : List Meant) : Type 0 where
@@ -139,11 +136,10 @@ module _ (s : Setting) where
           let r = each_front e.parts (a ∷ t ∷ []) (chain_each s us k) in
           let c = e.good r.0 in
           let x = (h r.1.0).0 in
-          let y = (g r.1.1.0).0 in
-          (
+          let y = (g r.1.1.0).0 in (
             conditional_meant e.parts a t c x y,
             subst (λ (o : Option (List Raw)). IfChain s o (IsForm (value_of s (node production.Conditional us))))
-            (sym (is_chain_node us)) (chain_more e.parts a t c x y),
+                (sym (is_chain_node us)) (chain_more e.parts a t c x y),
           )
 
   -- the last part of one goes on with the chain that it is
@@ -229,11 +225,10 @@ module _ (s : Setting) where
         let same : value_of s w ≡ value_of s v =
         value_node s production.Parens (v ∷ []) refl ∙ parens_same s u (value_of s v) x.0 in
         let chain : as_inner_chain (out-Raw w) ≡ as_inner_chain (out-Raw v) =
-        ap as_inner_chain (outs-Node production.Parens (v ∷ [])) ∙ chain_same (out-Raw v) e in
-        (
+        ap as_inner_chain (outs-Node production.Parens (v ∷ [])) ∙ chain_same (out-Raw v) e in (
           subst IsExpr (sym same) x.0,
           subst (λ (o : Option (List Raw)). IfChain s o (IsForm (value_of s w))) (sym chain)
-          (subst (λ (m : Meant). IfChain s (as_inner_chain (out-Raw v)) (IsForm m)) (sym same) x.1),
+              (subst (λ (m : Meant). IfChain s (as_inner_chain (out-Raw v)) (IsForm m)) (sym same) x.1),
         )
 
     pub parens_good : (v : Raw) → Good s nonterminal.Expr v
@@ -253,8 +248,7 @@ module _ (s : Setting) where
         let x : IsForm (value_of s w) =
         subst IsForm (sym (value_node s production.Parens [] refl)) (empty_made s u) in
         let e : as_inner_chain (out-Raw w) ≡ None =
-        ap as_inner_chain (outs-Node production.Parens []) in
-        (
+        ap as_inner_chain (outs-Node production.Parens []) in (
           form_expr (value_of s w) x,
           subst (λ (o : Option (List Raw)). IfChain s o (IsForm (value_of s w))) (sym e) x,
         )

@@ -227,7 +227,7 @@ Good s n v = Kept s v → Claim s n v
 -- the parts of a production, as they are read
 pub data Parts (s : Setting) : List Symbol → List Raw → Type 0 where
   ended : Parts s [] []
-  read : {c : Class} {ss : List Symbol} {t : Token} {vs : List Raw} → fits c t ≡ true
+  read : {c : Class} {ss : List Symbol} (t : Token) {vs : List Raw} → fits c t ≡ true
       → is_sound_token t ≡ true → Parts s ss vs → Parts s (tok c ∷ ss) (keep c t vs)
   part : {n : Nonterminal} {ss : List Symbol} {v : Raw} {vs : List Raw} → Good s n v
       → Parts s ss vs → Parts s (one n ∷ ss) (v ∷ vs)
@@ -257,7 +257,7 @@ IfKept c A = If (keeps c) A
 -- .. and what they mean where none breaks a rule of its own in the production
 pub data Filled (s : Setting) (p : Production) : Bool → List Symbol → List Meant → Type 0 where
   end : {b : Bool} → Filled s p b [] []
-  taken : {b : Bool} {c : Class} {ss : List Symbol} {t : Token} {ms : List Meant}
+  taken : {b : Bool} {c : Class} {ss : List Symbol} (t : Token) {ms : List Meant}
       → fits c t ≡ true → is_sound_token t ≡ true → IfKept c (own s p b (meant.Token t) ≡ [])
       → Filled s p (cond (keeps c) false b) ss ms → Filled s p b (tok c ∷ ss) (keep_meant c t ms)
   next : {b : Bool} {n : Nonterminal} {ss : List Symbol} {m : Meant} {ms : List Meant}

@@ -1,30 +1,24 @@
 -- What the productions of operators, types, lists and bindings mean.
-use Rattle.std.proofs.Common.{◌≡◌, ℕ, List, [], ◌∷◌, ◌++◌, Bool, true, false, not, cond, ◌&&◌, ◌||◌}
-use Rattle.std.proofs.Common.{Option, Some, None, refl, sym, ap, subst, ◌∙◌}
-use Rattle.std.proofs.lemmas.Bool.{not_from_false}
+use Rattle.std.proofs.Common.{◌≡◌, List, [], ◌∷◌, ◌++◌, Bool, true, false, cond, ◌||◌}
+use Rattle.std.proofs.Common.{Option, Some, None, refl}
 use Rattle.std.specs.List.{list_any}
-use Rattle.std.specs.Str.{bytes_eq}
 use Rattle.xt_names.specs.declared.codes.Code.{Code}
 use Rattle.xt_names.specs.declared.kinds.AtomType.{AtomType}
 use Rattle.xt_names.specs.declared.names.Binding.{Binding}
 use Rattle.xt_names.specs.declared.names.ExprName.{ExprName}
-use Rattle.xt_types.specs.Regular.{is_regular_type, is_regular_item, is_named}
+use Rattle.xt_types.specs.Regular.{is_regular_type, is_regular_item}
 use Rattle.xt_types.specs.declared.types.Count.{Count}
-use Rattle.xt_types.specs.declared.types.ItemType.{ItemType}
 use Rattle.xt_types.specs.declared.types.SeqType.{SeqType}
 use Rattle.xt_types.specs.declared.types.SeqType.TheVariants as sequence
 use Rattle.xt_forms.specs.Regular.{is_regular_kind, is_cast_type}
 use Rattle.xt_syntax.specs.declared.exprs.Expr.{Expr}
-use Rattle.xt_syntax.specs.declared.exprs.Expr.TheVariants as expr
-use Rattle.xt_syntax.specs.declared.exprs.Bind.{Bind}
 use Rattle.xt_syntax.specs.declared.exprs.Clause.{Clause}
-use Rattle.xt_syntax.specs.declared.exprs.Order.{Order}
 use Rattle.closed_queries.specs.Texts.{is_sound_expr_name, is_sound_type, is_sound_item}
 use Rattle.closed_queries.specs.Texts.{is_sound_kind}
 use Rattle.closed_queries.specs.ExprTexts.{is_sound_place}
 use Rattle.name_rules.specs.Scopes.{same_name}
-use Rattle.expr_names.specs.Names.{expr_name, undeclared_in}
-use Rattle.expr_names.specs.Types.{type_or_any, type_named, cast_broken}
+use Rattle.expr_names.specs.Names.{undeclared_in}
+use Rattle.expr_names.specs.Types.{type_named}
 use Rattle.expr_terms.specs.Tokens.{fits_name}
 use Rattle.expr_terms.specs.declared.keys.Key.{Key}
 use Rattle.expr_terms.specs.declared.keys.Key.TheVariants as key
@@ -34,7 +28,6 @@ use Rattle.expr_terms.specs.declared.tokens.Token.{Token}
 use Rattle.expr_meant.specs.declared.meant.Meant.{Meant}
 use Rattle.expr_meant.specs.declared.meant.Meant.TheVariants as meant
 use Rattle.expr_meant.specs.Names.{written_in, written_of}
-use Rattle.expr_meant.specs.Parts.{expr_of, exprs_of}
 use Rattle.expr_rules.specs.Known.{name_of, type_of}
 use Rattle.expr_rules.specs.Rules.{is_place_of, cast_broken_of}
 use Rattle.expr_control.specs.Operators.{compared, combined, operated_by, of_type, of_single, joined}
@@ -42,12 +35,12 @@ use Rattle.expr_control.specs.Operators.{chain_from, signed_by}
 use Rattle.expr_control.specs.Types.{item_of, sequence_of}
 use Rattle.sound_forms.specs.Sound.{is_sound_token, SoundBindings}
 use Rattle.sound_forms.proofs.NameLemmas.{expr_name_good, no_uri, name_written, cast_good}
-use Rattle.sound_forms.proofs.FormLemmas.{Fine, Form, AllFine, form_general, form_value, form_is}
+use Rattle.sound_forms.proofs.FormLemmas.{Fine, Form, form_general, form_value, form_is}
 use Rattle.sound_forms.proofs.FormLemmas.{form_before, form_after, form_range, form_arith}
 use Rattle.sound_forms.proofs.FormLemmas.{form_union, form_intersect, form_except, form_minus}
 use Rattle.sound_forms.proofs.FormLemmas.{form_plus, form_instance, form_treat, form_castable}
-use Rattle.sound_forms.proofs.FormLemmas.{form_cast, FineBind, AllClauses, AllOrders, AllBinds}
-use Rattle.expr_regular.proofs.Claims.{GoodType, GoodKind, IsItem, item_token, item_kind, item_any}
+use Rattle.sound_forms.proofs.FormLemmas.{form_cast, FineBind, AllClauses}
+use Rattle.expr_regular.proofs.Claims.{GoodType, IsItem, item_token, item_kind, item_any}
 use Rattle.expr_regular.proofs.Claims.{IsType, type_sequence, type_item, IsTail, tail_operand}
 use Rattle.expr_regular.proofs.Claims.{tail_type, tail_single}
 use Rattle.expr_regular.proofs.Lists.{All}

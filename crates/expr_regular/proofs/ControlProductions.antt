@@ -1,14 +1,11 @@
 -- The productions of operators, types, lists and bindings, by what their parts mean.
-use Rattle.std.proofs.Common.{◌≡◌, List, [], ◌∷◌, ◌++◌, Bool, true, false, Option, Some, None, refl}
+use Rattle.std.proofs.Common.{◌≡◌, List, [], ◌∷◌, ◌++◌, Bool, true, Some, None, refl}
 use Rattle.std.proofs.Common.{sym, subst}
 use Rattle.xt_syntax.specs.declared.exprs.Expr.{Expr}
-use Rattle.xt_syntax.specs.declared.exprs.Expr.TheVariants as expr
-use Rattle.xt_syntax.specs.declared.exprs.Bind.{Bind}
 use Rattle.xt_syntax.specs.declared.exprs.Clause.{Clause}
 use Rattle.xt_syntax.specs.declared.exprs.Order.{Order}
 use Rattle.expr_terms.specs.Productions.{body}
 use Rattle.expr_terms.specs.declared.keys.Key.TheVariants as key
-use Rattle.expr_terms.specs.declared.tokens.Token.{Token}
 use Rattle.expr_terms.specs.declared.productions.Class.TheVariants as class
 use Rattle.expr_terms.specs.declared.productions.Level.{Level}
 use Rattle.expr_terms.specs.declared.productions.Level.TheVariants as level
@@ -25,13 +22,13 @@ use Rattle.expr_rules.specs.Rules.{own_broken, end_broken}
 use Rattle.expr_control.specs.Bindings.{kind_or, place_or, clause_and, clauses_in, clauses_and}
 use Rattle.expr_control.specs.Bindings.{all_clauses, where_or, where_in, order_and, orders_in}
 use Rattle.expr_control.specs.Bindings.{orders_or, all_orders, stable_or, is_stable}
-use Rattle.expr_control.specs.Lists.{bind_and, binds_of, is_every_first}
+use Rattle.expr_control.specs.Lists.{bind_and, binds_of}
 use Rattle.expr_control.specs.Operators.{joined, left_chain, chained, operated, single_of}
 use Rattle.expr_control.specs.Table.{control_value}
 use Rattle.expr_resolve.specs.declared.setting.Setting.{Setting}
 use Rattle.expr_resolve.specs.Tables.{family_of, value_in, act, end as end_rules}
 use Rattle.sound_forms.specs.Sound.{SoundPrefixes}
-use Rattle.sound_forms.proofs.FormLemmas.{Fine, Form, AllFine, form_comma, form_or, form_and}
+use Rattle.sound_forms.proofs.FormLemmas.{Fine, Form, form_comma, form_or, form_and}
 use Rattle.sound_forms.proofs.FormLemmas.{form_flwor, form_quant, fine_for, fine_let, AllBinds}
 use Rattle.sound_forms.proofs.FormLemmas.{AllClauses, AllOrders, FineTest, IsOrdered}
 use Rattle.expr_regular.proofs.Claims.{IsExpr, expr_is, IsForm, form_is, AreClauses, clauses_are}
@@ -40,8 +37,9 @@ use Rattle.expr_regular.proofs.Claims.{sequence_is, IsPlace, place_is, IsWhere, 
 use Rattle.expr_regular.proofs.Claims.{AreOrders, orders_are, IsOrder, order_is, IsTail}
 use Rattle.expr_regular.proofs.Claims.{tail_operand, tail_type, tail_single, IsType, type_sequence}
 use Rattle.expr_regular.proofs.Claims.{IsItem, item_any, IsSingle, single_is}
-use Rattle.expr_regular.proofs.Claims.{Filled, end, taken, next, without, with, stop, again, given}
-use Rattle.expr_regular.proofs.Lists.{All, many_are, expr_fine, exprs_fine, tail_fine, tails_fine}
+use Rattle.expr_regular.proofs.Claims.{Filled, end, taken, next, without, with, stop, again, bare}
+use Rattle.expr_regular.proofs.Claims.{given}
+use Rattle.expr_regular.proofs.Lists.{All, many_are, expr_fine, exprs_fine, tails_fine}
 use Rattle.expr_regular.proofs.ControlForms.{empty_good, item_good, sequence_good, kind_regular}
 use Rattle.expr_regular.proofs.ControlForms.{kind_sound, no_kind, single_good, joined_form}
 use Rattle.expr_regular.proofs.ControlForms.{chain_form, signed_form, name_good, bind_good}
@@ -87,7 +85,8 @@ module _ (s : Setting) (u : SoundPrefixes s.prefixes) where
   unfolding family_of value_in control_value
   listing_made {m = m} {n = n} {ms = ms} (next g o (again h p q)) =
       form_is (form_comma (expr_of m) (expr_of n) (exprs_of ms)
-      (exprs_fine (m ∷ n ∷ ms) (g, h, many_are q)))
+      (exprs_fine (m ∷ n ∷ ms) (g, (h, many_are q))))
+  listing_made (next g o (stop x)) = elim x [ ]
 
   returns : {p : Production} {b : Bool} {ms : List Meant} → Filled s p b
       (many nonterminal.NextClause ∷ maybe nonterminal.WherePart ∷ maybe nonterminal.OrderPart
@@ -102,13 +101,13 @@ module _ (s : Setting) (u : SoundPrefixes s.prefixes) where
         ordered = r.ordered;
         body = r.body;
       }
-  returns (stop (without (without (taken a b c (next (expr_is f) o end))))) =
+  returns (stop (without (without (taken _ a b c (next (expr_is f) o end))))) =
       record { clauses = tt; test = tt; orders = tt; ordered = refl; body = f }
-  returns (stop (with (where_is w) p (without (taken a b c (next (expr_is f) o end))))) =
+  returns (stop (with (where_is w) p (without (taken _ a b c (next (expr_is f) o end))))) =
       record { clauses = tt; test = w; orders = tt; ordered = refl; body = f }
-  returns (stop (without (with (orders_are k) r (taken a b c (next (expr_is f) o end))))) =
+  returns (stop (without (with (orders_are k) r (taken _ a b c (next (expr_is f) o end))))) =
       record { clauses = tt; test = tt; orders = k; ordered = tt; body = f }
-  returns (stop (with (where_is w) p (with (orders_are k) r (taken a b c (next (expr_is f) o end))))) =
+  returns (stop (with (where_is w) p (with (orders_are k) r (taken _ a b c (next (expr_is f) o end))))) =
       record { clauses = tt; test = w; orders = k; ordered = tt; body = f }
 
   pub flwor_made : {ms : List Meant} → Meaning production.Flwor ms
@@ -125,42 +124,43 @@ module _ (s : Setting) (u : SoundPrefixes s.prefixes) where
       ms → AllBinds (binds_of ms) × Fine (expr_in ms)
   unfolding bind_and expr_or
   satisfied (again (bind_is f) o q) = let r = satisfied q in ((f, r.0), r.1)
-  satisfied (stop (taken a b c (next (expr_is f) o end))) = (tt, f)
+  satisfied (stop (taken _ a b c (next (expr_is f) o end))) = (tt, f)
 
   pub quantified_made : {ms : List Meant} → Meaning production.Quantified ms
       → IsForm (act s production.Quantified ms)
   unfolding family_of value_in control_value bind_and expr_or
-  quantified_made (taken {t = t} a b c (next {ms = ms} (bind_is {b = v} f) o q)) =
+  quantified_made (taken t a b c (next {ms = ms} (bind_is {b = v} f) o q)) =
       let r = satisfied q in
       form_is (form_quant _ v (binds_of ms) (expr_in ms) (f, r.0) r.1)
 
   pub for_clause_made : {ms : List Meant} → Meaning production.ForClause ms
       → AreClauses (act s production.ForClause ms)
   unfolding family_of value_in control_value clause_and
-  for_clause_made (taken a b c (next {ms = ms} (clause_is f) o q)) =
+  for_clause_made (taken _ a b c (next {ms = ms} (clause_is f) o q)) =
       clauses_are (f, clauses_so ms (many_are q))
 
   pub let_clause_made : {ms : List Meant} → Meaning production.LetClause ms
       → AreClauses (act s production.LetClause ms)
   unfolding family_of value_in control_value clause_and
-  let_clause_made (taken a b c (next {ms = ms} (clause_is f) o q)) =
+  let_clause_made (taken _ a b c (next {ms = ms} (clause_is f) o q)) =
       clauses_are (f, clauses_so ms (many_are q))
 
   pub bind_made : {ms : List Meant} → Meaning production.Bind ms
       → end_rules s production.Bind ms ≡ [] → IsClause (act s production.Bind ms)
   unfolding family_of value_in control_value kind_or place_or expr_or end_broken
-  bind_made (taken a b c (taken {t = t} d e f (without (without (taken g h i (next (expr_is k) o end)))))) r =
+  bind_made (taken _ a b c (taken t d e f (without (without (taken _ g h i (next (expr_is k) o end)))))) r =
       let n = name_good s.prefixes.bound t u.bound d e in
       clause_is (fine_for _ None (bind_good _ None _ n no_kind.0 no_kind.1 k) (no_place _))
-  bind_made (taken a b c (taken {t = t} d e f (with (sequence_is {k = w} x) p (without (taken g h i (next (expr_is k) o end)))))) r =
+  bind_made (taken _ a b c (taken t d e f (with (sequence_is {k = w} x) p (without (taken _ g h i (next (expr_is k) o end)))))) r =
       let n = name_good s.prefixes.bound t u.bound d e in
       clause_is (fine_for _ None (bind_good _ (Some w) _ n (kind_regular w x) (kind_sound w x) k)
       (no_place _))
-  bind_made (taken a b c (taken {t = t} d e f (without (with (place_is {n = v} y) p (taken g h i (next (expr_is {e = z} k) o end)))))) r =
+  bind_made (taken _ a b c (taken t d e f (without (with (place_is {n = v} y) p (taken _ g h i (next (expr_is {e = z} k) o end)))))) r =
       let n = name_good s.prefixes.bound t u.bound d e in
       clause_is (fine_for _ (Some v) (bind_good _ None _ n no_kind.0 no_kind.1 k)
       (place_good (name_of s.prefixes.bound [] (meant.Token t)) v z _ y r))
-  bind_made (taken a b c (taken {t = t} d e f (with (sequence_is {k = w} x) p (with (place_is {n = v} y) j (taken g h i (next (expr_is {e = z} k) o end)))))) r =
+  bind_made (taken _ a b c (taken t d e f (with (sequence_is {k = w} x) p (with (place_is {n = v} y) j
+      (taken _ g h i (next (expr_is {e = z} k) o end)))))) r =
       let n = name_good s.prefixes.bound t u.bound d e in
       clause_is (fine_for _ (Some v) (bind_good _ (Some w) _ n (kind_regular w x) (kind_sound w x) k)
       (typed_place_good (name_of s.prefixes.bound [] (meant.Token t)) v w z _ y r))
@@ -168,50 +168,50 @@ module _ (s : Setting) (u : SoundPrefixes s.prefixes) where
   pub let_bind_made : {ms : List Meant} → Meaning production.LetBind ms
       → IsClause (act s production.LetBind ms)
   unfolding family_of value_in control_value kind_or expr_or
-  let_bind_made (taken a b c (taken {t = t} d e f (without (taken g h i (next (expr_is k) o end))))) =
+  let_bind_made (taken _ a b c (taken t d e f (without (taken _ g h i (next (expr_is k) o end))))) =
       let n = name_good s.prefixes.bound t u.bound d e in
       clause_is (fine_let _ (bind_good _ None _ n no_kind.0 no_kind.1 k))
-  let_bind_made (taken a b c (taken {t = t} d e f (with (sequence_is {k = w} x) p (taken g h i (next (expr_is k) o end))))) =
+  let_bind_made (taken _ a b c (taken t d e f (with (sequence_is {k = w} x) p (taken _ g h i (next (expr_is k) o end))))) =
       let n = name_good s.prefixes.bound t u.bound d e in
       clause_is (fine_let _ (bind_good _ (Some w) _ n (kind_regular w x) (kind_sound w x) k))
 
   pub quant_bind_made : {ms : List Meant} → Meaning production.QuantBind ms
       → IsBind (act s production.QuantBind ms)
   unfolding family_of value_in control_value kind_or expr_or
-  quant_bind_made (taken a b c (taken {t = t} d e f (without (taken g h i (next (expr_is k) o end))))) =
+  quant_bind_made (taken _ a b c (taken t d e f (without (taken _ g h i (next (expr_is k) o end))))) =
       let n = name_good s.prefixes.bound t u.bound d e in
       bind_is (bind_good _ None _ n no_kind.0 no_kind.1 k)
-  quant_bind_made (taken a b c (taken {t = t} d e f (with (sequence_is {k = w} x) p (taken g h i (next (expr_is k) o end))))) =
+  quant_bind_made (taken _ a b c (taken t d e f (with (sequence_is {k = w} x) p (taken _ g h i (next (expr_is k) o end))))) =
       let n = name_good s.prefixes.bound t u.bound d e in
       bind_is (bind_good _ (Some w) _ n (kind_regular w x) (kind_sound w x) k)
 
   pub typed_made : {ms : List Meant} → Meaning production.Typed ms
       → IsSequence (act s production.Typed ms)
   unfolding family_of value_in control_value
-  typed_made (taken a b c (next {m = m} g o end)) =
+  typed_made (taken _ a b c (next {m = m} g o end)) =
       sequence_is (sequence_good s.prefixes.bound m g)
 
   pub placed_made : {ms : List Meant} → Meaning production.Placed ms
       → IsPlace (act s production.Placed ms)
   unfolding family_of value_in control_value
-  placed_made (taken a b c (taken d e f (taken {t = t} g h i end))) =
+  placed_made (taken _ a b c (taken _ d e f (taken t g h i end))) =
       place_is (name_good s.prefixes.bound t u.bound g h)
 
   pub where_made : {ms : List Meant} → Meaning production.WhereTest ms
       → IsWhere (act s production.WhereTest ms)
   unfolding family_of value_in control_value expr_or
-  where_made (taken a b c (next (expr_is f) o end)) = where_is f
+  where_made (taken _ a b c (next (expr_is f) o end)) = where_is f
 
   pub ordered_made : {ms : List Meant} → Meaning production.Ordered ms
       → AreOrders (act s production.Ordered ms)
   unfolding family_of value_in control_value order_and
-  ordered_made (taken a b c (taken d e f (next {ms = ms} (order_is g) o q))) =
+  ordered_made (taken _ a b c (taken _ d e f (next {ms = ms} (order_is g) o q))) =
       orders_are (g, orders_so ms (many_are q))
 
   pub stable_made : {ms : List Meant} → Meaning production.Stable ms
       → AreOrders (act s production.Stable ms)
   unfolding family_of value_in control_value order_and
-  stable_made (taken x y z (taken a b c (taken d e f (next {ms = ms} (order_is g) o q)))) =
+  stable_made (taken _ x y z (taken _ a b c (taken _ d e f (next {ms = ms} (order_is g) o q)))) =
       orders_are (g, orders_so ms (many_are q))
 
   pub key_spec_made : {ms : List Meant} → Meaning production.KeySpec ms
@@ -226,6 +226,7 @@ module _ (s : Setting) (u : SoundPrefixes s.prefixes) where
   ors_made {m = m} {n = n} {ms = ms} (next g o (again h p q)) =
       form_is (form_or (expr_of m) (expr_of n) (exprs_of ms)
       (expr_fine m g, tails_fine (n ∷ ms) (h, many_are q)))
+  ors_made (next g o (stop x)) = elim x [ ]
 
   pub ands_made : {m n : Meant} {ms : List Meant}
       → Meaning (production.Chain level.Ands) (m ∷ n ∷ ms)
@@ -234,6 +235,7 @@ module _ (s : Setting) (u : SoundPrefixes s.prefixes) where
   ands_made {m = m} {n = n} {ms = ms} (next g o (again h p q)) =
       form_is (form_and (expr_of m) (expr_of n) (exprs_of ms)
       (expr_fine m g, tails_fine (n ∷ ms) (h, many_are q)))
+  ands_made (next g o (stop x)) = elim x [ ]
 
   -- the other levels
   abbrev pub IsLeft : Level → Type 0
@@ -291,74 +293,84 @@ module _ (s : Setting) (u : SoundPrefixes s.prefixes) where
   pub compares_made : {m n : Meant} → Meaning (production.Chain level.Compares) (m ∷ n ∷ [])
       → IsForm (act s (production.Chain level.Compares) (m ∷ n ∷ []))
   compares_made {m = m} {n = n} (next g o (with h p end)) = compares_left m n [] g h tt
+  compares_made (next g o (without x)) = elim x [ ]
 
   pub ranges_made : {m n : Meant} → Meaning (production.Chain level.Ranges) (m ∷ n ∷ [])
       → IsForm (act s (production.Chain level.Ranges) (m ∷ n ∷ []))
   ranges_made {m = m} {n = n} (next g o (with h p end)) = ranges_left m n [] g h tt
+  ranges_made (next g o (without x)) = elim x [ ]
 
   pub instances_made : {m n : Meant} → Meaning (production.Chain level.Instances) (m ∷ n ∷ [])
       → IsForm (act s (production.Chain level.Instances) (m ∷ n ∷ []))
   instances_made {m = m} {n = n} (next g o (with h p end)) = instances_left m n [] g h tt
+  instances_made (next g o (without x)) = elim x [ ]
 
   pub treats_made : {m n : Meant} → Meaning (production.Chain level.Treats) (m ∷ n ∷ [])
       → IsForm (act s (production.Chain level.Treats) (m ∷ n ∷ []))
   treats_made {m = m} {n = n} (next g o (with h p end)) = treats_left m n [] g h tt
+  treats_made (next g o (without x)) = elim x [ ]
 
   pub castables_made : {m n : Meant} → Meaning (production.Chain level.Castables) (m ∷ n ∷ [])
       → IsForm (act s (production.Chain level.Castables) (m ∷ n ∷ []))
   castables_made {m = m} {n = n} (next g o (with h p end)) = castables_left m n [] g h tt
+  castables_made (next g o (without x)) = elim x [ ]
 
   pub casts_made : {m n : Meant} → Meaning (production.Chain level.Casts) (m ∷ n ∷ [])
       → IsForm (act s (production.Chain level.Casts) (m ∷ n ∷ []))
   casts_made {m = m} {n = n} (next g o (with h p end)) = casts_left m n [] g h tt
+  casts_made (next g o (without x)) = elim x [ ]
 
   pub adds_made : {m n : Meant} {ms : List Meant}
       → Meaning (production.Chain level.Adds) (m ∷ n ∷ ms)
       → IsForm (act s (production.Chain level.Adds) (m ∷ n ∷ ms))
   adds_made {m = m} {n = n} {ms = ms} (next g o (again h p q)) =
       adds_left m n ms g h (many_are q)
+  adds_made (next g o (stop x)) = elim x [ ]
 
   pub multiplies_made : {m n : Meant} {ms : List Meant}
       → Meaning (production.Chain level.Multiplies) (m ∷ n ∷ ms)
       → IsForm (act s (production.Chain level.Multiplies) (m ∷ n ∷ ms))
   multiplies_made {m = m} {n = n} {ms = ms} (next g o (again h p q)) =
       multiplies_left m n ms g h (many_are q)
+  multiplies_made (next g o (stop x)) = elim x [ ]
 
   pub unions_made : {m n : Meant} {ms : List Meant}
       → Meaning (production.Chain level.Unions) (m ∷ n ∷ ms)
       → IsForm (act s (production.Chain level.Unions) (m ∷ n ∷ ms))
   unions_made {m = m} {n = n} {ms = ms} (next g o (again h p q)) =
       unions_left m n ms g h (many_are q)
+  unions_made (next g o (stop x)) = elim x [ ]
 
   pub crosses_made : {m n : Meant} {ms : List Meant}
       → Meaning (production.Chain level.Crosses) (m ∷ n ∷ ms)
       → IsForm (act s (production.Chain level.Crosses) (m ∷ n ∷ ms))
   crosses_made {m = m} {n = n} {ms = ms} (next g o (again h p q)) =
       crosses_left m n ms g h (many_are q)
+  crosses_made (next g o (stop x)) = elim x [ ]
 
   pub operated_made : (l : Level) {ms : List Meant} → Meaning (production.Operated l) ms
       → IsTail (act s (production.Operated l) ms)
   unfolding family_of value_in control_value operated single_of expr_or
-  operated_made level.Instances (taken a b c (taken d e f (next {m = m} g o end))) =
+  operated_made level.Instances (taken _ a b c (taken _ d e f (next {m = m} g o end))) =
       tail_type (sequence_good s.prefixes.bound m g)
-  operated_made level.Treats (taken a b c (taken d e f (next {m = m} g o end))) =
+  operated_made level.Treats (taken _ a b c (taken _ d e f (next {m = m} g o end))) =
       tail_type (sequence_good s.prefixes.bound m g)
-  operated_made level.Castables (taken a b c (taken d e f (next (single_is g) o end))) =
+  operated_made level.Castables (taken _ a b c (taken _ d e f (next (single_is g) o end))) =
       tail_single g
-  operated_made level.Casts (taken a b c (taken d e f (next (single_is g) o end))) = tail_single g
-  operated_made level.Ors (taken a b c (next (expr_is g) o end)) = tail_operand g
-  operated_made level.Ands (taken a b c (next (expr_is g) o end)) = tail_operand g
-  operated_made level.Compares (taken a b c (next (expr_is g) o end)) = tail_operand g
-  operated_made level.Ranges (taken a b c (next (expr_is g) o end)) = tail_operand g
-  operated_made level.Adds (taken a b c (next (expr_is g) o end)) = tail_operand g
-  operated_made level.Multiplies (taken a b c (next (expr_is g) o end)) = tail_operand g
-  operated_made level.Unions (taken a b c (next (expr_is g) o end)) = tail_operand g
-  operated_made level.Crosses (taken a b c (next (expr_is g) o end)) = tail_operand g
+  operated_made level.Casts (taken _ a b c (taken _ d e f (next (single_is g) o end))) = tail_single g
+  operated_made level.Ors (taken _ a b c (next (expr_is g) o end)) = tail_operand g
+  operated_made level.Ands (taken _ a b c (next (expr_is g) o end)) = tail_operand g
+  operated_made level.Compares (taken _ a b c (next (expr_is g) o end)) = tail_operand g
+  operated_made level.Ranges (taken _ a b c (next (expr_is g) o end)) = tail_operand g
+  operated_made level.Adds (taken _ a b c (next (expr_is g) o end)) = tail_operand g
+  operated_made level.Multiplies (taken _ a b c (next (expr_is g) o end)) = tail_operand g
+  operated_made level.Unions (taken _ a b c (next (expr_is g) o end)) = tail_operand g
+  operated_made level.Crosses (taken _ a b c (next (expr_is g) o end)) = tail_operand g
 
   pub signed_made : {ms : List Meant} → Meaning production.Signed ms
       → IsForm (act s production.Signed ms)
   unfolding family_of value_in control_value expr_or
-  signed_made (taken {t = t} a b c (next (expr_is {e = e} f) o end)) =
+  signed_made (taken t a b c (next (expr_is {e = e} f) o end)) =
       form_is (signed_form (key_of (meant.Token t)) e f)
 
   pub empty_type_made : IsType (act s production.EmptyType [])
@@ -370,6 +382,7 @@ module _ (s : Setting) (u : SoundPrefixes s.prefixes) where
   unfolding family_of value_in control_value
   items_made {m = m} (next g o (given h p end)) =
       type_sequence (item_good s.prefixes.bound m _ g)
+  items_made (next g o (bare x)) = elim x [ ]
 
   pub any_item_made : IsItem (act s production.AnyItem [])
   unfolding family_of value_in control_value
@@ -378,5 +391,5 @@ module _ (s : Setting) (u : SoundPrefixes s.prefixes) where
   pub one_type_made : {ms : List Meant} → Meaning production.OneType ms
       → IsSingle (act s production.OneType ms)
   unfolding family_of value_in control_value own_broken
-  one_type_made (taken {t = t} a b c (without end)) = single_is (single_good s.prefixes.bound t c)
-  one_type_made (taken {t = t} a b c (with g o end)) = single_is (single_good s.prefixes.bound t c)
+  one_type_made (taken t a b c (without end)) = single_is (single_good s.prefixes.bound t c)
+  one_type_made (taken t a b c (with g o end)) = single_is (single_good s.prefixes.bound t c)

@@ -1,25 +1,23 @@
 -- What the productions of constructors mean.
 use Rattle.std.proofs.Common.{◌≡◌, ℕ, List, [], ◌∷◌, ◌++◌, map, Bool, true, false, not, cond, ◌&&◌}
-use Rattle.std.proofs.Common.{◌||◌, Option, Some, None, codes, refl, sym, ap, subst, ◌∙◌}
+use Rattle.std.proofs.Common.{◌||◌, Some, codes, refl, ap, subst, ◌∙◌}
 use Rattle.std.proofs.lemmas.Bool.{and_parts, and_from}
 use Rattle.std.specs.List.{list_all}
 use Rattle.std.specs.Str.{bytes_eq}
 use Rattle.xt_names.specs.Allowed.{is_empty_text, xml_uri}
 use Rattle.xt_names.specs.Classes.{is_xml_text, is_in_ranges, xml_char_ranges}
 use Rattle.xt_names.specs.declared.names.Binding.{Binding}
-use Rattle.xt_names.specs.declared.names.Name.{Name}
-use Rattle.xt_forms.specs.Regular.{every, is_bare_name, chars_apart, every_part_regular}
-use Rattle.xt_forms.specs.Regular.{are_regular_parts, has_no_child, part_facts_of, name_facts_of}
+use Rattle.xt_forms.specs.Regular.{chars_apart, every_part_regular}
+use Rattle.xt_forms.specs.Regular.{has_no_child, part_facts_of, name_facts_of}
 use Rattle.xt_syntax.specs.declared.exprs.Expr.{Expr}
 use Rattle.xt_syntax.specs.declared.exprs.Expr.TheVariants as expr
-use Rattle.xt_syntax.specs.declared.exprs.DirectAttr.{DirectAttr}
 use Rattle.xt_syntax.specs.declared.exprs.NameSource.{NameSource}
 use Rattle.xt_syntax.specs.declared.exprs.NameSource.TheVariants as source
 use Rattle.xt_syntax.specs.declared.exprs.Part.{Part}
 use Rattle.xt_syntax.specs.declared.exprs.Part.TheVariants as part
 use Rattle.closed_queries.specs.Texts.{is_sound_name, is_sound_attribute_name}
 use Rattle.closed_queries.specs.ExprTexts.{is_sound_part}
-use Rattle.expr_names.specs.Names.{uri_in, uri_of, undeclared_in, node_name}
+use Rattle.expr_names.specs.Names.{uri_in, undeclared_in, node_name}
 use Rattle.expr_names.specs.declared.written.Written.{Written}
 use Rattle.expr_terms.specs.Productions.{fits, fits_piece}
 use Rattle.expr_terms.specs.Tokens.{fits_name, fits_word}
@@ -31,25 +29,23 @@ use Rattle.expr_terms.specs.declared.productions.Class.TheVariants as class
 use Rattle.expr_meant.specs.declared.meant.Meant.{Meant}
 use Rattle.expr_meant.specs.declared.meant.Meant.TheVariants as meant
 use Rattle.expr_meant.specs.Names.{written_in, written_of}
-use Rattle.expr_meant.specs.Parts.{expr_of, expr_in, key_of, key_in}
+use Rattle.expr_meant.specs.Parts.{key_in}
 use Rattle.expr_rules.specs.Known.{node_name_of}
-use Rattle.expr_rules.specs.Rules.{undeclared_of}
 use Rattle.expr_shapes.specs.Shapes.{tag_in, declares_nothing}
 use Rattle.expr_elements.specs.Computed.{named_by, fixed_name, enclosing_by}
-use Rattle.expr_elements.specs.Direct.{attrs_in, attr_and, content_in, content_or}
-use Rattle.expr_elements.specs.Space.{run_part, joined_from, joined, piece_in, piece_of, parts_of}
+use Rattle.expr_elements.specs.Space.{run_part, joined_from, piece_in, piece_of, parts_of}
 use Rattle.expr_elements.specs.Space.{is_white_text}
 use Rattle.expr_elements.specs.declared.space.Piece.{Piece}
 use Rattle.expr_elements.specs.declared.space.Piece.TheVariants.{Run, Whole}
 use Rattle.sound_forms.specs.Sound.{is_sound_token, SoundUri, SoundBindings}
 use Rattle.sound_forms.proofs.NameLemmas.{IsWritten, name_written, word_written, word_bare}
-use Rattle.sound_forms.proofs.NameLemmas.{outer_written, inner_written, attribute_written}
+use Rattle.sound_forms.proofs.NameLemmas.{attribute_written}
 use Rattle.sound_forms.proofs.NameLemmas.{node_name_good, bare_good, declared_uri, no_uri}
 use Rattle.sound_forms.proofs.FormLemmas.{Fine, Form, FineName, fine_fixed, fixed_bare}
 use Rattle.sound_forms.proofs.FormLemmas.{fine_computed, computed_bare, form_element}
 use Rattle.sound_forms.proofs.FormLemmas.{form_attribute, form_pi, form_document, form_text}
-use Rattle.sound_forms.proofs.FormLemmas.{form_comment, FineParts, FineAttr, AllAttrs, FinePart}
-use Rattle.sound_forms.proofs.FormLemmas.{IsRun, run_is}
+use Rattle.sound_forms.proofs.FormLemmas.{form_comment, FineParts, FineAttr, FinePart}
+use Rattle.sound_forms.proofs.FormLemmas.{run_is}
 use Rattle.expr_regular.proofs.Claims.{IsPiece, piece_token, piece_whole, IsAttrPiece, value_token}
 use Rattle.expr_regular.proofs.Claims.{value_whole}
 use Rattle.expr_regular.proofs.Lists.{All}

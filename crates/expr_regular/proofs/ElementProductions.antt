@@ -1,8 +1,6 @@
 -- The productions of constructors, by what their parts mean.
-use Rattle.std.proofs.Common.{◌≡◌, List, [], ◌∷◌, Bool, true, false, refl}
-use Rattle.xt_syntax.specs.declared.exprs.Expr.{Expr}
+use Rattle.std.proofs.Common.{◌≡◌, List, [], ◌∷◌, Bool, true}
 use Rattle.xt_syntax.specs.declared.exprs.Expr.TheVariants as expr
-use Rattle.expr_names.specs.Names.{node_name}
 use Rattle.expr_terms.specs.Productions.{body}
 use Rattle.expr_terms.specs.declared.tokens.Token.{Token}
 use Rattle.expr_terms.specs.declared.productions.Class.TheVariants as class
@@ -13,8 +11,8 @@ use Rattle.expr_terms.specs.declared.productions.Symbol.TheVariants.{Tok as tok,
 use Rattle.expr_terms.specs.declared.productions.Symbol.TheVariants.{Many as many}
 use Rattle.expr_meant.specs.declared.meant.Meant.{Meant}
 use Rattle.expr_meant.specs.declared.meant.Meant.TheVariants as meant
-use Rattle.expr_meant.specs.Names.{written_in, written_of}
-use Rattle.expr_meant.specs.Parts.{expr_of, expr_or, expr_in, key_of}
+use Rattle.expr_meant.specs.Names.{written_of}
+use Rattle.expr_meant.specs.Parts.{expr_of, expr_or, key_of}
 use Rattle.expr_rules.specs.Rules.{own_broken}
 use Rattle.expr_elements.specs.Direct.{attrs_in, attr_and, content_in, content_or}
 use Rattle.expr_elements.specs.Table.{element_value}
@@ -23,11 +21,11 @@ use Rattle.expr_resolve.specs.Tables.{family_of, value_in, act}
 use Rattle.expr_shapes.specs.Shapes.{tag_in, declares_nothing}
 use Rattle.sound_forms.specs.Sound.{SoundPrefixes}
 use Rattle.sound_forms.proofs.NameLemmas.{outer_written, inner_written}
-use Rattle.sound_forms.proofs.FormLemmas.{Fine, form_empty, form_direct, direct_is, fine_enclosed}
+use Rattle.sound_forms.proofs.FormLemmas.{form_empty, form_direct, direct_is, fine_enclosed}
 use Rattle.sound_forms.proofs.FormLemmas.{enclosed_childless, fine_child, AllAttrs, FineParts}
-use Rattle.expr_regular.proofs.Claims.{IsExpr, expr_is, IsForm, form_is, IsContent, content_is}
+use Rattle.expr_regular.proofs.Claims.{expr_is, IsForm, form_is, IsContent, content_is}
 use Rattle.expr_regular.proofs.Claims.{IsAttr, attr_is, IsPiece, piece_token, piece_whole}
-use Rattle.expr_regular.proofs.Claims.{IsAttrPiece, value_token, value_whole}
+use Rattle.expr_regular.proofs.Claims.{IsAttrPiece, value_whole}
 use Rattle.expr_regular.proofs.Claims.{Filled, end, taken, next, without, with, stop, again}
 use Rattle.expr_regular.proofs.Lists.{All}
 use Rattle.expr_regular.proofs.ElementForms.{computed_form, fixed_form, pi_form, enclosing_form}
@@ -40,33 +38,34 @@ module _ (s : Setting) (u : SoundPrefixes s.prefixes) where
   pub computed_made : {ms : List Meant} → Meaning production.Computed ms
       → IsForm (act s production.Computed ms)
   unfolding family_of value_in element_value expr_of expr_or
-  computed_made (taken {t = t} a b c (taken d e f (next (expr_is {e = x} g) o (taken h i j (taken k l m (without (taken n p q end))))))) =
+  computed_made (taken t a b c (taken _ d e f (next (expr_is {e = x} g) o (taken _ h i j (taken _ k l m (without (taken _ n p q end))))))) =
       form_is (computed_form (key_of (meant.Token t)) x (expr.Comma []) g form_empty.fine)
-  computed_made (taken {t = t} a b c (taken d e f (next (expr_is {e = x} g) o (taken h i j (taken k l m (with (expr_is {e = y} z) r (taken n p q end))))))) =
+  computed_made (taken t a b c (taken _ d e f (next (expr_is {e = x} g) o (taken _ h i j (taken _ k l m
+      (with (expr_is {e = y} z) r (taken _ n p q end))))))) =
       form_is (computed_form (key_of (meant.Token t)) x y g z)
 
   pub constructed_made : {ms : List Meant} → Meaning production.Constructed ms
       → IsForm (act s production.Constructed ms)
   unfolding family_of value_in element_value expr_or key_of written_of own_broken
-  constructed_made (taken {t = t} a b c (taken {t = n} d e f (taken h i j (without (taken k l m end))))) =
+  constructed_made (taken t a b c (taken n d e f (taken _ h i j (without (taken _ k l m end))))) =
       form_is (fixed_form s.prefixes.bound s.prefixes.element_default t n (expr.Comma []) u.bound
       u.element u.no_xml a d e f form_empty.fine)
-  constructed_made (taken {t = t} a b c (taken {t = n} d e f (taken h i j (with (expr_is {e = y} z) r (taken k l m end))))) =
+  constructed_made (taken t a b c (taken n d e f (taken _ h i j (with (expr_is {e = y} z) r (taken _ k l m end))))) =
       form_is (fixed_form s.prefixes.bound s.prefixes.element_default t n y u.bound u.element
       u.no_xml a d e f z)
 
   pub pi_constructed_made : {ms : List Meant} → Meaning production.PiConstructed ms
       → IsForm (act s production.PiConstructed ms)
   unfolding family_of value_in element_value expr_or written_of
-  pi_constructed_made (taken a b c (taken {t = n} d e f (taken h i j (without (taken k l m end))))) =
+  pi_constructed_made (taken _ a b c (taken n d e f (taken _ h i j (without (taken _ k l m end))))) =
       form_is (pi_form s.prefixes.bound n (expr.Comma []) u.bound d e form_empty.fine)
-  pi_constructed_made (taken a b c (taken {t = n} d e f (taken h i j (with (expr_is {e = y} z) r (taken k l m end))))) =
+  pi_constructed_made (taken _ a b c (taken n d e f (taken _ h i j (with (expr_is {e = y} z) r (taken _ k l m end))))) =
       form_is (pi_form s.prefixes.bound n y u.bound d e z)
 
   pub enclosing_made : {ms : List Meant} → Meaning production.Enclosing ms
       → IsForm (act s production.Enclosing ms)
   unfolding family_of value_in element_value expr_or
-  enclosing_made (taken {t = t} a b c (taken d e f (next (expr_is {e = x} g) o (taken h i j end)))) =
+  enclosing_made (taken t a b c (taken _ d e f (next (expr_is {e = x} g) o (taken _ h i j end)))) =
       form_is (enclosing_form (key_of (meant.Token t)) x g)
 
   -- what stands behind the front of a tag
@@ -80,7 +79,7 @@ module _ (s : Setting) (u : SoundPrefixes s.prefixes) where
   pub element_made : {ms : List Meant} → Meaning production.Element ms
       → IsForm (act s production.Element ms)
   unfolding family_of value_in element_value own_broken written_of
-  element_made (taken {t = t} {ms = ms} a b c q) =
+  element_made (taken t {ms = ms} a b c q) =
       let r = tags q in
       form_is (form_direct _ (attrs_in ms) (content_in ms) (tag_good s.prefixes.bound
       s.prefixes.element_default t u.bound u.element u.no_xml (outer_written t a b) c) r.0 r.1)
@@ -88,7 +87,7 @@ module _ (s : Setting) (u : SoundPrefixes s.prefixes) where
   pub child_made : {ms : List Meant} → Meaning production.Child ms
       → IsPiece (act s production.Child ms)
   unfolding family_of value_in element_value own_broken written_of
-  child_made (taken {t = t} {ms = ms} a b c q) =
+  child_made (taken t {ms = ms} a b c q) =
       let r = tags q in
       let f = form_direct _ (attrs_in ms) (content_in ms) (tag_good s.prefixes.bound
       s.prefixes.element_default t u.bound u.element u.no_xml (inner_written t a b) c) r.0 r.1 in
@@ -97,12 +96,12 @@ module _ (s : Setting) (u : SoundPrefixes s.prefixes) where
   items : {p : Production} {b : Bool} {ms : List Meant} → Filled s p b
       (many nonterminal.Item ∷ tok class.Shut ∷ []) ms → All IsPiece ms
   items (again g o q) = (g, items q)
-  items (stop (taken a b c end)) = (piece_token b, tt)
+  items (stop (taken _ a b c end)) = (piece_token b, tt)
 
   pub full_made : {ms : List Meant} → Meaning production.Full ms
       → IsContent (act s production.Full ms)
   unfolding family_of value_in element_value
-  full_made {ms = ms} (taken a b c q) = content_is (content_good s.strip ms (items q))
+  full_made {ms = ms} (taken _ a b c q) = content_is (content_good s.strip ms (items q))
 
   pub no_content_made : IsContent (act s production.NoContent [])
   unfolding family_of value_in element_value
@@ -111,23 +110,23 @@ module _ (s : Setting) (u : SoundPrefixes s.prefixes) where
   pieces : {p : Production} {b : Bool} {ms : List Meant} → Filled s p b
       (many nonterminal.Part ∷ tok class.Unquote ∷ []) ms → All IsAttrPiece ms
   pieces (again g o q) = (g, pieces q)
-  pieces (stop (taken a b c end)) = tt
+  pieces (stop (taken _ a b c end)) = tt
 
   pub paired_made : {t : Token} {ms : List Meant}
       → Meaning production.Paired (meant.Token t ∷ ms) → declares_nothing (tag_in t) ≡ true
       → IsAttr (act s production.Paired (meant.Token t ∷ ms))
   unfolding family_of value_in element_value own_broken written_of
-  paired_made {ms = ms} (taken {t = t} a b c q) d =
+  paired_made {ms = ms} (taken t a b c q) d =
       attr_is (attribute_good s.prefixes.bound t ms u.bound a b c d (pieces q))
 
   pub part_enclosed_made : {ms : List Meant} → Meaning production.PartEnclosed ms
       → IsAttrPiece (act s production.PartEnclosed ms)
   unfolding family_of value_in element_value expr_or
-  part_enclosed_made (taken a b c (next (expr_is {e = e} f) o (taken g h i end))) =
+  part_enclosed_made (taken _ a b c (next (expr_is {e = e} f) o (taken _ g h i end))) =
       value_whole (fine_enclosed e f) (enclosed_childless e)
 
   pub item_enclosed_made : {ms : List Meant} → Meaning production.ItemEnclosed ms
       → IsPiece (act s production.ItemEnclosed ms)
   unfolding family_of value_in element_value expr_or
-  item_enclosed_made (taken a b c (next (expr_is {e = e} f) o (taken g h i end))) =
+  item_enclosed_made (taken _ a b c (next (expr_is {e = e} f) o (taken _ g h i end))) =
       piece_whole (fine_enclosed e f)

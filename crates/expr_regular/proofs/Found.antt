@@ -109,15 +109,14 @@ module _ (s : Setting) where
       let a = front_nil (step_broken s p last seen f) more e in
       let b = back_nil (step_broken s p last seen f) more e in
       let c = back_nil (before_last (is_tag p) last seen) (checked s p (is_none seen) f) a in
-      let i = and_parts (is_shaped v) (list_all is_good (map shape_of vs)) h in
-      (
+      let i = and_parts (is_shaped v) (list_all is_good (map shape_of vs)) h in (
         record {
           unbroken = front_nil f.broken (own s p (is_none seen) f.value) c;
           shaped = i.0;
         },
         back_nil f.broken (own s p (is_none seen) f.value) c,
         subst (λ (x : Bool). OwnKept s p x vs) (seen_some seen f.value)
-        (steps_kept p (seen ++ f.value ∷ []) vs b i.1),
+            (steps_kept p (seen ++ f.value ∷ []) vs b i.1),
       )
 
   pub kept_parts : (p : Production) (vs : List Raw) → is_chain p ≡ false → Kept s (node p vs)
@@ -168,8 +167,7 @@ module _ (s : Setting) where
       let fs = map (found_of s) vs in
       let a = sym (turned f fs) ∙ e in
       let b = back_nil (all_broken (reverse fs)) (f.broken ++ []) a in
-      let i = and_parts (is_shaped v) (list_all is_good (map shape_of vs)) h in
-      (
+      let i = and_parts (is_shaped v) (list_all is_good (map shape_of vs)) h in (
         record { unbroken = front_nil f.broken [] b; shaped = i.0 },
         turned_each vs (front_nil (all_broken (reverse fs)) (f.broken ++ []) a) i.1,
       )

@@ -1,17 +1,15 @@
 -- Lists of parts of one kind.
-use Rattle.std.proofs.Common.{◌≡◌, List, [], ◌∷◌, map, Bool, true, false, refl}
-use Rattle.xt_syntax.specs.declared.exprs.Expr.{Expr}
+use Rattle.std.proofs.Common.{List, [], ◌∷◌, Bool}
 use Rattle.expr_terms.specs.declared.productions.Nonterminal.{Nonterminal}
 use Rattle.expr_terms.specs.declared.productions.Production.{Production}
 use Rattle.expr_terms.specs.declared.productions.Symbol.TheVariants.{Many as many}
 use Rattle.expr_meant.specs.declared.meant.Meant.{Meant}
-use Rattle.expr_meant.specs.declared.meant.Meant.TheVariants as meant
 use Rattle.expr_meant.specs.Parts.{expr_of, exprs_of}
 use Rattle.expr_resolve.specs.declared.setting.Setting.{Setting}
 use Rattle.sound_forms.proofs.FormLemmas.{Fine, AllFine, form_empty}
 use Rattle.expr_regular.proofs.Claims.{IsExpr, expr_is, IsForm, form_is, IsTail, tail_operand}
-use Rattle.expr_regular.proofs.Claims.{tail_type, tail_single, MeantBy, Filled, end, taken, next}
-use Rattle.expr_regular.proofs.Claims.{without, with, stop, again, bare, given}
+use Rattle.expr_regular.proofs.Claims.{tail_type, tail_single, MeantBy, Filled, end}
+use Rattle.expr_regular.proofs.Claims.{stop, again}
 
 abbrev pub All : (Meant → Type 0) → List Meant → Type 0
 All P [] = Unit {0}

@@ -1,8 +1,7 @@
 -- What the productions of paths and primary expressions mean.
-use Rattle.std.proofs.Common.{◌≡◌, ℕ, List, [], ◌∷◌, ◌++◌, Bool, true, false, ◌||◌, Option, Some}
-use Rattle.std.proofs.Common.{None, refl, sym, ap, subst, ◌∙◌}
+use Rattle.std.proofs.Common.{◌≡◌, ℕ, List, [], ◌∷◌, Bool, true, false, ◌||◌, Option, Some}
+use Rattle.std.proofs.Common.{None, refl}
 use Rattle.xt_names.specs.Classes.{is_xml_text}
-use Rattle.xt_names.specs.declared.codes.Code.{Code}
 use Rattle.xt_names.specs.declared.kinds.AtomType.{AtomType}
 use Rattle.xt_names.specs.declared.names.Binding.{Binding}
 use Rattle.xt_names.specs.declared.names.ExprName.{ExprName}
@@ -10,39 +9,36 @@ use Rattle.xt_types.specs.Regular.{is_regular_test, is_named}
 use Rattle.xt_types.specs.declared.axes.Axis.{Axis}
 use Rattle.xt_types.specs.declared.axes.Axis.TheVariants as axis
 use Rattle.xt_types.specs.declared.node_tests.NameTest.{NameTest}
-use Rattle.xt_types.specs.declared.node_tests.NameTest.TheVariants as name
 use Rattle.xt_types.specs.declared.node_tests.Test.{Test}
 use Rattle.xt_types.specs.declared.node_tests.Test.TheVariants as test
 use Rattle.xt_syntax.specs.declared.exprs.Expr.{Expr}
 use Rattle.xt_syntax.specs.declared.exprs.Expr.TheVariants as expr
 use Rattle.closed_queries.specs.Texts.{is_sound_expr_name, is_sound_test, is_sound_target}
-use Rattle.expr_names.specs.Names.{default_in, name_test, test_broken, expr_name}
+use Rattle.expr_names.specs.Names.{default_in, expr_name}
 use Rattle.expr_names.specs.Types.{type_named, call_type, arity_broken}
 use Rattle.expr_terms.specs.Productions.{fits, fits_digits, fits_quoted}
-use Rattle.expr_terms.specs.Tokens.{fits_name, fits_word}
+use Rattle.expr_terms.specs.Tokens.{fits_name}
 use Rattle.expr_terms.specs.declared.keys.Key.{Key}
 use Rattle.expr_terms.specs.declared.keys.Key.TheVariants as key
 use Rattle.expr_terms.specs.declared.tokens.Token.{Token}
 use Rattle.expr_terms.specs.declared.tokens.Token.TheVariants as token
 use Rattle.expr_terms.specs.declared.productions.Class.TheVariants as class
 use Rattle.expr_meant.specs.declared.meant.Meant.{Meant}
-use Rattle.expr_meant.specs.declared.meant.Meant.TheVariants as meant
-use Rattle.expr_meant.specs.Names.{written_in, written_test_in, written_of, target_in}
-use Rattle.expr_meant.specs.Parts.{expr_of, exprs_of, key_of}
+use Rattle.expr_meant.specs.Names.{written_in, target_in}
+use Rattle.expr_meant.specs.Parts.{expr_of, exprs_of}
 use Rattle.expr_rules.specs.Known.{name_test_of}
 use Rattle.expr_rules.specs.Rules.{test_broken_of, args_in}
 use Rattle.expr_paths.specs.Paths.{deep, stepped, path_from}
-use Rattle.expr_paths.specs.Primaries.{literal_in, called, only_arg}
-use Rattle.expr_paths.specs.Steps.{axis_of, defaulted, test_on, axis_for, step_on, plain_kind_of}
+use Rattle.expr_paths.specs.Primaries.{literal_in, called}
+use Rattle.expr_paths.specs.Steps.{defaulted, test_on, step_on, plain_kind_of}
 use Rattle.expr_paths.specs.Steps.{target_of, named_kind_of}
 use Rattle.sound_forms.specs.Sound.{is_sound_token, SoundUri, SoundBindings}
 use Rattle.sound_forms.proofs.NameLemmas.{GoodTest, GoodKindName, test_good, default_good, kind_good}
-use Rattle.sound_forms.proofs.NameLemmas.{default_kind, any_kind, name_written, word_written}
+use Rattle.sound_forms.proofs.NameLemmas.{default_kind, name_written, word_written}
 use Rattle.sound_forms.proofs.NameLemmas.{function_written, expr_name_good, name_is_text, call_cast}
 use Rattle.sound_forms.proofs.NameLemmas.{call_plain, no_uri}
-use Rattle.sound_forms.proofs.FormLemmas.{Fine, Form, AllFine, form_slash, form_step, form_filter}
+use Rattle.sound_forms.proofs.FormLemmas.{Fine, Form, AllFine, form_slash, form_step}
 use Rattle.sound_forms.proofs.FormLemmas.{form_int, form_str, form_var, form_call, form_cast}
-use Rattle.sound_forms.proofs.FormLemmas.{form_empty, form_root}
 use Rattle.expr_regular.proofs.Claims.{IsMore, more_step, more_deep, IsNodeTest, test_named}
 use Rattle.expr_regular.proofs.Claims.{test_kind, GoodKind, IsToken, token_is, AreArguments}
 use Rattle.expr_regular.proofs.Claims.{arguments_are}

@@ -1,12 +1,10 @@
 -- What is known of a production's value, where what is known of its parts is.
-use Rattle.std.proofs.Common.{◌≡◌, List, [], ◌∷◌, ◌++◌, map, reverse, Bool, true, false, cond, Option}
-use Rattle.std.proofs.Common.{Some, None, refl, sym, ap, subst, ◌∙◌}
-use Rattle.expr_terms.specs.Productions.{fits, body, head, keeps, passes}
-use Rattle.expr_terms.specs.Raws.{keep, build, build_plain, is_parens, is_conditional, is_otherwise}
+use Rattle.std.proofs.Common.{◌≡◌, List, [], ◌∷◌, map, Bool, true, false, cond, Option}
+use Rattle.std.proofs.Common.{None, refl, sym, ap, subst, ◌∙◌}
+use Rattle.expr_terms.specs.Productions.{body, keeps, passes}
+use Rattle.expr_terms.specs.Raws.{build, build_plain, is_parens, is_conditional, is_otherwise}
 use Rattle.expr_terms.specs.Raws.{as_inner_chain}
 use Rattle.expr_terms.specs.declared.tokens.Token.{Token}
-use Rattle.expr_terms.specs.declared.productions.Class.{Class}
-use Rattle.expr_terms.specs.declared.productions.Class.TheVariants as class
 use Rattle.expr_terms.specs.declared.productions.Nonterminal.{Nonterminal}
 use Rattle.expr_terms.specs.declared.productions.Nonterminal.TheVariants as nonterminal
 use Rattle.expr_terms.specs.declared.productions.Production.{Production}
@@ -17,15 +15,14 @@ use Rattle.expr_terms.specs.declared.raws.Raw.{Raw}
 use Rattle.expr_terms.specs.declared.raws.Raw.TheVariants.{Leaf as leaf, Node as node, outs-Leaf}
 use Rattle.expr_terms.specs.declared.raws.Raw.TheVariants.{outs-Node}
 use Rattle.expr_terms.specs.declared.raws.Raw.TheViews.{out-Raw}
-use Rattle.expr_terms.specs.declared.raws.Raw.TheOpen.{Leaf, Node}
 use Rattle.expr_meant.specs.declared.meant.Meant.{Meant}
 use Rattle.expr_meant.specs.declared.meant.Meant.TheVariants as meant
 use Rattle.expr_resolve.specs.declared.setting.Setting.{Setting}
 use Rattle.expr_resolve.specs.Tables.{act, own, end as end_rules, is_chain}
 use Rattle.expr_resolve.specs.Folds.{value_of}
-use Rattle.expr_regular.proofs.Claims.{IsExpr, IsForm, Table, MeantBy, MadeBy, Kept, OwnKept}
+use Rattle.expr_regular.proofs.Claims.{MeantBy, MadeBy, Kept, OwnKept}
 use Rattle.expr_regular.proofs.Claims.{IfChain, Claim, Good, Parts, ended, read, part, absent}
-use Rattle.expr_regular.proofs.Claims.{present, over, more, alone, behind, keep_meant, If}
+use Rattle.expr_regular.proofs.Claims.{present, over, more, alone, behind, If}
 use Rattle.expr_regular.proofs.Claims.{Filled, end, taken, next, without, with, stop, again, bare}
 use Rattle.expr_regular.proofs.Claims.{given}
 use Rattle.expr_regular.proofs.Found.{value_leaf, value_node, kept_parts, kept_end}
@@ -96,10 +93,10 @@ module _ (s : Setting) where
   filled : (p : Production) (first : Bool) {ss : List Symbol} {vs : List Raw} → Parts s ss vs
       → OwnKept s p first vs → Filled s p first ss (map (value_of s) vs)
   filled p first ended k = end
-  filled p first (read {c = c} {ss = ss} {t = t} {vs = vs} f a q) k =
+  filled p first (read {c = c} {ss = ss} t {vs = vs} f a q) k =
       let h = kept_taken p first t vs (keeps c) k in
       subst (λ ms. Filled s p first (tok c ∷ ss) ms) (sym (values_taken t vs (keeps c)))
-      (taken f a h.0 (filled p (cond (keeps c) false first) q h.1))
+      (taken t f a h.0 (filled p (cond (keeps c) false first) q h.1))
   filled p first (part {n = n} {v = v} g q) k =
       next (good_meant s n v g k.0) k.1 (filled p false q k.2)
   filled p first (absent q) k = without (filled p first q k)
@@ -124,8 +121,7 @@ module _ (s : Setting) where
   leaf_claim n t x =
       let y : MadeBy n (value_of s (leaf t)) =
       subst (λ m. MadeBy n m) (sym (value_leaf s t)) x in
-      let e : as_inner_chain (out-Raw (leaf t)) ≡ None = ap as_inner_chain (outs-Leaf t) in
-      (
+      let e : as_inner_chain (out-Raw (leaf t)) ≡ None = ap as_inner_chain (outs-Leaf t) in (
         made_meant n _ y,
         subst (λ (o : Option (List Raw)). IfChain s o (MadeBy n (value_of s (leaf t)))) (sym e) y,
       )
@@ -139,11 +135,10 @@ module _ (s : Setting) where
       let c = not_chain p i in
       let y : MadeBy n (value_of s (node p vs)) =
       subst (λ m. MadeBy n m) (sym (value_node s p vs c))
-      (made (filled p true q (kept_parts s p vs c k)) (kept_end s p vs c k)) in
-      (
+      (made (filled p true q (kept_parts s p vs c k)) (kept_end s p vs c k)) in (
         made_meant n _ y,
         subst (λ (o : Option (List Raw)). IfChain s o (MadeBy n (value_of s (node p vs))))
-        (sym (no_chain p vs i j)) y,
+            (sym (no_chain p vs i j)) y,
       )
 
   built_plain : (p : Production) (vs : List Raw) → passes p ≡ false

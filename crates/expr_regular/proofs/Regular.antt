@@ -1,8 +1,7 @@
 -- What expressions mean that break no rule is regular, with sound texts.
-use Rattle.std.proofs.Common.{◌≡◌, List, [], ◌∷◌, map, Bool, true, false, ◌&&◌, Option, Some, None}
+use Rattle.std.proofs.Common.{◌≡◌, List, [], ◌∷◌, map, true, Option, Some, None}
 use Rattle.std.proofs.Common.{refl, sym, subst}
 use Rattle.std.proofs.lemmas.Bool.{and_parts}
-use Rattle.std.specs.List.{list_all}
 use Rattle.xt_types.specs.Regular.{is_regular_type}
 use Rattle.closed_queries.specs.Closed.{is_good_expr}
 use Rattle.closed_queries.specs.Texts.{is_sound_type}
@@ -22,23 +21,21 @@ use Rattle.expr_terms.specs.declared.raws.Raw.TheViews.{out-Raw}
 use Rattle.expr_grammar.specs.Grammar.{Derives, by, Seq, Spells, SpellsType}
 use Rattle.expr_grammar.specs.Grammar as grammar
 use Rattle.expr_meant.specs.declared.meant.Meant.{Meant}
-use Rattle.expr_meant.specs.declared.meant.Meant.TheVariants as meant
-use Rattle.expr_meant.specs.Parts.{expr_of}
 use Rattle.expr_resolve.specs.declared.setting.Setting.{Setting}
 use Rattle.expr_resolve.specs.Tables.{act}
 use Rattle.expr_resolve.specs.Folds.{value_of, broken_of, expr_meant, type_meant}
 use Rattle.expr_shapes.specs.declared.shapes.Shape.{Shape}
-use Rattle.expr_shapes.specs.Shapes.{own_shape, passed_tag, shape_of, is_shaped, tag_in, first_tag}
+use Rattle.expr_shapes.specs.Shapes.{own_shape, is_shaped, tag_in}
 use Rattle.expr_shapes.specs.Shapes.{declares_nothing}
 use Rattle.sound_forms.specs.Sound.{is_sound_token, are_sound, SoundPrefixes}
 use Rattle.sound_forms.proofs.FormLemmas.{Fine}
-use Rattle.expr_regular.proofs.Claims.{IsExpr, expr_is, Kept, Claim, Good, Parts, ended, read, part}
-use Rattle.expr_regular.proofs.Claims.{absent, present, over, more, alone, behind, Filled, next}
-use Rattle.expr_regular.proofs.Claims.{again, with, end, token_is, test_named, test_kind}
+use Rattle.expr_regular.proofs.Claims.{Kept, Claim, Good, Parts, ended, read, part}
+use Rattle.expr_regular.proofs.Claims.{absent, present, over, more, alone, behind, Filled}
+use Rattle.expr_regular.proofs.Claims.{token_is, test_named, test_kind}
 use Rattle.expr_regular.proofs.Claims.{item_token, item_kind, type_item, piece_token, value_token}
 use Rattle.expr_regular.proofs.Claims.{IfChain, IsAttr, IsType, kind_is, IsKind, IsNodeTest, IsItem}
 use Rattle.expr_regular.proofs.Found.{shape_leaf, own_shaped, value_leaf}
-use Rattle.expr_regular.proofs.Lists.{expr_fine, many_are}
+use Rattle.expr_regular.proofs.Lists.{expr_fine}
 use Rattle.expr_regular.proofs.Produced.{leaf_claim, node_claim, plain_claim, built}
 use Rattle.expr_regular.proofs.Chains.{chain_good, else_good, parens_good, empty_good}
 use Rattle.expr_regular.proofs.ControlForms.{sequence_good}
@@ -106,13 +103,14 @@ module _ (s : Setting) (u : SoundPrefixes s.prefixes) where
   produced production.Listing (part {v = v} g (more {v = w} {vs = ws} h q)) =
       node_claim s production.Listing nonterminal.Expr (v ∷ w ∷ ws) refl refl (part g (more h q))
       (λ f e. control.listing_made s u f)
-  produced production.ItemAfter (read a b (part g ended)) = g
+  produced production.ItemAfter (read t1 a b (part g ended)) = g
   produced production.Argued q =
       plain_claim s production.Argued nonterminal.Arguments refl refl refl refl q
       (λ ms f e. paths.argued_made s u f)
-  produced production.Conditional (read a b (read c d (part {v = t} g (read e f (read h i (part {v = v} j (part {v = l} k ended))))))) =
+  produced production.Conditional (read t1 a b (read t2 c d (part {v = t} g (read t3 e f (read t4 h i
+      (part {v = v} j (part {v = l} k ended))))))) =
       chain_good s t v l g j k
-  produced production.Otherwise (read a b (part {v = v} g ended)) = else_good s v g
+  produced production.Otherwise (read t1 a b (part {v = v} g ended)) = else_good s v g
   produced production.Flwor q =
       plain_claim s production.Flwor nonterminal.Single refl refl refl refl q
       (λ ms f e. control.flwor_made s u f)
@@ -130,15 +128,15 @@ module _ (s : Setting) (u : SoundPrefixes s.prefixes) where
   produced production.Bind q =
       plain_claim s production.Bind nonterminal.Binding refl refl refl refl q
       (λ ms f e. control.bind_made s u f e)
-  produced production.BindAfter (read a b (part g ended)) = g
+  produced production.BindAfter (read t1 a b (part g ended)) = g
   produced production.LetBind q =
       plain_claim s production.LetBind nonterminal.LetBinding refl refl refl refl q
       (λ ms f e. control.let_bind_made s u f)
-  produced production.LetAfter (read a b (part g ended)) = g
+  produced production.LetAfter (read t1 a b (part g ended)) = g
   produced production.QuantBind q =
       plain_claim s production.QuantBind nonterminal.Quant refl refl refl refl q
       (λ ms f e. control.quant_bind_made s u f)
-  produced production.QuantAfter (read a b (part g ended)) = g
+  produced production.QuantAfter (read t1 a b (part g ended)) = g
   produced production.Typed q =
       plain_claim s production.Typed nonterminal.Typing refl refl refl refl q
       (λ ms f e. control.typed_made s u f)
@@ -157,8 +155,8 @@ module _ (s : Setting) (u : SoundPrefixes s.prefixes) where
   produced production.KeySpec q =
       plain_claim s production.KeySpec nonterminal.Spec refl refl refl refl q
       (λ ms f e. control.key_spec_made s u f)
-  produced production.SpecAfter (read a b (part g ended)) = g
-  produced production.Directed (read {t = t} a b ended) =
+  produced production.SpecAfter (read t1 a b (part g ended)) = g
+  produced production.Directed (read t a b ended) =
       λ k. leaf_claim s nonterminal.Direction t tt
   produced production.Empties q =
       plain_claim s production.Empties nonterminal.EmptyPart refl refl refl refl q (λ ms f e. tt)
@@ -217,10 +215,10 @@ module _ (s : Setting) (u : SoundPrefixes s.prefixes) where
       plain_claim s production.Signed nonterminal.Unary refl refl refl refl q
       (λ ms f e. control.signed_made s u f)
   produced production.Unsigned (part g ended) = g
-  produced production.Rooted (read a b (alone ended)) =
-      node_claim s production.Rooted nonterminal.Path [] refl refl (read a b (alone ended))
+  produced production.Rooted (read t1 a b (alone ended)) =
+      node_claim s production.Rooted nonterminal.Path [] refl refl (read t1 a b (alone ended))
       (λ f e. paths.rooted_made s u)
-  produced production.Rooted (read a b (behind g ended)) = g
+  produced production.Rooted (read t1 a b (behind g ended)) = g
   produced production.RootedDeep q =
       plain_claim s production.RootedDeep nonterminal.Path refl refl refl refl q
       (λ ms f e. paths.rooted_deep_made s u f)
@@ -254,8 +252,8 @@ module _ (s : Setting) (u : SoundPrefixes s.prefixes) where
   produced production.FilterStep (part {v = v} g (more {v = w} {vs = ws} h q)) =
       node_claim s production.FilterStep nonterminal.Step (v ∷ w ∷ ws) refl refl
       (part g (more h q)) (λ f e. paths.filter_step_made s u f)
-  produced production.Predicated (read a b (part g (read c d ended))) = g
-  produced production.NameTested (read {t = t} a b ended) =
+  produced production.Predicated (read t1 a b (part g (read t2 c d ended))) = g
+  produced production.NameTested (read t a b ended) =
       λ k. leaf_claim s nonterminal.NodeTest t (test_named a b)
   produced production.KindTested (part {v = v} g ended) =
       λ k. (kind_test (value_of s v) (g k).0, kind_chain v (g k))
@@ -265,12 +263,12 @@ module _ (s : Setting) (u : SoundPrefixes s.prefixes) where
   produced production.PiKind q =
       plain_claim s production.PiKind nonterminal.KindTest refl refl refl refl q
       (λ ms f e. paths.pi_kind_made s u f)
-  produced production.PiNamed (read {t = t} a b ended) =
+  produced production.PiNamed (read t a b ended) =
       λ k. leaf_claim s nonterminal.PiArgument t (token_is a b)
   produced production.NamedKind q =
       plain_claim s production.NamedKind nonterminal.KindTest refl refl refl refl q
       (λ ms f e. paths.named_kind_made s u f)
-  produced production.KindNamed (read {t = t} a b ended) =
+  produced production.KindNamed (read t a b ended) =
       λ k. leaf_claim s nonterminal.NamedArgument t (token_is a b)
   produced production.Number q =
       plain_claim s production.Number nonterminal.Primary refl refl refl refl q
@@ -281,11 +279,11 @@ module _ (s : Setting) (u : SoundPrefixes s.prefixes) where
   produced production.Variable q =
       plain_claim s production.Variable nonterminal.Primary refl refl refl refl q
       (λ ms f e. paths.variable_made s u f)
-  produced production.Parens (read a b (absent (read c d ended))) = empty_good s u
-  produced production.Parens (read a b (present {v = v} g (read c d ended))) =
+  produced production.Parens (read t1 a b (absent (read t2 c d ended))) = empty_good s u
+  produced production.Parens (read t1 a b (present {v = v} g (read t2 c d ended))) =
       parens_good s u v g
-  produced production.Context (read a b ended) =
-      node_claim s production.Context nonterminal.Primary [] refl refl (read a b ended)
+  produced production.Context (read t1 a b ended) =
+      node_claim s production.Context nonterminal.Primary [] refl refl (read t1 a b ended)
       (λ f e. paths.context_made s u)
   produced production.Call q =
       plain_claim s production.Call nonterminal.Primary refl refl refl refl q
@@ -303,22 +301,22 @@ module _ (s : Setting) (u : SoundPrefixes s.prefixes) where
       plain_claim s production.Enclosing nonterminal.Primary refl refl refl refl q
       (λ ms f e. elements.enclosing_made s u f)
   produced production.Directly (part g ended) = g
-  produced production.EmptyType (read a b (read c d (read e f ended))) =
+  produced production.EmptyType (read t1 a b (read t2 c d (read t3 e f ended))) =
       node_claim s production.EmptyType nonterminal.SeqType [] refl refl
-      (read a b (read c d (read e f ended))) (λ f e. control.empty_type_made s u)
+      (read t1 a b (read t2 c d (read t3 e f ended))) (λ f e. control.empty_type_made s u)
   produced production.ItemsType (part {v = v} g (alone ended)) =
       λ k. (type_item (g k).0, item_chain v (g k))
   produced production.ItemsType (part {v = v} g (behind {v = w} h ended)) =
       node_claim s production.ItemsType nonterminal.SeqType (v ∷ w ∷ []) refl refl
       (part g (behind h ended)) (λ f e. control.items_made s u f)
-  produced production.Marked (read {t = t} a b ended) =
+  produced production.Marked (read t a b ended) =
       λ k. leaf_claim s nonterminal.Occurrence t tt
-  produced production.AnyItem (read a b (read c d (read e f ended))) =
+  produced production.AnyItem (read t1 a b (read t2 c d (read t3 e f ended))) =
       node_claim s production.AnyItem nonterminal.ItemType [] refl refl
-      (read a b (read c d (read e f ended))) (λ f e. control.any_item_made s u)
+      (read t1 a b (read t2 c d (read t3 e f ended))) (λ f e. control.any_item_made s u)
   produced production.KindItem (part {v = v} g ended) =
       λ k. (kind_item (value_of s v) (g k).0, kind_item_chain v (g k))
-  produced production.AtomicItem (read {t = t} a b ended) =
+  produced production.AtomicItem (read t a b ended) =
       λ k. leaf_claim s nonterminal.ItemType t item_token
   produced production.OneType q =
       plain_claim s production.OneType nonterminal.SingleType refl refl refl refl q
@@ -332,13 +330,13 @@ module _ (s : Setting) (u : SoundPrefixes s.prefixes) where
   produced production.Full q =
       plain_claim s production.Full nonterminal.Closing refl refl refl refl q
       (λ ms f e. elements.full_made s u f)
-  produced production.NoContent (read a b ended) =
-      node_claim s production.NoContent nonterminal.Closing [] refl refl (read a b ended)
+  produced production.NoContent (read t1 a b ended) =
+      node_claim s production.NoContent nonterminal.Closing [] refl refl (read t1 a b ended)
       (λ f e. elements.no_content_made s u)
-  produced production.Paired (read {t = t} {vs = vs} a b q) =
+  produced production.Paired (read t {vs = vs} a b q) =
       subst (λ v. Kept s v → Claim s nonterminal.Pair v)
-      (sym (built s production.Paired (leaf t ∷ vs) refl refl refl refl)) (paired t vs (read a b q))
-  produced production.PartChars (read {t = t} a b ended) =
+      (sym (built s production.Paired (leaf t ∷ vs) refl refl refl refl)) (paired t vs (read t a b q))
+  produced production.PartChars (read t a b ended) =
       λ k. leaf_claim s nonterminal.Part t (value_token b)
   produced production.PartEnclosed q =
       plain_claim s production.PartEnclosed nonterminal.Part refl refl refl refl q
@@ -346,7 +344,7 @@ module _ (s : Setting) (u : SoundPrefixes s.prefixes) where
   produced production.Child q =
       plain_claim s production.Child nonterminal.Item refl refl refl refl q
       (λ ms f e. elements.child_made s u f)
-  produced production.ItemChars (read {t = t} a b ended) =
+  produced production.ItemChars (read t a b ended) =
       λ k. leaf_claim s nonterminal.Item t (piece_token b)
   produced production.ItemEnclosed q =
       plain_claim s production.ItemEnclosed nonterminal.Item refl refl refl refl q
@@ -382,7 +380,7 @@ module _ (s : Setting) (u : SoundPrefixes s.prefixes) where
         → Seq l ss ts vs rest → are_sound ts ≡ true → Parts s ss vs
     parted grammar.end a = ended
     parted (grammar.taken {t = t} {ts = ts} f q) a =
-        let h = and_parts (is_sound_token t) (are_sound ts) a in read f h.0 (parted q h.1)
+        let h = and_parts (is_sound_token t) (are_sound ts) a in read t f h.0 (parted q h.1)
     parted (grammar.next d q) a = part (derived d a) (parted q (left_sound d a))
     parted (grammar.without q) a = absent (parted q a)
     parted (grammar.with d q) a = present (derived d a) (parted q (left_sound d a))

@@ -1,5 +1,5 @@
 -- Types have no direct elements.
-use Rattle.std.proofs.Common.{◌≡◌, List, [], ◌∷◌, map, Bool, true, false, ◌&&◌, refl, ap, ◌∙◌}
+use Rattle.std.proofs.Common.{◌≡◌, List, [], ◌∷◌, map, true, refl, ap, ◌∙◌}
 use Rattle.std.specs.List.{list_all}
 use Rattle.expr_terms.specs.Productions.{body, head}
 use Rattle.expr_terms.specs.Raws.{build}

@@ -1,19 +1,19 @@
 -- What literals say is of characters of XML.
 use Rattle.std.proofs.Common.{◌≡◌, ◌≤◌, ℕ, List, [], ◌∷◌, ◌++◌, length, Bool, true, false, cond}
-use Rattle.std.proofs.Common.{◌==◌, ◌&&◌, ◌||◌, Option, Some, None, codes, refl, sym, ap, subst, ◌∙◌}
+use Rattle.std.proofs.Common.{◌==◌, Option, Some, None, codes, refl, sym, subst}
 use Rattle.std.proofs.Common.{inl, inr, arith}
 use Rattle.std.proofs.lemmas.Bool.{and_parts, and_from, eqb-true, or_cases}
 use Rattle.std.proofs.lemmas.Option.{same_Some, none-some}
 use Rattle.std.specs.List.{list_all}
 use Rattle.std.specs.Str.{bytes_eq}
 use Rattle.xt_names.specs.Classes.{is_xml_text, is_in_ranges}
-use Rattle.xpath_lex.specs.Classes.{is_char, is_name_char, is_digit, is_quote}
+use Rattle.xpath_lex.specs.Classes.{is_char, is_name_char, is_quote}
 use Rattle.xpath_lex.specs.Tokens.{Quoted, closes, doubled, passes, IsToken, literal}
 use Rattle.xpath_lex.specs.declared.lexing.TokenKind.TheVariants.{Literal}
 use Rattle.expr_tokens.specs.Literals.{piece, next_quote, next_doubling, within_quotes, unquoted}
 use Rattle.query_pieces.specs.Fronts.{run_of, rest_of, eaten}
 use Rattle.query_pieces.specs.Literals.{Says, over, itself, reference, line, return}
-use Rattle.query_pieces.specs.References.{Base, decimal, hexadecimal, entity, char_of, numbered}
+use Rattle.query_pieces.specs.References.{entity, char_of, numbered}
 use Rattle.query_pieces.specs.References.{value, is_digit_of, closed, entity_at, number_at}
 use Rattle.query_pieces.specs.References.{number_from, reference_from, reference_at}
 use Rattle.query_pieces.proofs.FrontLemmas.{either}
@@ -50,7 +50,7 @@ char_fits n c e =
     subst (λ x. is_char x ≡ true) (same_Some _ _ same) i))
     (λ i. (let none : None ≡ Some c = rw i at e in absurd (none-some _ none)))
 
-numbered_fits : (base : Base) (ts : List ℕ) (c : ℕ) → numbered base ts ≡ Some c
+numbered_fits : (base : _) (ts : List ℕ) (c : ℕ) → numbered base ts ≡ Some c
     → is_char c ≡ true
 numbered_fits base [] c e = absurd (none-some _ e)
 numbered_fits base (d ∷ ts) c e = char_fits (value base 0 (d ∷ ts)) c e
@@ -89,7 +89,7 @@ entity_referred ts r e =
     (λ c h. entity_fits (run_of is_name_char ts) c h)
     (λ more h a. eaten_chars 59 (rest_of is_name_char ts) more (rest_chars is_name_char ts a) h) e
 
-number_referred : (base : Base) (ts : List ℕ) (r : ℕ × List ℕ) → number_at base ts ≡ Some r
+number_referred : (base : _) (ts : List ℕ) (r : ℕ × List ℕ) → number_at base ts ≡ Some r
     → IsReferred ts r
 number_referred base ts r e =
     closed_fits ts (numbered base (run_of (is_digit_of base) ts))
@@ -107,9 +107,9 @@ further ts more c r e f = record {
 
 number_from_referred : (ts : List ℕ) (o : Option (List ℕ)) (r : ℕ × List ℕ) → eaten 120 ts ≡ o
     → number_from o ts ≡ Some r → IsReferred ts r
-number_from_referred ts None r o e = number_referred decimal ts r e
+number_from_referred ts None r o e = search (number_referred, e)
 number_from_referred ts (Some more) r o e =
-    further ts more 120 r o (number_referred hexadecimal more r e)
+    further ts more 120 r o (search (number_referred, e))
 
 reference_from_referred : (ts : List ℕ) (o : Option (List ℕ)) (r : ℕ × List ℕ)
     → eaten 35 ts ≡ o → reference_from o ts ≡ Some r → IsReferred ts r

@@ -1,7 +1,7 @@
 -- Names in texts, and the parts of names with a colon.
-use Rattle.std.proofs.Common.{◌≡◌, ℕ, ◌+◌, List, [], ◌∷◌, ◌++◌, length, drop, Bool, true, false, cond}
-use Rattle.std.proofs.Common.{◌==◌, ◌&&◌, ◌||◌, Option, Some, None, refl, sym, codes, suc, arith}
-use Rattle.std.proofs.lemmas.Bool.{and_parts, and_from, eqb-true, false_from_ne_true, or_left}
+use Rattle.std.proofs.Common.{◌≡◌, ℕ, ◌+◌, List, [], ◌∷◌, ◌++◌, length, drop, Bool, true, false}
+use Rattle.std.proofs.Common.{◌==◌, ◌&&◌, Option, Some, None, refl, codes, suc, arith}
+use Rattle.std.proofs.lemmas.Bool.{and_parts, eqb-true, false_from_ne_true}
 use Rattle.std.proofs.lemmas.Bool.{or_right}
 use Rattle.std.specs.List.{list_all}
 use Rattle.xt_names.specs.Allowed.{is_empty_text}

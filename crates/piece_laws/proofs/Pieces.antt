@@ -1,17 +1,23 @@
 -- The pieces of direct elements.
-use Rattle.std.proofs.Common.{◌≡◌, ◌≤◌, ℕ, List, [], ◌∷◌, ◌++◌, length, Bool, true, false, cond}
-use Rattle.std.proofs.Common.{◌==◌, ◌&&◌, ◌||◌, not, Option, Some, None, refl, sym, ap, subst, ◌∙◌}
-use Rattle.std.proofs.Common.{if◌then◌else◌, arith}
+use Rattle.std.proofs.Common.{◌≡◌, ℕ, List, [], ◌∷◌, Bool, true, false}
+use Rattle.std.proofs.Common.{◌==◌, Option, Some, None, refl}
+use Rattle.std.proofs.Common.{if◌then◌else◌}
 use Rattle.std.proofs.lemmas.Bool.{and_parts, and_from}
 use Rattle.std.specs.List.{list_all}
-use Rattle.xt_names.specs.Classes.{is_xml_text, is_in_ranges}
+use Rattle.xt_names.specs.Classes.{is_in_ranges}
 use Rattle.xpath_lex.specs.Classes.{is_char, is_space}
 use Rattle.expr_length.specs.Weights.{weigh}
 use Rattle.expr_terms.specs.declared.tokens.Token.{Token}
 use Rattle.expr_terms.specs.declared.tokens.Token.TheVariants as token
 use Rattle.query_pieces.specs.Fronts.{run_of, rest_of, begins, eaten, spaces, NameAt, name_at}
-use Rattle.query_pieces.specs.Points.{Quote, single, double, Context, enclosed, tag, attribute}
-use Rattle.query_pieces.specs.Points.{content}
+use Rattle.query_pieces.specs.declared.contexts.Quote.{Quote}
+use Rattle.query_pieces.specs.declared.contexts.Quote.TheVariants.{Single as single}
+use Rattle.query_pieces.specs.declared.contexts.Quote.TheVariants.{Double as double}
+use Rattle.query_pieces.specs.declared.contexts.Context.{Context}
+use Rattle.query_pieces.specs.declared.contexts.Context.TheVariants.{Enclosed as enclosed}
+use Rattle.query_pieces.specs.declared.contexts.Context.TheVariants.{Tag as tag}
+use Rattle.query_pieces.specs.declared.contexts.Context.TheVariants.{Attribute as attribute}
+use Rattle.query_pieces.specs.declared.contexts.Context.TheVariants.{Content as content}
 use Rattle.query_pieces.specs.References.{reference_at}
 use Rattle.query_pieces.specs.Elements.{Piece, mark_of, of_reference, closed, marked, run_or}
 use Rattle.query_pieces.specs.Elements.{line_end, shut, shut_from, inner_from, tag_from}

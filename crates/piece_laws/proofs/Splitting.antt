@@ -1,6 +1,6 @@
 -- The tokens and pieces of a text, one after another.
-use Rattle.std.proofs.Common.{◌≡◌, ◌≤◌, ◌<◌, ℕ, ◌+◌, suc, List, [], ◌∷◌, ◌++◌, length, Bool, true}
-use Rattle.std.proofs.Common.{false, refl, sym, ap, subst, ◌∙◌, arith, length-append}
+use Rattle.std.proofs.Common.{◌≡◌, ◌≤◌, ◌<◌, ℕ, ◌+◌, List, length, Bool, true}
+use Rattle.std.proofs.Common.{false, refl, ap, subst, ◌∙◌, arith, length-append}
 use Rattle.std.proofs.lemmas.Bool.{and_from}
 use Rattle.xpath_lex.specs.Gaps.{Comment, over, nested, passes, Gap, none, space, comment}
 use Rattle.xpath_lex.specs.Readings.{Placed, size, TokenAt}

@@ -1,10 +1,10 @@
 -- The tokens of expressions.
-use Rattle.std.proofs.Common.{◌≡◌, ◌≤◌, ℕ, ◌+◌, nat_le, List, [], ◌∷◌, ◌++◌, length, Bool, true}
-use Rattle.std.proofs.Common.{false, cond, Option, Some, None, option_map, refl, sym, ap, subst}
+use Rattle.std.proofs.Common.{◌≡◌, ◌≤◌, ℕ, nat_le, List, [], ◌∷◌, ◌++◌, length, true}
+use Rattle.std.proofs.Common.{false, Option, Some, None, option_map, refl, sym, subst}
 use Rattle.std.proofs.Common.{◌∙◌, arith, length-append}
 use Rattle.std.proofs.lemmas.Bool.{and_from, leb-true}
 use Rattle.std.proofs.lemmas.Option.{same_Some, none-some}
-use Rattle.xt_names.specs.Classes.{is_ncname_text}
+use Rattle.xt_names.specs.Classes.{is_ncname_text, begins_name}
 use Rattle.xpath_lex.specs.Tokens.{IsToken, integer, literal, word, qword, any_local, any_prefix}
 use Rattle.xpath_lex.specs.Tokens.{single, double}
 use Rattle.xpath_lex.specs.declared.lexing.TokenKind.{TokenKind}
@@ -15,7 +15,7 @@ use Rattle.expr_terms.specs.declared.keys.Key.TheVariants as key
 use Rattle.expr_terms.specs.declared.tokens.Token.{Token}
 use Rattle.expr_terms.specs.declared.tokens.Token.TheVariants as token
 use Rattle.expr_tokens.specs.Literals.{number_value}
-use Rattle.expr_tokens.specs.Terms.{term_of, word_or_name, qname_term}
+use Rattle.expr_tokens.specs.Terms.{term_of, word_or_name}
 use Rattle.expr_tokens.specs.Words.{key_of_word, key_of_symbol}
 use Rattle.expr_tokens.proofs.KeyLemmas.{word_text, symbol_text}
 use Rattle.query_pieces.specs.Spellings.{is_literal}
@@ -43,7 +43,7 @@ key_fits k cs e = record {
 }
 
 named_some : (x : List ℕ) → is_ncname_text x ≡ true → 1 ≤ length x
-unfolding is_ncname_text
+unfolding is_ncname_text begins_name
 named_some [] h = absurd cc
 named_some (c ∷ cs) h = omega arith
 
@@ -80,6 +80,8 @@ term_fits _ _ t (any_prefix {x = x} h) l e =
     let same : t ≡ token.AnyPrefix x = same_token (sym e ∙ any_prefix_is x) in
     rw same (record { sound = h; light = omega arith })
 term_fits _ _ t (single {c = c} h) l e =
-    let m = mapped token.Key (key_of_symbol (c ∷ [])) t e in symbol_fits _ t m.0 m.1 m.2
+    let m = mapped token.Key (key_of_symbol (c ∷ [])) t e in
+    symbol_fits (c ∷ []) t m.0 m.1 m.2
 term_fits _ _ t (double {c = c} {d = d} h) l e =
-    let m = mapped token.Key (key_of_symbol (c ∷ d ∷ [])) t e in symbol_fits _ t m.0 m.1 m.2
+    let m = mapped token.Key (key_of_symbol (c ∷ d ∷ [])) t e in
+    symbol_fits (c ∷ d ∷ []) t m.0 m.1 m.2

@@ -1,3 +1,3 @@
 mod ScopeLemmas
 mod Monotone
-mod PrologLemmas
+pub mod PrologLemmas

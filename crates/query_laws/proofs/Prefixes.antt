@@ -13,7 +13,7 @@ use Rattle.xt_names.specs.declared.codes.QueryStaticCode.TheVariants.{XQST0070}
 use Rattle.xt_names.specs.declared.names.Binding.{Binding}
 use Rattle.closed_queries.specs.Texts.{is_free_prefix, is_free_uri, is_free_binding}
 use Rattle.expr_names.specs.Names.{uri_of}
-use Rattle.prolog_rules.specs.Setters.{Seen, broken_if, is_kept_uri, is_kept_binding}
+use Rattle.prolog_rules.specs.Setters.{broken_if, is_kept_uri, is_kept_binding}
 use Rattle.prolog_rules.specs.Setters.{default_broken, setter_broken, seen_behind, setters_broken}
 use Rattle.prolog_rules.specs.Setters.{has_prefix}
 use Rattle.prolog_rules.specs.declared.setters.Setter.{Setter}
@@ -68,22 +68,22 @@ AreTexted (s ∷ ss) = IsTexted s × AreTexted ss
 default_free : (b : Bool) (uri : List ℕ) → default_broken b uri ≡ [] → is_kept_uri uri ≡ false
 default_free b uri e = unbroken (is_kept_uri uri) XQST0070 (back_nil (broken_if b XQST0066) _ e)
 
-setter_free : (seen : Seen) (s : Setter) → setter_broken seen s ≡ [] → IsFree s
+setter_free : (seen : _) (s : Setter) → setter_broken seen s ≡ [] → IsFree s
 unfolding setter_broken
 setter_free seen (setter.Namespace b) e =
     unbroken (is_kept_binding b) XQST0070
-    (back_nil (broken_if (has_prefix seen.prefixes b.prefix) XQST0033) _ e)
-setter_free seen (setter.ElementDefault uri) e = default_free seen.element_default uri e
-setter_free seen (setter.FunctionDefault uri) e = default_free seen.function_default uri e
+    (back_nil (broken_if _ XQST0033) _ e)
+setter_free seen (setter.ElementDefault uri) e = default_free _ uri e
+setter_free seen (setter.FunctionDefault uri) e = default_free _ uri e
 setter_free seen (setter.BoundarySpace preserve) e = tt
 setter_free seen setter.Other e = tt
 
-setters_free : (seen : Seen) (ss : List Setter) → setters_broken seen ss ≡ [] → AreFree ss
+setters_free : (seen : _) (ss : List Setter) → setters_broken seen ss ≡ [] → AreFree ss
 setters_free seen [] e = tt
 setters_free seen (s ∷ ss) e = (
   setter_free seen s (front_nil (setter_broken seen s) (setters_broken (seen_behind seen s) ss) e),
   setters_free (seen_behind seen s) ss
-  (back_nil (setter_broken seen s) (setters_broken (seen_behind seen s) ss) e),
+      (back_nil (setter_broken seen s) (setters_broken (seen_behind seen s) ss) e),
 )
 
 uri_free : (uri : List ℕ) → is_kept_uri uri ≡ false → is_xml_text uri ≡ true
@@ -189,10 +189,10 @@ one_more b bs f g prefix = go (bytes_eq b.prefix prefix) refl
     go false e = g prefix
 
 none_bound : SoundBindings []
+unfolding is_empty_text
 none_bound prefix = record { good = no_uri; xml = λ h. absurd (never h); xmlns = λ h. absurd (never h) }
   where
     never : is_empty_text [] ≡ false → ⊥
-    unfolding is_empty_text
     never e = absurd cc
 
 behind_free : (bs cs : List Binding) → list_all is_free_binding bs ≡ true → SoundBindings cs
@@ -243,10 +243,41 @@ local_bound = record {
   xmlns = λ h. refl;
 }
 
+abbrev last_bound : List Binding
+last_bound = binding (codes "local") (codes "http://www.w3.org/2005/xquery-local-functions") ∷ []
+
+abbrev from_functions : List Binding
+from_functions = binding (codes "fn") (codes "http://www.w3.org/2005/xpath-functions") ∷ last_bound
+
+abbrev from_instance : List Binding
+from_instance =
+    binding (codes "xsi") (codes "http://www.w3.org/2001/XMLSchema-instance") ∷ from_functions
+
+abbrev from_schema : List Binding
+from_schema = binding (codes "xs") (codes "http://www.w3.org/2001/XMLSchema") ∷ from_instance
+
+last_sound : SoundBindings last_bound
+last_sound =
+    one_more (binding (codes "local") (codes "http://www.w3.org/2005/xquery-local-functions")) []
+    local_bound none_bound
+
+functions_sound : SoundBindings from_functions
+functions_sound =
+    one_more (binding (codes "fn") (codes "http://www.w3.org/2005/xpath-functions")) last_bound
+    functions_bound last_sound
+
+instance_sound : SoundBindings from_instance
+instance_sound =
+    one_more (binding (codes "xsi") (codes "http://www.w3.org/2001/XMLSchema-instance"))
+    from_functions instance_bound functions_sound
+
+schema_sound : SoundBindings from_schema
+schema_sound =
+    one_more (binding (codes "xs") (codes "http://www.w3.org/2001/XMLSchema")) from_instance
+    schema_bound instance_sound
+
 predeclared_sound : SoundBindings predeclared
-predeclared_sound =
-    one_more _ _ xml_bound (one_more _ _ schema_bound (one_more _ _ instance_bound
-    (one_more _ _ functions_bound (one_more _ _ local_bound none_bound))))
+predeclared_sound = one_more (binding (codes "xml") xml_uri) from_schema xml_bound schema_sound
 
 -- what is known behind setters that break no rule
 pub record Known (ss : List Setter) : Type 0 where
@@ -254,7 +285,7 @@ pub record Known (ss : List Setter) : Type 0 where
   pub element : is_free_uri (element_default ss) ≡ true
   pub sound : SoundPrefixes (prefixes_of ss)
 
-pub known : (seen : Seen) (ss : List Setter) → setters_broken seen ss ≡ [] → AreTexted ss → Known ss
+pub known : (seen : _) (ss : List Setter) → setters_broken seen ss ≡ [] → AreTexted ss → Known ss
 known seen ss e t =
     let f = setters_free seen ss e in
     let b = bindings_free ss f t in
