@@ -1,6 +1,6 @@
 -- What the answer says of the text, and that no other one is right.
-use Rattle.std.proofs.Common.{◌≡◌, ◌≤◌, ◌<◌, ℕ, Bool, true, false, if◌then◌else◌, List, Option}
-use Rattle.std.proofs.Common.{Some, None, Result, Ok, Err, refl, sym, ap, subst, ◌∙◌}
+use Rattle.std.proofs.Common.{◌≡◌, ◌≤◌, ◌<◌, ℕ, Bool, true, false, if◌then◌else◌, List, [], ◌∷◌, Option}
+use Rattle.std.proofs.Common.{Some, None, Result, Ok, Err, refl, sym, ap, subst, ◌∙◌, arith}
 use Rattle.std.proofs.lemmas.Bool.{le-leb, lt-leb}
 use Rattle.xt_names.specs.declared.codes.Code.{Code}
 use Rattle.xt_syntax.specs.declared.queries.Query.{Query}
@@ -18,11 +18,13 @@ use Rattle.query_resolve.specs.Meaning.{Meant}
 use Rattle.query_resolve.specs.Queries.{rules_broken, query_meant, resolved, value_or}
 use Rattle.query_resolve.specs.Queries as meaning
 use Rattle.query_resolve.proofs.MeaningLemmas.{meant_resolved, resolved_meant, means_one}
-use Rattle.xquery_syntax.specs.Shapes.{is_shaped_query}
-use Rattle.xquery_syntax.specs.Answers.{Answer, value, syntax, static, too_deep, if_closed}
-use Rattle.xquery_syntax.specs.Answers.{closed_answer, answer, answer_within, Gives}
+use Rattle.query_laws.specs.Shapes.{is_shaped_query}
+use Rattle.query_laws.proofs.Closed.{text_closed}
+use Rattle.query_laws.proofs.Depth.{text_nest}
+use Rattle.xquery_syntax.specs.Answers.{Answer, value, syntax, static, too_deep}
+use Rattle.xquery_syntax.specs.Answers.{meant_answer, answer, answer_within, Gives}
 use Rattle.xquery_syntax.specs.Spelled.{IsWritten, Spells, SpellsWithin, BreaksFirst, Misspelt}
-use Rattle.xquery_syntax.specs.Spelled.{unwritten, misshapen, open_ended, Parsed, IsSettled}
+use Rattle.xquery_syntax.specs.Spelled.{unwritten, misshapen, Parsed, IsSettled}
 
 -- an answer by the case that it is
 parsed_syntax : (k : ℕ) (text : List ℕ) (r : Result Query ParseFault) → Misspelt k text
@@ -55,24 +57,34 @@ parsed_static k text d (Err (Static c)) m g = subst (BreaksFirst k text) (same_s
 parsed_static k text d (Err TooDeep) m g = absurd cc
 parsed_static k text d (Err (Memory e)) m g = tt
 
-parsed_closed : (k : ℕ) (text : List ℕ) (raw : RawQuery) (q : Query) (r : Result Query ParseFault)
-    → IsWritten text raw → query_nest raw ≤ k → Meant raw q → (b : Bool) → is_closed q ≡ b
-    → Gives r (if b then value q else syntax) → Parsed r k text
-parsed_closed k text raw q r w n m true e g =
-    parsed_value k text q r (record { raw = raw; is_written = w; nests = n; means = m; closed = e })
-    g
-parsed_closed k text raw q r w n m false e g = parsed_syntax k text r (open_ended raw q w n m e) g
-
 first_static : (o : Option Code) (q : Query) (c : Code) → value_or o q ≡ meaning.static c
     → o ≡ Some c
 first_static None q c e = absurd cc
 first_static (Some d) q c e = cc
 
+-- a query that is meant breaks no rule, and so is closed
+none_first : (cs : List Code) (p q : Query) → value_or (first cs) p ≡ meaning.value q
+    → (cs ≡ []) × (p ≡ q)
+none_first [] p q e = (refl, cc)
+none_first (c ∷ cs) p q e = absurd cc
+
+meant_closed : (text : List ℕ) (raw : RawQuery) (q : Query) → IsWritten text raw
+    → resolved raw ≡ meaning.value q → is_closed q ≡ true
+meant_closed text raw q w e =
+    let n = none_first (rules_broken raw) (query_meant raw) q e in
+    subst (λ (p : Query). is_closed p ≡ true) n.1 (text_closed text raw w.spelled w.shaped n.0)
+
 parsed_meant : (k : ℕ) (text : List ℕ) (raw : RawQuery) (r : Result Query ParseFault)
     → IsWritten text raw → query_nest raw ≤ k → (a : meaning.Answer) → resolved raw ≡ a
-    → Gives r (closed_answer a) → Parsed r k text
+    → Gives r (meant_answer a) → Parsed r k text
 parsed_meant k text raw r w n (meaning.value q) e g =
-    parsed_closed k text raw q r w n (resolved_meant raw q e) (is_closed q) refl g
+    parsed_value k text q r (record {
+      raw = raw;
+      is_written = w;
+      nests = n;
+      means = resolved_meant raw q e;
+      closed = meant_closed text raw q w e;
+    }) g
 parsed_meant k text raw r w n (meaning.static c) e g =
     parsed_static k text c r (record {
       raw = raw;
@@ -83,7 +95,7 @@ parsed_meant k text raw r w n (meaning.static c) e g =
 
 parsed_shape : (k : ℕ) (text : List ℕ) (raw : RawQuery) (r : Result Query ParseFault)
     → SpellsText text raw → query_nest raw ≤ k → (b : Bool) → is_shaped_query raw ≡ b
-    → Gives r (if b then closed_answer (resolved raw) else syntax) → Parsed r k text
+    → Gives r (if b then meant_answer (resolved raw) else syntax) → Parsed r k text
 parsed_shape k text raw r s n true e g =
     parsed_meant k text raw r (record { spelled = s; shaped = e }) n (resolved raw) refl g
 parsed_shape k text raw r s n false e g = parsed_syntax k text r (misshapen raw s n e) g
@@ -100,7 +112,11 @@ parsed_nothing k text h = unwritten h
 
 pub parsed_deep : (k : ℕ) (text : List ℕ) (f : QueryReading) → f ≡ reading.TooDeep → ReadAs text k f
     → Parsed (Err TooDeep) k text
-parsed_deep k text f e h = let m = rw e at h in record { raw = m.0; spelled = m.1.0; nests = m.1.1 }
+parsed_deep k text f e h =
+    let m = rw e at h in
+    let n = text_nest text m.0 m.1.0 in
+    let d = m.1.1 in
+    record { raw = m.0; spelled = m.1.0; nests = d; long = omega (arith, n, d) }
 
 pub ruleset parsing = (parsed_answer, parsed_nothing, parsed_deep)
 
@@ -119,21 +135,15 @@ deep_is : (k : ℕ) (raw : RawQuery) → k < query_nest raw → answer_within k 
 deep_is k raw n = rw (lt-leb _ _ n) refl
 
 shaped_is : (raw : RawQuery) → is_shaped_query raw ≡ true
-    → answer raw ≡ closed_answer (resolved raw)
+    → answer raw ≡ meant_answer (resolved raw)
 shaped_is raw e = rw e refl
 
 meant_is : (raw : RawQuery) (q : Query) → is_shaped_query raw ≡ true → Meant raw q
-    → answer raw ≡ if_closed q
-meant_is raw q e m = shaped_is raw e ∙ ap closed_answer (meant_resolved raw q m)
-
-closed_is : (q : Query) → is_closed q ≡ true → if_closed q ≡ value q
-closed_is q e = rw e refl
-
-open_is : (q : Query) → is_closed q ≡ false → if_closed q ≡ syntax
-open_is q e = rw e refl
+    → answer raw ≡ value q
+meant_is raw q e m = shaped_is raw e ∙ ap meant_answer (meant_resolved raw q m)
 
 broken_is : (raw : RawQuery) (c : Code) → first (rules_broken raw) ≡ Some c
-    → closed_answer (resolved raw) ≡ static c
+    → meant_answer (resolved raw) ≡ static c
 broken_is raw c e = rw e refl
 
 misshapen_is : (raw : RawQuery) → is_shaped_query raw ≡ false → answer raw ≡ syntax
@@ -149,15 +159,12 @@ misspelt_is : (k : ℕ) (text : List ℕ) (raw : RawQuery) → SpellsText text r
 misspelt_is k text raw s (unwritten h) = absurd (h raw s)
 misspelt_is k text raw s (misshapen other t n e) =
     spelled_is k text raw other _ s t (within_is k other n ∙ misshapen_is other e)
-misspelt_is k text raw s (open_ended other q w n m e) =
-    spelled_is k text raw other _ s w.spelled (within_is k other n ∙ meant_is other q w.shaped m
-    ∙ open_is q e)
 
 gives_within : (k : ℕ) (text : List ℕ) (raw : RawQuery) (r : Result Query ParseFault)
     → SpellsText text raw → Parsed r k text → Gives r (answer_within k raw)
 gives_within k text raw (Ok q) s x =
     spelled_is k text raw x.raw _ s x.is_written.spelled (within_is k x.raw x.nests
-    ∙ meant_is x.raw q x.is_written.shaped x.means ∙ closed_is q x.closed)
+    ∙ meant_is x.raw q x.is_written.shaped x.means)
 gives_within k text raw (Err Syntax) s x = misspelt_is k text raw s x
 gives_within k text raw (Err (Static c)) s x =
     spelled_is k text raw x.raw _ s x.is_written.spelled (within_is k x.raw x.nests
@@ -201,8 +208,6 @@ same_misspelt : (k : ℕ) (text : List ℕ) (b : Result Query ParseFault) → Mi
 same_misspelt k text b (unwritten h) y q = nothing_is k text b h y q
 same_misspelt k text b (misshapen raw s n e) y q =
     same_by k text raw (Err Syntax) b s (misshapen raw s n e) y tt q
-same_misspelt k text b (open_ended raw v w n m e) y q =
-    same_by k text raw (Err Syntax) b w.spelled (open_ended raw v w n m e) y tt q
 
 pub answered_once : (k : ℕ) (text : List ℕ) (a b : Result Query ParseFault) → Parsed a k text
     → Parsed b k text → IsSettled a → IsSettled b → a ≡ b

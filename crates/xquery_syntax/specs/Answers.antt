@@ -5,12 +5,11 @@ use Rattle.xt_syntax.specs.declared.queries.Query.{Query}
 use Rattle.xt_syntax.specs.declared.prefixes.ParseFault.{ParseFault}
 use Rattle.xt_syntax.specs.declared.prefixes.ParseFault.TheVariants.{Syntax, Static, TooDeep}
 use Rattle.xt_syntax.specs.declared.prefixes.ParseFault.TheVariants.{Memory}
-use Rattle.closed_queries.specs.Closed.{is_closed}
 use Rattle.query_grammar.specs.declared.declared.RawQuery.{RawQuery}
 use Rattle.query_resolve.specs.Queries.{resolved}
 use Rattle.query_resolve.specs.Queries as meaning
 use Rattle.query_texts.specs.Texts.{query_nest}
-use Rattle.xquery_syntax.specs.Shapes.{is_shaped_query}
+use Rattle.query_laws.specs.Shapes.{is_shaped_query}
 
 -- a query, or why there is none
 pub data Answer : Type 0 where
@@ -19,16 +18,13 @@ pub data Answer : Type 0 where
   static : Code → Answer
   too_deep : Answer
 
-abbrev pub if_closed : Query → Answer
-if_closed q = if is_closed q then value q else syntax
-
--- the query that is meant, where it is closed
-abbrev pub closed_answer : meaning.Answer → Answer
-closed_answer (meaning.value q) = if_closed q
-closed_answer (meaning.static c) = static c
+-- the query that is meant
+abbrev pub meant_answer : meaning.Answer → Answer
+meant_answer (meaning.value q) = value q
+meant_answer (meaning.static c) = static c
 
 abbrev pub answer : RawQuery → Answer
-answer raw = if is_shaped_query raw then closed_answer (resolved raw) else syntax
+answer raw = if is_shaped_query raw then meant_answer (resolved raw) else syntax
 
 -- .. within a limit
 abbrev pub answer_within : ℕ → RawQuery → Answer

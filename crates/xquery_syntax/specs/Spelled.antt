@@ -1,5 +1,5 @@
 -- Which query a text spells (XQuery 1.0, A.1).
-use Rattle.std.specs.Prelude.{◌≡◌, ◌≤◌, ◌<◌, ℕ, List, true, false, Some, Result, Ok, Err}
+use Rattle.std.specs.Prelude.{◌≡◌, ◌≤◌, ◌<◌, ℕ, List, length, true, false, Some, Result, Ok, Err}
 use Rattle.xt_names.specs.declared.codes.Code.{Code}
 use Rattle.xt_syntax.specs.declared.queries.Query.{Query}
 use Rattle.xt_syntax.specs.declared.prefixes.ParseFault.{ParseFault}
@@ -11,7 +11,7 @@ use Rattle.query_grammar.specs.declared.declared.RawQuery.{RawQuery}
 use Rattle.query_texts.specs.Texts.{SpellsText, query_nest}
 use Rattle.query_resolve.specs.Meaning.{Meant}
 use Rattle.query_resolve.specs.Queries.{rules_broken}
-use Rattle.xquery_syntax.specs.Shapes.{is_shaped_query}
+use Rattle.query_laws.specs.Shapes.{is_shaped_query}
 
 -- the text spells the query as it is written
 pub record IsWritten (text : List ℕ) (raw : RawQuery) : Type 0 where
@@ -40,20 +40,18 @@ pub record BreaksFirst (k : ℕ) (text : List ℕ) (c : Code) : Type 0 where
   pub nests : query_nest raw ≤ k
   pub broken : first (rules_broken raw) ≡ Some c
 
--- what its tokens spell nests deeper
+-- what its tokens spell nests deeper, and so it has more characters
 pub record IsTooDeep (k : ℕ) (text : List ℕ) : Type 0 where
   pub raw : RawQuery
   pub spelled : SpellsText text raw
   pub nests : k < query_nest raw
+  pub long : k < length text
 
--- its tokens spell nothing; or what nests no deeper, but its tags do not end alike, or it is not
--- closed
+-- its tokens spell nothing; or what nests no deeper, but its tags do not end alike
 pub data Misspelt (k : ℕ) (text : List ℕ) : Type 0 where
   unwritten : ((raw : RawQuery) → SpellsText text raw → ⊥) → Misspelt k text
   misshapen : (raw : RawQuery) → SpellsText text raw → query_nest raw ≤ k
       → is_shaped_query raw ≡ false → Misspelt k text
-  open_ended : (raw : RawQuery) (q : Query) → IsWritten text raw → query_nest raw ≤ k
-      → Meant raw q → is_closed q ≡ false → Misspelt k text
 
 -- what the answer of the parser says of the text
 abbrev pub Parsed : Result Query ParseFault → ℕ → List ℕ → Type 0

@@ -1,9 +1,8 @@
 //! The parser of queries (XQuery 1.0, 2 and A).
 //!
 //! `parse_query` gives the query that a text spells, where its expressions nest no deeper than 400
-//! levels and it breaks no static rule. Each other answer has one cause too: no two are right of
-//! one text, unless memory runs out. Whether a query is closed, which one without a broken rule
-//! should be, is not proved but tested: one that is not counts as no query.
+//! levels and it breaks no static rule. Such a query is closed. Each other answer has one cause too:
+//! no two are right of one text, unless memory runs out.
 //!
 //! Example: `declare variable $x := 1; $x` is a query with one variable, `$x` alone breaks
 //! XPST0008, and `<a></b>` spells nothing.

@@ -2,11 +2,10 @@
 ghost use Rattle.std.specs.Prelude.{◌≡◌};
 ghost use Rattle.std.specs.Str.{chars};
 ghost use Rattle.query_resolve.specs.Queries.{resolved};
-ghost use Rattle.xquery_syntax.specs.Answers.{if_closed, closed_answer, answer, Gives};
+ghost use Rattle.xquery_syntax.specs.Answers.{meant_answer, answer, Gives};
 ghost use Rattle.xquery_syntax.specs.Spelled.{Parsed};
 
 use crate::shapes::is_shaped_query;
-use closed_queries::query_closed;
 use expr_names::ResolveFault;
 use query_grammar::RawQuery;
 use query_resolve::resolve_query;
@@ -14,32 +13,14 @@ use query_texts::{QueryReading, read_query};
 use std::alloc::Global;
 use xt_syntax::{ParseFault, Query};
 
-/// The query where it is closed.
-#[tactic(auto, using(crate::proofs::AnswerLemmas::closing))]
-fn if_closed(query: Query) -> Result<Query, ParseFault>
-    ensures { Gives result (if_closed query) }
-{
-    match query_closed(&query) {
-        Err(e) => {
-            drop(query);
-            Err(ParseFault::Memory(e))
-        }
-        Ok(false) => {
-            drop(query);
-            Err(ParseFault::Syntax)
-        }
-        Ok(true) => Ok(query),
-    }
-}
-
 #[tactic(auto, using(crate::proofs::AnswerLemmas::meant_so))]
 fn meant(alloc: Global, raw: &RawQuery) -> Result<Query, ParseFault>
-    ensures { Gives result (closed_answer (resolved raw.now)) }
+    ensures { Gives result (meant_answer (resolved raw.now)) }
 {
     match resolve_query(alloc, raw) {
         Err(ResolveFault::Static(code)) => Err(ParseFault::Static(code)),
         Err(ResolveFault::Memory(e)) => Err(ParseFault::Memory(e)),
-        Ok(query) => if_closed(query),
+        Ok(query) => Ok(query),
     }
 }
 
@@ -58,10 +39,10 @@ fn answer(alloc: Global, raw: &RawQuery) -> Result<Query, ParseFault>
 /// The query that the text spells (XQuery 1.0, A.1), where each of its expressions (its body, the
 /// initialisers and the bodies of functions) nests no deeper than 400 levels and it breaks no
 /// static rule. It is closed. Each refusal comes exactly where it should: `TooDeep` where the text
-/// spells a query with an expression that nests deeper; `Static` where one that does not breaks a
-/// rule, with the code of the first; and `Syntax` where it spells none, one whose direct elements
-/// do not end with the name that they begin with or have an attribute `xmlns` (3.7.1), or one that
-/// breaks no rule but is not closed.
+/// spells a query with an expression that nests deeper, and then it has more than 400 characters;
+/// `Static` where one that does not breaks a rule, with the code of the first; and `Syntax` where
+/// it spells none, or one whose direct elements do not end with the name that they begin with or
+/// have an attribute `xmlns` (3.7.1).
 /// (XQuery 1.0, 2.3.1, 3.7.1, 4 and A)
 #[tactic(auto, using(crate::proofs::ParsedLemmas::parsing))]
 pub fn parse_query(alloc: Global, text: &str) -> Result<Query, ParseFault>
