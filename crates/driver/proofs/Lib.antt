@@ -1,4 +1,5 @@
-pub mod QueryLemmas
+pub mod InputLemmas
+pub mod Loads
+pub mod Results
 pub mod Runs
-pub mod SetLemmas
 pub mod Transforms

@@ -1,3 +1,7 @@
+pub mod Further
+pub mod Inputs
 pub mod Meaning
-pub mod Queries
+pub mod Request
+pub mod Result
+pub mod Status
 pub mod Theorem

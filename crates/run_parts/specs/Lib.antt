@@ -1,4 +1,0 @@
-pub mod Further
-pub mod Inputs
-pub mod Result
-pub mod Status
