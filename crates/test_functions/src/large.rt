@@ -200,11 +200,26 @@ fn the_greatest_text_is_counted_and_changed(rt: HostRuntime) {
     drop(whole);
 }
 
+// Four characters of one to four bytes, again and again.
+#[test]
+fn a_million_characters_are_told_as_numbers_and_made_of_them(rt: HostRuntime) {
+    let whole = repeated(&rt, "a\u{E9}\u{4E00}\u{1F600}", 250_000);
+    let numbers = answer(
+        &rt,
+        Builtin::StringToCodepoints,
+        one(&rt, text_list(&rt, whole)),
+    );
+    assert_eq!(rt; numbers.len(), STRINGS);
+    let made = answer(&rt, Builtin::CodepointsToString, one(&rt, numbers));
+    assert_eq!(rt; bytes_of(&made), 2_500_000);
+    drop(made);
+}
+
 // What is looked for begins at every place of the text, and occurs at none.
 #[test]
 fn a_part_that_nearly_occurs_everywhere(rt: HostRuntime) {
-    let whole = text_list(&rt, repeated(&rt, "a", 200_000));
-    let front = repeated(&rt, "a", 1_000);
+    let whole = text_list(&rt, repeated(&rt, "a", 2_000_000));
+    let front = repeated(&rt, "a", 1_000_000);
     let mut part = TextBuilder::new(rt.alloc());
     part.push_text(&front).expect(&rt, "memory");
     part.push_str("b").expect(&rt, "memory");

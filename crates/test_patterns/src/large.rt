@@ -1,6 +1,6 @@
-// Many siblings.
+// Many siblings, and many ancestors.
 use crate::asked::is_matched;
-use crate::made::{many, node_at};
+use crate::made::{many, nested_in_each_other, node_at};
 use crate::written::pattern_of;
 use std::alloc::AllocGlobal;
 use std::process::Abort;
@@ -39,6 +39,39 @@ fn predicates_without_positions(rt: HostRuntime) {
     for place in 0..500 {
         assert!(rt; found(&rt, &tree, "b[@k,'m,=][text(),'one,=]", place));
         assert!(rt; !found(&rt, &tree, "b[@k,'n,=]", place));
+    }
+    drop(tree);
+}
+
+const LEVELS: usize = 2_000;
+
+// Whether the pattern matches the innermost of so many elements `a`, one inside of the other.
+fn found_innermost(rt: &(impl Abort + AllocGlobal), tree: &Tree, words: &str) -> bool {
+    let copy = tree.copy().expect(rt, "memory");
+    let mut path = Vec::new(rt.alloc());
+    for _ in 0..LEVELS {
+        path.push(0).expect(rt, "memory");
+    }
+    let node = node_at(rt, copy, path.as_slice(), None);
+    let pattern = pattern_of(rt, words);
+    let truth = is_matched(rt, &pattern, &node);
+    drop(pattern);
+    drop(node);
+    truth
+}
+
+// There are more than 10^16 ways to choose an element for each step. Each `//` goes up once.
+#[test]
+fn many_steps_below_many_ancestors(rt: HostRuntime) {
+    let tree = nested_in_each_other(&rt, LEVELS);
+    let cases = [
+        ("a // a // a // a // a // a // a", true),
+        ("z // a // a // a // a // a // a", false),
+        ("/ z // a / a // a // a // a // a // a", false),
+    ];
+    for (words, wanted) in cases {
+        let truth = found_innermost(&rt, &tree, words);
+        assert_eq!(rt; truth, wanted, "{words}");
     }
     drop(tree);
 }

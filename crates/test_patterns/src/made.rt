@@ -106,6 +106,16 @@ pub(crate) fn many(rt: &(impl Abort + AllocGlobal), count: usize) -> Tree {
     Tree::Doc(Kids::make(rt.alloc(), top).expect(rt, "memory"))
 }
 
+// The document of so many elements `a`, one inside of the other.
+pub(crate) fn nested_in_each_other(rt: &(impl Abort + AllocGlobal), levels: usize) -> Tree {
+    let mut kids = List::new(rt.alloc());
+    for _ in 0..levels {
+        let whole = element(rt, "a", List::new(rt.alloc()), kids);
+        kids = with(rt, List::new(rt.alloc()), whole);
+    }
+    Tree::Doc(Kids::make(rt.alloc(), kids).expect(rt, "memory"))
+}
+
 fn digit(c: char) -> usize {
     match c {
         '0' => 0,
