@@ -317,7 +317,8 @@ fn read(
     }
 }
 
-// where two variables `x` and one `y` are local, another `y` and `g` global, and this item is the focus
+// where two variables `x` and one `y` are local, another `y` and `g` global, and this item is the
+// focus
 fn check_names(rt: &(impl Abort + AllocGlobal), item: &Item) {
     let documents = DocSet::new(rt.alloc());
     let default = text(rt, "");

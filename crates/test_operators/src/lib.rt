@@ -1,7 +1,8 @@
-//! Tests of the operators of expressions, and of what is done between evaluations: worked examples of
-//! each, and the codes of errors in their order.
+//! Tests of the operators of expressions, and of what is done between evaluations: worked examples
+//! of each, and the codes of errors in their order.
 //!
-//! They stand apart from the crate that they test, so that a change of a test need not prove it again.
+//! They stand apart from the crate that they test, so that a change of a test need not prove it
+//! again.
 #![tactic(auto)]
 
 #[cfg(test)]
@@ -10,6 +11,8 @@ mod evaluation;
 mod made;
 #[cfg(test)]
 mod operands;
+#[cfg(test)]
+mod parts;
 #[cfg(test)]
 mod sets;
 #[cfg(test)]

@@ -1,8 +1,8 @@
 // Operators and their answers as texts.
 //
 // Operands stand apart by `;` and items by `,`. An item is `s:`, `u:` or `i:` and a string, an
-// untyped value or an integer, `n:` and a node of the sample, `o:` and one of another tree, or `true`
-// or `false`. An answer is its items, or the code of its error.
+// untyped value or an integer, `n:` and a node of the sample, `o:` and one of another tree, or
+// `true` or `false`. An answer is its items, or the code of its error.
 use crate::made::{name, node, text, with};
 use operator_values as operators;
 use std::alloc::{AllocGlobal, Global};
@@ -61,7 +61,7 @@ fn put_number(rt: &(impl Abort + AllocGlobal), out: &mut String, number: i64) {
     drop(digits);
 }
 
-fn put_place(rt: &(impl Abort + AllocGlobal), out: &mut String, place: usize) {
+pub(crate) fn put_place(rt: &(impl Abort + AllocGlobal), out: &mut String, place: usize) {
     let digits = format!(in rt.alloc(); "{place}").expect(rt, "memory");
     put(rt, out, digits.as_str());
     drop(digits);
