@@ -37,7 +37,7 @@ impl Model for Vars {
 }
 
 impl Vars {
-    /// No variables and no documents.
+    /// No variables and no documents (XPath 2.0, 2.1.2).
     pub fn new(alloc: Global) -> Vars
         ensures { result ≡ record { locals = []; documents = [] } }
     {
@@ -47,7 +47,7 @@ impl Vars {
         }
     }
 
-    /// No variables, and these documents.
+    /// No variables, and these documents (XPath 2.0, 2.1.2).
     pub fn with_set(alloc: Global, set: &DocSet) -> Result<Vars, AllocError>
         ensures { IfOk result (λ vars. vars ≡ record { locals = []; documents = set.now }) }
     {
@@ -57,7 +57,8 @@ impl Vars {
         })
     }
 
-    /// Binds a variable within those that are bound; for want of memory all stays as it was.
+    /// Binds a variable within those that are bound (XPath 2.0, 3.1.2); for want of memory all stays
+    /// as it was.
     pub fn bind(&mut self, name: &ExprName, value: Seq) -> Result<(), AllocError>
         ensures ok { OnOk result (self.new ≡ with_variable name.now (given value.moves) self.old) }
         ensures err { OnErr result (self.new ≡ self.old) }
@@ -67,7 +68,7 @@ impl Vars {
         Ok(())
     }
 
-    /// The same variables and documents, which are shared.
+    /// The same variables and documents, which are shared (XPath 2.0, 2.1.2).
     pub fn copy(&self) -> Result<Vars, AllocError>
         ensures { IfOk result (λ vars. vars ≡ self.now) }
     {
