@@ -1,0 +1,4 @@
+pub mod Chains
+pub mod Types
+pub mod Conditionals
+pub mod Bindings
