@@ -1,8 +1,4 @@
-pub mod Values
-pub mod Paths
-pub mod Types
-pub mod Conditionals
-pub mod Makers
+pub mod Induction
 pub mod Parts
 pub mod Operators
 pub mod Forms

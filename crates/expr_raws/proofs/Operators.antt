@@ -8,17 +8,6 @@ use Rattle.xt_names.specs.declared.kinds.ArithOp.{ArithOp}
 use Rattle.xt_names.specs.declared.kinds.ArithOp.TheVariants as arith
 use Rattle.xt_syntax.specs.declared.exprs.Expr.{Expr}
 use Rattle.xt_syntax.specs.declared.exprs.Expr.TheVariants as expr
-use Rattle.xt_syntax.specs.declared.exprs.Expr.TheVariants.{rolls-Int, rolls-Str, rolls-Context}
-use Rattle.xt_syntax.specs.declared.exprs.Expr.TheVariants.{rolls-Root, rolls-Comma, rolls-Or}
-use Rattle.xt_syntax.specs.declared.exprs.Expr.TheVariants.{rolls-And, rolls-General, rolls-Value}
-use Rattle.xt_syntax.specs.declared.exprs.Expr.TheVariants.{rolls-Is, rolls-Before, rolls-After}
-use Rattle.xt_syntax.specs.declared.exprs.Expr.TheVariants.{rolls-Range, rolls-Arith, rolls-Minus}
-use Rattle.xt_syntax.specs.declared.exprs.Expr.TheVariants.{rolls-Plus, rolls-Union}
-use Rattle.xt_syntax.specs.declared.exprs.Expr.TheVariants.{rolls-Intersect, rolls-Except}
-use Rattle.xt_syntax.specs.declared.exprs.Expr.TheVariants.{rolls-Filter, rolls-Var, rolls-Call}
-use Rattle.xt_syntax.specs.declared.exprs.Expr.TheVariants.{rolls-Step, rolls-Slash}
-use Rattle.xt_syntax.specs.declared.exprs.Expr.TheVariants.{rolls-InstanceOf, rolls-Treat}
-use Rattle.xt_syntax.specs.declared.exprs.Expr.TheVariants.{rolls-Castable, rolls-Cast}
 use Rattle.expr_terms.specs.declared.keys.Key.{Key}
 use Rattle.expr_terms.specs.declared.keys.Key.TheVariants as key
 use Rattle.expr_terms.specs.declared.tokens.Token.TheVariants as token
@@ -32,13 +21,14 @@ use Rattle.expr_control.specs.Table.{control_value}
 use Rattle.expr_control.specs.Operators as operators
 use Rattle.expr_resolve.specs.declared.setting.Setting.{Setting}
 use Rattle.expr_resolve.specs.Tables.{is_chain, family_of, value_in}
-use Rattle.expr_raws.specs.Forms.{below, single, list, primary, signs, at, all_at, all_can}
-use Rattle.expr_raws.specs.Operators.{key_leaf, tail, many, listed, signed, compare_key, value_key}
-use Rattle.expr_raws.specs.Operators.{arithmetic, once, left}
-use Rattle.expr_raws.specs.Raws.{form_of, filtered}
-use Rattle.expr_raws.proofs.Values.{value_leaf, value_node}
-use Rattle.expr_raws.proofs.Values.{at_means, Plain, Leftly}
-use Rattle.expr_raws.proofs.Values.{chain_means, once_means, left_means}
+use Rattle.path_raws.specs.Forms.{below, single, list, primary, signs, at, all_at, all_can}
+use Rattle.path_raws.specs.Forms.{key_leaf}
+use Rattle.path_raws.specs.Paths.{filtered}
+use Rattle.path_raws.proofs.Values.{value_leaf, value_node, at_means}
+use Rattle.control_raws.specs.Operators.{tail, many, listed, signed, compare_key, value_key}
+use Rattle.control_raws.specs.Operators.{arithmetic, once, left}
+use Rattle.control_raws.proofs.Chains.{Plain, Leftly, chain_means, once_means, left_means}
+use Rattle.expr_raws.specs.Raws.{form_of}
 use Rattle.expr_raws.proofs.Parts.{Means, P, bare, their, all_mean, all_tails}
 
 module _ (s : Setting) where

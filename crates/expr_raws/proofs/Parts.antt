@@ -9,10 +9,11 @@ use Rattle.expr_meant.specs.declared.meant.Meant.TheVariants as meant
 use Rattle.expr_meant.specs.Parts.{expr_of, exprs_of}
 use Rattle.expr_resolve.specs.declared.setting.Setting.{Setting}
 use Rattle.expr_resolve.specs.Folds.{value_of}
-use Rattle.expr_raws.specs.Forms.{Form, all_at, all_can}
-use Rattle.expr_raws.specs.Operators.{tail}
+use Rattle.path_raws.specs.Forms.{Form, all_at, all_can}
+use Rattle.path_raws.proofs.Values.{at_means}
+use Rattle.control_raws.specs.Operators.{tail}
+use Rattle.control_raws.proofs.Chains.{Plain, tail_means}
 use Rattle.expr_raws.specs.Raws.{form_of}
-use Rattle.expr_raws.proofs.Values.{at_means, Plain, tail_means}
 
 module _ (s : Setting) where
   abbrev pub Means : Form → Expr → Type 0

@@ -1,6 +1,5 @@
--- Expressions as raw values: all forms but quantifiers, FLWOR expressions and
--- direct elements.
-use Rattle.std.specs.Prelude.{pos, int_le, Bool, true, ◌&&◌, List, [], ◌∷◌}
+-- Expressions as raw values, and the tokens that spell them.
+use Rattle.std.specs.Prelude.{pos, int_le, Bool, true, List, [], ◌∷◌}
 use Rattle.xt_syntax.specs.declared.exprs.Expr.{Expr}
 use Rattle.xt_syntax.specs.declared.exprs.Clause.TheOpen.{Int, Str, Context, Root, Comma}
 use Rattle.xt_syntax.specs.declared.exprs.Clause.TheOpen.{Or, And, General, Value, Is, Before}
@@ -8,67 +7,50 @@ use Rattle.xt_syntax.specs.declared.exprs.Clause.TheOpen.{After, Range, Arith, M
 use Rattle.xt_syntax.specs.declared.exprs.Clause.TheOpen.{Intersect, Except, Filter}
 use Rattle.xt_syntax.specs.declared.exprs.Clause.TheOpen.{Var, Call, Step, Slash}
 use Rattle.xt_syntax.specs.declared.exprs.Clause.TheOpen.{InstanceOf, Treat, Castable, Cast}
-use Rattle.xt_syntax.specs.declared.exprs.Clause.TheOpen.{DocC, TextC, CommentC, If}
-use Rattle.expr_terms.specs.declared.keys.Key.{Key}
-use Rattle.expr_raws.specs.Operators.{key_leaf}
+use Rattle.xt_syntax.specs.declared.exprs.Clause.TheOpen.{DocC, TextC, CommentC, If, Flwor, Quant}
+use Rattle.xt_syntax.specs.declared.exprs.Clause.TheOpen.{ElemC, AttrC, PiC, Fixed, Computed}
+use Rattle.xt_syntax.specs.declared.exprs.Clause.TheOpen.{Direct, Chars, Enclosed, Child, For, Let}
 use Rattle.xt_syntax.specs.declared.prefixes.Prefixes.{Prefixes}
-use Rattle.xt_syntax.specs.Layers.{Kinds, Steps, ExprLayer, expr_gives}
+use Rattle.xt_syntax.specs.Layers.{Kinds, Steps, ExprLayer, NameLayer, PartLayer, ClauseLayer}
+use Rattle.xt_syntax.specs.Layers.{BindLayer, FlworLayer, OrderLayer, expr_gives}
 use Rattle.expr_terms.specs.declared.keys.Key.TheVariants as key
+use Rattle.expr_terms.specs.declared.tokens.Token.{Token}
 use Rattle.expr_terms.specs.declared.tokens.Token.TheVariants as token
 use Rattle.expr_terms.specs.declared.productions.Level.TheVariants as level
-use Rattle.expr_terms.specs.declared.productions.Production.{Production}
 use Rattle.expr_terms.specs.declared.productions.Production.TheVariants as production
 use Rattle.expr_terms.specs.declared.raws.Raw.{Raw}
-use Rattle.expr_terms.specs.declared.raws.Raw.TheVariants.{Leaf as leaf, Node as node}
-use Rattle.expr_raws.specs.Forms.{Form, primary, step, list, at, all_at, all_can}
-use Rattle.expr_raws.specs.Operators.{once, left, nothing, many, listed, signed, compare_key}
-use Rattle.expr_raws.specs.Operators.{value_key, arithmetic}
-use Rattle.expr_raws.specs.Operators.{ArmForm, conditional}
-use Rattle.xt_syntax.specs.declared.exprs.Clause.TheOpen.{ElemC, AttrC, PiC, Fixed, Computed}
-use Rattle.xt_syntax.specs.Layers.{NameLayer}
-use Rattle.expr_raws.specs.Makers.{NameForm, fixed, computed, element, attribute, instruction}
-use Rattle.expr_raws.specs.Paths.{variable, call, stepped, slashed}
-use Rattle.expr_raws.specs.Types.{sequence_form, of_type, single_form}
-
-abbrev pub leaf_form : Production → Bool → List Raw → Form
-leaf_form p can vs = record { raw = node p vs; place = primary; can = can }
-
--- a[p]..
-abbrev pub filtered : Form → List Form → Form
-filtered a [] = nothing
-filtered a (p ∷ ps) = record {
-  raw = node production.FilterStep (at primary a ∷ all_at list (p ∷ ps));
-  place = step;
-  can = a.can && all_can (p ∷ ps);
-}
-
--- document { a }, text { a }, comment { a }
-abbrev pub enclosing : Key → Form → Form
-enclosing k a = record {
-  raw = node production.Enclosing (key_leaf k ∷ at list a ∷ []);
-  place = primary;
-  can = a.can;
-}
+use Rattle.expr_terms.specs.declared.raws.Raw.TheVariants.{Leaf as leaf}
+use Rattle.path_raws.specs.Forms.{Form}
+use Rattle.path_raws.specs.Paths.{variable, call, stepped, slashed, filtered, root_form, lone}
+use Rattle.control_raws.specs.Operators.{once, left, many, listed, signed, compare_key, value_key}
+use Rattle.control_raws.specs.Operators.{arithmetic, ArmForm, conditional}
+use Rattle.control_raws.specs.Types.{sequence_form, of_type, single_form}
+use Rattle.control_raws.specs.Bindings.{BindForm, binding, quantified, ClauseForm, for_clause}
+use Rattle.control_raws.specs.Bindings.{let_clause, placing, OrderForm, flowing}
+use Rattle.element_raws.specs.Makers.{NameForm, fixed, computed, element, attribute, instruction}
+use Rattle.element_raws.specs.Makers.{enclosing}
+use Rattle.element_raws.specs.Direct.{PartForm, characters, enclosed, child, AttrForm, direct}
 
 abbrev pub forms : Kinds
 forms = record {
-  Clauses = Unit {0};
+  Clauses = ClauseForm;
   Exprs = Form;
   Names = NameForm;
-  Parts = Unit {0};
+  Parts = PartForm;
   Arms = ArmForm;
-  Binds = Unit {0};
-  Attrs = Unit {0};
-  Flwors = Unit {0};
-  Orders = Unit {0};
+  Binds = BindForm;
+  Attrs = AttrForm;
+  Flwors = Form;
+  Orders = OrderForm;
 }
 
--- `/` alone stands in parentheses
 abbrev pub form_step : Prefixes → ExprLayer forms → Form
-form_step p (Int n) = leaf_form production.Number (int_le (pos 0) n) (leaf (token.Digits n) ∷ [])
-form_step p (Str cs) = leaf_form production.Literal true (leaf (token.Quoted cs) ∷ [])
-form_step p Context = leaf_form production.Context true []
-form_step p Root = leaf_form production.Parens true (node production.Rooted [] ∷ [])
+form_step p (Int n) = lone production.Number (leaf (token.Digits n) ∷ []) (token.Digits n)
+    (int_le (pos 0) n)
+form_step p (Str cs) =
+    lone production.Literal (leaf (token.Quoted cs) ∷ []) (token.Quoted cs) true
+form_step p Context = lone production.Context [] (token.Key key.Dot) true
+form_step p Root = root_form
 form_step p (Comma fs) = listed fs
 form_step p (Or fs) = many level.Ors key.OrWord fs
 form_step p (And fs) = many level.Ands key.AndWord fs
@@ -100,23 +82,40 @@ form_step p (Var n) = variable p n
 form_step p (Call n fs) = call p n fs
 form_step p (Step on t fs) = stepped p on t fs
 form_step p (Slash a b) = slashed a b
-form_step p _ = nothing
+form_step p (Flwor f) = f
+form_step p (Quant every bs a) = quantified every bs a
+form_step p (Direct n attrs ps) = direct p n attrs ps
 
 abbrev pub name_step : NameLayer forms → NameForm
 name_step (Fixed n) = fixed n
 name_step (Computed f) = computed f
 
+abbrev pub part_step : PartLayer forms → PartForm
+part_step (Chars cs) = characters cs
+part_step (Enclosed f) = enclosed f
+part_step (Child f) = child f
+
+abbrev pub clause_step : Prefixes → ClauseLayer forms → ClauseForm
+clause_step p (For b o) = for_clause b (placing p o)
+clause_step p (Let b) = let_clause b
+
+abbrev pub bind_step : Prefixes → BindLayer forms → BindForm
+bind_step p b = binding p b.var b.kind b.source
+
+abbrev pub flwor_step : FlworLayer forms → Form
+flwor_step f = flowing f.clauses f.test f.orders f.stable f.body
+
 abbrev pub form_steps : Prefixes → Steps forms
 form_steps p = record {
   of_expr = form_step p;
-  of_clause = λ x. tt;
+  of_clause = clause_step p;
   of_name = name_step;
-  of_part = λ x. tt;
+  of_part = part_step;
   of_arm = λ a. record { test = a.test; first = a.then };
-  of_bind = λ x. tt;
-  of_attr = λ x. tt;
-  of_flwor = λ x. tt;
-  of_order = λ x. tt;
+  of_bind = bind_step p;
+  of_attr = λ a. record { name = a.name; parts = a.parts };
+  of_flwor = flwor_step;
+  of_order = λ o. record { key = o.key; descending = o.descending };
 }
 
 abbrev pub form_of : Prefixes → Expr → Form
@@ -126,8 +125,13 @@ form_of p = expr_gives forms (form_steps p)
 abbrev pub raw_of : Prefixes → Expr → Raw
 raw_of p e = (form_of p e).raw
 
--- Whether it can be printed: all of its forms are among those above, integers have no sign, lists
--- other than `()`, `or` and `and` have two parts or more, filters have predicates, conditionals
--- have arms and end in none, calls are of no atomic types, and each name and type has a token.
+-- Whether it can be printed: integers have no sign, lists other than `()`, `or` and `and` have two
+-- parts or more, filters have predicates, conditionals have arms and end in none, quantifiers have
+-- bindings, FLWOR expressions have clauses and are stable with orders alone, calls are of no atomic
+-- types, no characters of a direct element stand beside others, and each name and type has a token.
 abbrev pub is_printable : Prefixes → Expr → Bool
 is_printable p e = (form_of p e).can
+
+-- .. and the tokens that spell it
+abbrev pub tokens_of : Prefixes → Expr → List Token
+tokens_of p e = (form_of p e).tokens []
