@@ -1,0 +1,9 @@
+pub mod Rules
+pub mod Names
+pub mod Modes
+pub mod Choices
+pub mod Elements
+pub mod Priorities
+pub mod Within
+pub mod Templates
+pub mod TemplateLaws

@@ -1,0 +1,3 @@
+pub mod GapEnds
+pub mod TokenEnds
+pub mod LexedLemmas
