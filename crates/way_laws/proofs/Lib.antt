@@ -1,0 +1,4 @@
+pub mod Predicates
+pub mod Forms
+pub mod Nodes
+pub mod Means
