@@ -8,6 +8,8 @@
 #[cfg(test)]
 mod deep;
 #[cfg(test)]
+mod found;
+#[cfg(test)]
 mod large;
 #[cfg(test)]
 mod made;

@@ -3,13 +3,22 @@ use std::alloc::AllocGlobal;
 use std::process::Abort;
 use xdm_items::{Item, ItemList};
 use xt_atoms::{Atom, to_text};
-use xt_names::{List, Text};
+use xt_names::{List, Name, Text};
 
 // so many rows, keys or groups
 pub(crate) const MANY: u64 = 300_000;
 
 pub(crate) fn text(rt: &(impl Abort + AllocGlobal), s: &str) -> Text {
     Text::make(rt.alloc(), s).expect(rt, "memory")
+}
+
+// a name without prefix and uri
+pub(crate) fn name(rt: &(impl Abort + AllocGlobal), local: &str) -> Name {
+    Name {
+        prefix: text(rt, ""),
+        uri: text(rt, ""),
+        local: text(rt, local),
+    }
 }
 
 pub(crate) fn word(rt: &(impl Abort + AllocGlobal), s: &str) -> Atom {

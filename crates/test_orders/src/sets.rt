@@ -109,3 +109,45 @@ fn files_are_fetched_in_turn(rt: HostRuntime) {
     drop(both);
     drop(refused);
 }
+
+// How many bytes the one file has as it is fetched, or, where it is too long, how many are told,
+// and whether it is too long.
+fn fetched_size(rt: &(impl Abort + AllocGlobal), size: usize) -> (u64, bool) {
+    let bytes = vec![in rt.alloc(); b'a'; size].expect(rt, "memory");
+    let mut files = MemFiles::new(rt.alloc());
+    files.add("a", bytes.as_slice()).expect(rt, "memory");
+    drop(bytes);
+    let names = names(rt, &["a"]);
+    let answer = fetch(rt.alloc(), &mut files, &names);
+    drop(names);
+    drop(files);
+    size_of(answer)
+}
+
+fn size_of(answer: Result<List<List<u8>>, FetchFault>) -> (u64, bool) {
+    match answer {
+        Ok(texts) => {
+            let size = match texts.as_slice() {
+                [text] => text.len() as u64,
+                _ => 0,
+            };
+            drop(texts);
+            (size, false)
+        }
+        Err(FetchFault::TooLong(name, size)) => {
+            drop(name);
+            (size, true)
+        }
+        Err(fault) => {
+            drop(fault);
+            (0, true)
+        }
+    }
+}
+
+// 64 MiB are fetched, and one byte more is not.
+#[test]
+fn the_longest_file_is_fetched(rt: HostRuntime) {
+    assert!(rt; fetched_size(&rt, 67_108_864) == (67_108_864, false));
+    assert!(rt; fetched_size(&rt, 67_108_865) == (67_108_865, true));
+}

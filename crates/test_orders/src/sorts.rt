@@ -1,5 +1,5 @@
 // Rows in order.
-use crate::made::{MANY, word};
+use crate::made::{MANY, name, text, word};
 use order_group::{KeyRow, SortFault, sort_by_keys};
 use std::alloc::AllocGlobal;
 use std::process::Abort;
@@ -89,6 +89,69 @@ fn mixed_column(rt: &(impl Abort + AllocGlobal)) -> u64 {
 #[test]
 fn a_column_of_two_kinds_is_mixed(rt: HostRuntime) {
     assert!(rt; mixed_column(&rt) == 1);
+}
+
+// `-` for no atom, else the kind and the value
+fn cell_of(rt: &(impl Abort + AllocGlobal), word: &str) -> Option<Atom> {
+    let (kind, value) = word.split_once(":").unwrap_or((word, ""));
+    match kind {
+        "-" => None,
+        "i" => Some(Atom::Int(value.parse::<i64>().unwrap_or(0))),
+        "s" => Some(Atom::Str(text(rt, value))),
+        "u" => Some(Atom::Untyped(text(rt, value))),
+        "b" => Some(Atom::Bool(value == "true")),
+        _ => Some(Atom::QName(name(rt, value))),
+    }
+}
+
+// Rows apart by blanks, their cells by a comma.
+fn rows_of(rt: &(impl Abort + AllocGlobal), words: &str) -> List<KeyRow> {
+    let mut rows = List::new(rt.alloc());
+    for word in words.split_whitespace() {
+        let (first, second) = word.split_once(",").unwrap_or((word, "-"));
+        add_row(rt, &mut rows, cell_of(rt, first), cell_of(rt, second));
+    }
+    rows
+}
+
+// Whether the rows have these places in order; none where a column is mixed.
+fn are_sorted_to(
+    rt: &(impl Abort + AllocGlobal),
+    words: &str,
+    descending: &[bool],
+    places: &[u64],
+) -> bool {
+    let rows = rows_of(rt, words);
+    let found = sorted(rt, &rows, descending);
+    drop(rows);
+    let are = found.as_slice() == places;
+    drop(found);
+    are
+}
+
+// Untyped values count as strings, strings stand by code points, false before true, and no atom
+// before all; a name has no order, and what has an order with no other kind neither.
+#[test]
+fn columns_of_each_kind(rt: HostRuntime) {
+    assert!(rt; are_sorted_to(&rt, "i:10 i:9 i:-1", &[false, false], &[2, 1, 0]));
+    assert!(rt; are_sorted_to(&rt, "s:10 u:9 s:1", &[false, false], &[2, 0, 1]));
+    assert!(rt;
+        are_sorted_to(
+            &rt,
+            "s:a s:B s:\u{10000} s:\u{FFFD}",
+            &[false, false],
+            &[1, 0, 3, 2]
+        )
+    );
+    assert!(rt; are_sorted_to(&rt, "b:true b:false -", &[false, false], &[2, 1, 0]));
+    assert!(rt; are_sorted_to(&rt, "b:true b:false -", &[true, false], &[0, 1, 2]));
+    assert!(rt; are_sorted_to(&rt, "- - -", &[true, true], &[0, 1, 2]));
+    assert!(rt; are_sorted_to(&rt, "", &[false, false], &[]));
+    assert!(rt; are_sorted_to(&rt, "i:1,s:b i:0,s:a i:1,s:a", &[true, false], &[2, 0, 1]));
+    assert!(rt; are_sorted_to(&rt, "i:1,s:b i:0,s:a i:1,s:a", &[false, true], &[1, 0, 2]));
+    for mixed in ["i:1 s:1", "u:1 b:true", "q:a q:a", "q:a", "-,i:1 -,u:1"] {
+        assert!(rt; are_sorted_to(&rt, mixed, &[false, false], &[]), "{mixed}");
+    }
 }
 
 // the rest by 2, and the number itself

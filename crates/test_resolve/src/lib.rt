@@ -1,4 +1,5 @@
-//! Tests of what raw values mean: worked examples of every form, and of every static rule.
+//! Tests of what raw values and the texts of expressions and queries mean: worked examples of every
+//! form, and of every static rule.
 //!
 //! They stand apart from the crates that they test, so that a change of a test need not prove them
 //! again.
@@ -12,6 +13,8 @@ mod kids;
 mod labels;
 #[cfg(test)]
 mod meanings;
+#[cfg(test)]
+mod queries;
 #[cfg(test)]
 mod shown;
 #[cfg(test)]

@@ -10,8 +10,9 @@ use std::alloc::AllocGlobal;
 use std::process::Abort;
 use xpath_lex::tokens;
 use xpath_syntax::parse_expr;
+use xquery_syntax::parse_query;
 use xt_names::{Binding, List, Text};
-use xt_syntax::{Expr, ParseFault, Prefixes, SeqType};
+use xt_syntax::{Expr, ParseFault, Prefixes, Query, SeqType};
 
 fn show(rt: &(impl Abort + AllocGlobal), out: &mut String, e: &Expr, depth: u8) {
     if depth == 0 {
@@ -144,13 +145,36 @@ pub(crate) fn parsed(rt: &(impl Abort + AllocGlobal), text: &str, limit: u16) ->
 
 fn put_parsed(rt: &(impl Abort + AllocGlobal), out: &mut String, parsed: Result<Expr, ParseFault>) {
     match parsed {
-        Err(ParseFault::Syntax) => put(rt, out, "syntax"),
-        Err(ParseFault::TooDeep) => put(rt, out, "deep"),
-        Err(ParseFault::Static(code)) => put(rt, out, code.text()),
-        Err(ParseFault::Memory(_)) => put(rt, out, "memory"),
+        Err(fault) => put_cause(rt, out, fault),
         Ok(e) => {
             show(rt, out, &e, 100);
             drop(e);
         }
+    }
+}
+
+// What the body of a text of a query means, or why the text is none.
+pub(crate) fn query_body(rt: &(impl Abort + AllocGlobal), text: &str) -> String {
+    let mut out = String::new(rt.alloc());
+    put_body(rt, &mut out, parse_query(rt.alloc(), text));
+    out
+}
+
+fn put_body(rt: &(impl Abort + AllocGlobal), out: &mut String, parsed: Result<Query, ParseFault>) {
+    match parsed {
+        Err(fault) => put_cause(rt, out, fault),
+        Ok(query) => {
+            show(rt, out, &query.body, 100);
+            drop(query);
+        }
+    }
+}
+
+fn put_cause(rt: &(impl Abort + AllocGlobal), out: &mut String, fault: ParseFault) {
+    match fault {
+        ParseFault::Syntax => put(rt, out, "syntax"),
+        ParseFault::TooDeep => put(rt, out, "deep"),
+        ParseFault::Static(code) => put(rt, out, code.text()),
+        ParseFault::Memory(_) => put(rt, out, "memory"),
     }
 }
