@@ -1,5 +1,4 @@
-pub mod InputLemmas
-pub mod Loads
-pub mod Results
+pub mod QueryLemmas
 pub mod Runs
+pub mod SetLemmas
 pub mod Transforms

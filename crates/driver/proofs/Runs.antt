@@ -5,15 +5,14 @@ use Rattle.std.specs.Str.{encode_utf8_all}
 use Rattle.xt_io.specs.Files.{FilesState, IsMissing, HoldsAtLeast}
 use Rattle.xt_io.specs.Sink.{SinkState, Puts}
 use Rattle.xt_io.proofs.SinkLemmas.{Puts-none, Puts-whole}
-use Rattle.command_words.specs.Requests.{Asked, Transform, Query, Inputs}
-use Rattle.driver.specs.Inputs.{IsInput, IsLoadedOf, Holdings}
-use Rattle.driver.specs.Request.{request_of}
+use Rattle.command_words.specs.Requests.{Asked, Transform, Query, Inputs, request_of}
+use Rattle.run_parts.specs.Inputs.{IsInput, IsLoadedOf, Holdings}
 use Rattle.driver.specs.Meaning.{HasText, IsRefusedAs, IsReached, IsNamed}
-use Rattle.driver.specs.Status.{Tells, Writes}
+use Rattle.run_parts.specs.Status.{Tells, Writes}
 use Rattle.driver.specs.Theorem.{Answers, Completes, IsClean, Notes}
-use Rattle.driver.specs.declared.status.Status.{Status}
-use Rattle.driver.specs.declared.status.Status.TheVariants.{Done, Usage, Load, TooLong, Malformed}
-use Rattle.driver.specs.declared.status.Status.TheVariants.{Static, Dynamic, Deep, Write, Memory}
+use Rattle.run_parts.specs.declared.status.Status.{Status}
+use Rattle.run_parts.specs.declared.status.Status.TheVariants.{Done, Usage, Load, TooLong, Malformed}
+use Rattle.run_parts.specs.declared.status.Status.TheVariants.{Static, Dynamic, Deep, Write, Memory}
 
 -- a request that is refused before anything is written
 pub answers_refused : (words : List (List ℕ)) (request : Asked) (files files' : FilesState) (out : SinkState) (status : Status)
@@ -73,7 +72,8 @@ reached_named : (request : Asked) (files : FilesState) (name : List ℕ)
     → IsReached request files name → IsNamed request name
 reached_named (Transform sheet inputs) files name x =
     elim x [ inl first ↦ inl first | inr second ↦ inr (input_named inputs files.held name second.1) ]
-reached_named (Query query inputs) files name x = absurd x
+reached_named (Query query inputs) files name x =
+    elim x [ inl first ↦ inl first | inr second ↦ inr (input_named inputs files.held name second.1) ]
 
 held_same : (files : FilesState) (map : List ℕ → Option (List ℕ)) (name bytes : List ℕ)
     → files.held ≡ Some map → map name ≡ Some bytes → IsMissing files.held name → ⊥
@@ -102,7 +102,7 @@ clean_refused request files files' out out' (TooLong name n) x clean =
     absurd (omega (arith, long, fits.2, x.1.0))
 clean_refused request files files' out out' (Malformed name spot) x clean =
     absurd (clean.parsed (encode_utf8_all name) spot x)
-clean_refused request files files' out out' (Static code) x clean = absurd (clean.kept x.1)
+clean_refused request files files' out out' (Static code) x clean = absurd (clean.kept code x)
 clean_refused request files files' out out' (Dynamic code) x clean = absurd (clean.succeeds code x)
 clean_refused request files files' out out' (Deep depth) x clean = absurd (clean.ends depth x)
 clean_refused request files files' out out' Memory x clean = refl

@@ -4,14 +4,14 @@ use Rattle.std.specs.Str.{encode_utf8_all}
 use Rattle.xt_io.specs.Files.{FilesState, KeepsFiles}
 use Rattle.xt_tree.specs.declared.trees.Tree.{Tree}
 use Rattle.command_words.specs.Requests.{Transform, Inputs}
-use Rattle.driver.specs.Inputs.{HoldsSheet, HoldsNoSheet, HoldsInputs, IsReadRefusedAs}
-use Rattle.driver.specs.Inputs.{IsInputRefusedAs, IsLoadedOf, IsMalformedOf}
+use Rattle.run_parts.specs.Inputs.{HoldsSheet, HoldsNoSheet, HoldsInputs, IsReadRefusedAs}
+use Rattle.run_parts.specs.Inputs.{IsInputRefusedAs, IsLoadedOf, IsMalformedOf}
 use Rattle.driver.specs.Meaning.{HoldsAll, HasText, IsRefusedAs}
-use Rattle.driver.specs.Result.{Makes, IsResultRefusedAs}
-use Rattle.driver.specs.declared.status.Status.{Status}
-use Rattle.driver.specs.declared.status.Status.TheVariants.{Load, TooLong, Malformed, Static}
-use Rattle.driver.specs.declared.status.Status.TheVariants.{Dynamic, Deep, Memory}
-use Rattle.driver.proofs.Loads.{failed_later, long_later}
+use Rattle.run_parts.specs.Result.{Makes, IsResultRefusedAs}
+use Rattle.run_parts.specs.declared.status.Status.{Status}
+use Rattle.run_parts.specs.declared.status.Status.TheVariants.{Load, TooLong, Malformed, Static}
+use Rattle.run_parts.specs.declared.status.Status.TheVariants.{Dynamic, Deep, Memory}
+use Rattle.run_parts.proofs.Loads.{failed_later, long_later}
 
 -- the stylesheet is refused
 pub refused_first : (sheet : List ℕ) (inputs : Inputs) (old new : FilesState) (status : Status)

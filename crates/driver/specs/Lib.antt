@@ -1,7 +1,3 @@
-pub mod Further
-pub mod Inputs
 pub mod Meaning
-pub mod Request
-pub mod Result
-pub mod Status
+pub mod Queries
 pub mod Theorem

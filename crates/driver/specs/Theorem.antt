@@ -1,21 +1,21 @@
 -- What a run promises: `run` of src/program.rt has a clause for each of `Answers`, `Completes`,
--- `Keeps` and `Notes`. A state with a prime is the one after the run. Request.antt says what words
--- ask for, Meaning.antt which text a request has and why it is refused, and Status.antt which line
--- is said of a status; docs/THEOREM.md leads through all of it.
+-- `Keeps` and `Notes`. A state with a prime is the one after the run. Requests.antt of
+-- command_words says what words ask for, Meaning.antt which text a request has and why it is
+-- refused, and Status.antt of run_parts which line is said of a status; docs/THEOREM.md leads
+-- through all of it.
 use Rattle.std.specs.Prelude.{◌≡◌, ◌≤◌, ℕ, List, [], length, ◌⊎◌, Option, None, Some}
 use Rattle.xt_names.specs.declared.codes.Code.{Code}
 use Rattle.xt_io.specs.Files.{FilesState, KeepsFiles, Rose}
 use Rattle.xt_io.specs.Sink.{SinkState, Puts, PutsPrefix}
 use Rattle.doc_grammar.specs.declared.spots.Spot.{Spot}
-use Rattle.command_words.specs.Requests.{Asked}
+use Rattle.command_words.specs.Requests.{Asked, request_of}
 use Rattle.command_words.specs.Words.{Words}
-use Rattle.driver.specs.Inputs.{file_limit}
-use Rattle.driver.specs.Request.{request_of}
+use Rattle.run_parts.specs.Inputs.{file_limit}
 use Rattle.driver.specs.Meaning.{Means, IsRefusedAs, IsNamed, IsBroken, IsMalformed, IsFailing}
 use Rattle.driver.specs.Meaning.{IsTooDeep}
-use Rattle.driver.specs.Status.{note_line, Tells}
-use Rattle.driver.specs.declared.status.Status.{Status}
-use Rattle.driver.specs.declared.status.Status.TheVariants.{Done, Usage, Write, Memory}
+use Rattle.run_parts.specs.Status.{note_line, Tells}
+use Rattle.run_parts.specs.declared.status.Status.{Status}
+use Rattle.run_parts.specs.declared.status.Status.TheVariants.{Done, Usage, Write, Memory}
 
 -- Each status comes only with its cause, and says what was written: the whole text where the run is
 -- done, a prefix of it where the output failed or memory ran out, and nothing at any other status.
@@ -40,7 +40,7 @@ pub record IsClean (request : Asked) (files files' : FilesState) (out out' : Sin
   pub fits : (name : List ℕ) → IsNamed request name
       → (bytes : List ℕ) × (map name ≡ Some bytes) × (length bytes ≤ file_limit)
   pub parsed : (name : List ℕ) (spot : Spot) → ¬ (IsMalformed request files name spot)
-  pub kept : ¬ (IsBroken request files)
+  pub kept : (code : Code) → ¬ (IsBroken request files code)
   pub succeeds : (code : Code) → ¬ (IsFailing request files code)
   pub ends : (depth : ℕ) → ¬ (IsTooDeep request files depth)
   pub read : ¬ (Rose files.faults files'.faults)

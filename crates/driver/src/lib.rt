@@ -1,11 +1,10 @@
 //! The top call of the program: a run of a command line over files and sinks.
 //!
 //! `run` takes the words after the program's name, a source of files, and two sinks, one for the
-//! output and one for notes. It finds out what the words ask for, which is to run a stylesheet (no
-//! query runs yet), loads and reads the files that they name, computes the text, and only then
-//! writes it; where there is no text, one line in the
-//! notes says why. The `Status` that it gives says how the run ended, and has the number of the
-//! process's status.
+//! output and one for notes. It finds out what the words ask for, which is to run a stylesheet or a
+//! query, loads and reads the files that they name, computes the text, and only then writes it;
+//! where there is no text, one line in the notes says why. The `Status` that it gives says how the
+//! run ended, and has the number of the process's status.
 //!
 //! The four clauses of `run` are the theorem of the whole program. They stand in specs/Theorem.antt
 //! on one page: `Answers` (each status comes only with its cause, and says what was written),
@@ -18,11 +17,10 @@
 //! and the status is `Status::Done`, whose number is 0.
 #![tactic(auto)]
 
-mod inputs;
-mod load;
+mod evaluate;
 mod program;
-mod status;
+mod query;
 mod transform;
 
 pub use program::run;
-pub use status::{ProfileRule, Status};
+pub use run_parts::{ProfileRule, Status};

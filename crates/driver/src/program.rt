@@ -1,18 +1,18 @@
 // The run of a command line.
-ghost use Rattle.std.specs.Prelude.{◌≡◌, map, option_map, IfOk, OnErr, OnOk};
+ghost use Rattle.std.specs.Prelude.{◌≡◌, map, true, IfOk, IfErr};
 ghost use Rattle.std.specs.String.{string_bytes};
 ghost use Rattle.xt_io.specs.Files.{KeepsFiles};
-ghost use Rattle.xt_io.specs.Sink.{PutsPrefix};
-ghost use Rattle.command_words.specs.Requests.{Transform, inputs_in};
-ghost use Rattle.driver.specs.Request.{request_of};
-ghost use Rattle.driver.specs.Status.{note_line, Tells, Writes};
+ghost use Rattle.command_words.specs.Requests.{asked, inputs_asked};
+ghost use Rattle.command_words.specs.Texts.{are_different};
+ghost use Rattle.driver.specs.Meaning.{HasText, IsRefusedAs};
 ghost use Rattle.driver.specs.Theorem.{Answers, Completes, Keeps, Notes};
 
-use crate::status::Status;
+use crate::query::query as run_query;
 use crate::transform::transform;
-use command_words::{Inputs, Request, read_request};
+use command_words::{Request, read_request};
+use run_parts::{Status, tell, write};
 use std::alloc::{AllocError, Global};
-use xt_io::{Files, Sink, SinkFault, put_all};
+use xt_io::{Files, Sink};
 
 /// Runs the words after the program's name: writes the text that they ask for to `out`, in one
 /// piece, and says why where it does not, in one line to `notes`. Nothing is written before all
@@ -46,54 +46,36 @@ pub fn run<F: Files, S: Sink, N: Sink>(
 }
 
 // All but the note.
-#[tactic(auto, using(crate::proofs::Loads::keeps_none))]
+#[tactic(auto, using(run_parts::proofs::Loads::keeps_none))]
 fn perform<F: Files, S: Sink>(alloc: Global, words: &[String], files: &mut F, out: &mut S) -> Status
     ensures answers { Answers (map string_bytes words.now) (F.state files.old) (F.state files.new)
         (S.state out.old) (S.state out.new) result }
     ensures keeps { KeepsFiles (F.state files.old) (F.state files.new) }
 {
-    let request = match read_words(alloc, words) {
+    let request = match read_request(alloc, words) {
         Ok(request) => request,
         Err(_) => return Status::Memory,
     };
-    let Some((sheet, inputs)) = request else {
+    let Some(request) = request else {
         return Status::Usage;
     };
-    match transform(alloc, sheet, &inputs, files) {
+    match text_of(alloc, &request, files) {
         Ok(text) => write(&text, out),
         Err(status) => status,
     }
 }
 
-// The stylesheet that the words ask to run, and on what.
-fn read_words(alloc: Global, words: &[String]) -> Result<Option<(&str, Inputs<'_>)>, AllocError>
-    ensures { IfOk result (λ run. option_map (λ r. Transform r.0.now (inputs_in r.1)) run
-        ≡ request_of (map string_bytes words.now)) }
+// The text that is written for a request.
+fn text_of<F: Files>(alloc: Global, request: &Request<'_>, files: &mut F) -> Result<Vec<u8>, Status>
+    requires { are_different (inputs_asked (asked request.now)).documents ≡ true }
+    ensures text { IfOk result
+        (λ text. HasText (asked request.now) (F.state files.old) text.items) }
+    ensures refused { IfErr result
+        (IsRefusedAs (asked request.now) (F.state files.old) (F.state files.new)) }
+    ensures keeps { KeepsFiles (F.state files.old) (F.state files.new) }
 {
-    match read_request(alloc, words)? {
-        Some(Request::Transform { sheet, inputs }) => Ok(Some((sheet, inputs))),
-        Some(Request::Query { .. }) | None => Ok(None),
-    }
-}
-
-fn write<S: Sink>(text: &[u8], out: &mut S) -> Status
-    ensures { Writes (S.state out.old) (S.state out.new) text.now result }
-{
-    match put_all(out, text) {
-        Ok(()) => Status::Done,
-        Err(SinkFault::Failed) => Status::Write,
-        Err(SinkFault::Memory(_)) => Status::Memory,
-    }
-}
-
-// Says the line of a status. A fault of the notes changes nothing.
-fn tell<N: Sink>(alloc: Global, status: &Status, notes: &mut N) -> Result<(), AllocError>
-    ensures told { OnOk result (Tells (N.state notes.old) (N.state notes.new) status.now) }
-    ensures memory { OnErr result (PutsPrefix (N.state notes.old) (N.state notes.new) (note_line status.now)) }
-{
-    let line = status.line(alloc)?;
-    match put_all(notes, line.as_bytes()) {
-        Ok(()) | Err(SinkFault::Failed) => Ok(()),
-        Err(SinkFault::Memory(e)) => Err(e),
+    match request {
+        Request::Transform { sheet, inputs } => transform(alloc, sheet, inputs, files),
+        Request::Query { query, inputs } => run_query(alloc, query, inputs, files),
     }
 }

@@ -28,7 +28,7 @@ struct Case {
     notes: &'static [u8],
 }
 
-const CASES: [Case; 11] = [
+const CASES: [Case; 14] = [
     Case {
         words: TRANSFORM,
         sheet: ONE_ELEMENT,
@@ -117,6 +117,30 @@ const CASES: [Case; 11] = [
         out: b"",
         notes: b"usage\n",
     },
+    Case {
+        words: &["transform", "--depth=2", "s.xsl", "d.xml", "n=1", "m=2"],
+        sheet: TWO_RULES,
+        document: Some(b"<a/>"),
+        number: 0,
+        out: b"<?xml version=\"1.0\" encoding=\"UTF-8\"?>2",
+        notes: b"",
+    },
+    Case {
+        words: &["transform", "s.xsl", "d.xml", "--doc", "s.xsl"],
+        sheet: ONE_ELEMENT,
+        document: Some(b"<a/>"),
+        number: 0,
+        out: b"<?xml version=\"1.0\" encoding=\"UTF-8\"?><r/>",
+        notes: b"",
+    },
+    Case {
+        words: &["transform", "s.xsl", "d.xml", "n=1", "n=2"],
+        sheet: ONE_ELEMENT,
+        document: Some(b"<a/>"),
+        number: 1,
+        out: b"",
+        notes: b"usage\n",
+    },
 ];
 
 // Documents that are none, for the stylesheet of one element, and the line that says so.
@@ -160,6 +184,47 @@ fn malformed_documents(rt: HostRuntime) {
         let number = status_of(&rt, TRANSFORM, &mut files, &mut out, &mut notes);
         assert_eq!(rt; number, 4);
         assert!(rt; out.bytes().is_empty());
+        assert_eq!(rt; notes.bytes(), line);
+        drop(files);
+        drop(out);
+        drop(notes);
+    }
+}
+
+// What stands as e.xml and as f.xml, where something does; the document; and the line that is said
+// of `--doc e.xml --doc=f.xml`. All are loaded before one is read, and the document comes first.
+const FURTHER: [(Option<&[u8]>, Option<&[u8]>, &[u8], &[u8]); 8] = [
+    (Some(b"<e/>"), Some(b"<f/>"), b"<a/>", b""),
+    (None, Some(b"<f/>"), b"<a/>", b"load e.xml\n"),
+    (Some(b"<e/>"), None, b"<a/>", b"load f.xml\n"),
+    (None, None, b"<a/>", b"load e.xml\n"),
+    (Some(b"<e>"), Some(b"<f>"), b"<a/>", b"malformed e.xml 3\n"),
+    (Some(b"<e/>"), Some(b""), b"<a/>", b"malformed f.xml 0\n"),
+    (Some(b"<e>"), None, b"<a/>", b"load f.xml\n"),
+    (None, None, b"<a>", b"malformed d.xml 3\n"),
+];
+
+#[test]
+fn further_documents(rt: HostRuntime) {
+    let words: &[&str] = &[
+        "transform",
+        "s.xsl",
+        "d.xml",
+        "--doc",
+        "e.xml",
+        "--doc=f.xml",
+    ];
+    for (first, second, document, line) in FURTHER {
+        let mut files = files_of(&rt, ONE_ELEMENT, Some(document));
+        if let Some(bytes) = first {
+            files.add("e.xml", bytes).expect(&rt, "memory");
+        }
+        if let Some(bytes) = second {
+            files.add("f.xml", bytes).expect(&rt, "memory");
+        }
+        let mut out = MemSink::new(rt.alloc());
+        let mut notes = MemSink::new(rt.alloc());
+        status_of(&rt, words, &mut files, &mut out, &mut notes);
         assert_eq!(rt; notes.bytes(), line);
         drop(files);
         drop(out);

@@ -33,7 +33,7 @@ const DOCUMENT_WITH_NAMES: &[u8] =
     b"<!DOCTYPE a PUBLIC \"p\" \"e.dtd\"><?xml-stylesheet href=\"t.xsl\"?>\
     <a href=\"d2.xml\" xmlns=\"ns.xml\"/>";
 
-// Words, a stylesheet, a document, the number of the status, and the names that are asked for.
+// Words, a stylesheet or a query, a document, the number of the status, and the names that are asked for.
 type Case = (
     &'static [&'static str],
     &'static [u8],
@@ -42,7 +42,7 @@ type Case = (
     &'static str,
 );
 
-const CASES: [Case; 7] = [
+const CASES: [Case; 16] = [
     (TRANSFORM, SHEET, Some(b"<a/>"), 0, "s.xsl;d.xml;"),
     (
         TRANSFORM,
@@ -62,6 +62,70 @@ const CASES: [Case; 7] = [
     (TRANSFORM, b"<a>", Some(b"<a/>"), 4, "s.xsl;"),
     (TRANSFORM, b"<a/>", Some(b"<a/>"), 5, "s.xsl;"),
     (&["transform", "s.xsl"], SHEET, Some(b"<a/>"), 1, ""),
+    (&["query", "s.xsl"], SHEET, Some(b"<a/>"), 1, ""),
+    (
+        &["query", "s.xsl", "d.xml"],
+        SHEET,
+        Some(b"<a/>"),
+        5,
+        "s.xsl;",
+    ),
+    (
+        &["query", "s.xsl", "d.xml"],
+        b"doc('e.xml'), /a/@href",
+        Some(b"<a>"),
+        4,
+        "s.xsl;d.xml;",
+    ),
+    (
+        &["query", "s.xsl", "d.xml", "--doc", "d.xml"],
+        b"string(doc('d.xml')/a/@href)",
+        Some(b"<a href=\"e.xml\"/>"),
+        0,
+        "s.xsl;d.xml;d.xml;",
+    ),
+    (
+        &["query", "--doc=e.xml", "s.xsl", "d.xml"],
+        b"error()",
+        Some(b"<a/>"),
+        2,
+        "s.xsl;d.xml;e.xml;",
+    ),
+    (
+        &["query", "s.xsl", "d.xml"],
+        b"doc('e.xml')",
+        Some(b"<a/>"),
+        7,
+        "s.xsl;d.xml;",
+    ),
+    (
+        &[
+            "transform",
+            "s.xsl",
+            "d.xml",
+            "--doc",
+            "d.xml",
+            "--doc=s.xsl",
+        ],
+        SHEET,
+        Some(b"<a/>"),
+        0,
+        "s.xsl;d.xml;d.xml;s.xsl;",
+    ),
+    (
+        &["transform", "--doc=e.xml", "s.xsl", "d.xml"],
+        SHEET,
+        Some(b"<a/>"),
+        2,
+        "s.xsl;d.xml;e.xml;",
+    ),
+    (
+        &["transform", "--doc=e.xml", "s.xsl", "d.xml"],
+        SHEET,
+        Some(b"<a>"),
+        4,
+        "s.xsl;d.xml;",
+    ),
 ];
 
 #[test]

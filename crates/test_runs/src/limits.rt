@@ -7,6 +7,7 @@ use xt_io::MemSink;
 // Whether a run ends with this number and this note, and writes something only at number 0.
 fn ends_with(
     rt: &(impl Abort + AllocGlobal),
+    words: &[&str],
     sheet: &str,
     document: &[u8],
     number: u8,
@@ -15,7 +16,7 @@ fn ends_with(
     let mut files = files_of(rt, sheet.as_bytes(), Some(document));
     let mut out = MemSink::new(rt.alloc());
     let mut notes = MemSink::new(rt.alloc());
-    let is_number = status_of(rt, TRANSFORM, &mut files, &mut out, &mut notes) == number;
+    let is_number = status_of(rt, words, &mut files, &mut out, &mut notes) == number;
     let is_out = out.bytes().is_empty() == (number != 0);
     let is_line = notes.bytes() == line.as_bytes();
     drop(files);
@@ -28,7 +29,16 @@ fn ends_with(
 fn bytes_of_a_file(rt: HostRuntime) {
     let sheet = sheet(&rt, "");
     let document = vec![in rt.alloc(); b' '; 67_108_865].expect(&rt, "memory");
-    assert!(rt; ends_with(&rt, sheet.as_str(), &document, 3, "long d.xml 67108865\n"));
+    assert!(rt;
+        ends_with(
+            &rt,
+            TRANSFORM,
+            sheet.as_str(),
+            &document,
+            3,
+            "long d.xml 67108865\n"
+        )
+    );
     drop(sheet);
     drop(document);
 }
@@ -53,7 +63,14 @@ fn elements_within_each_other(rt: HostRuntime) {
         let sheet = sheet(&rt, parts);
         let document = nested(&rt, "a", count, "");
         assert!(rt;
-            ends_with(&rt, sheet.as_str(), document.as_bytes(), number, line),
+            ends_with(
+                &rt,
+                TRANSFORM,
+                sheet.as_str(),
+                document.as_bytes(),
+                number,
+                line
+            ),
             "{count}"
         );
         drop(sheet);
@@ -70,10 +87,80 @@ fn levels_of_a_result(rt: HostRuntime) {
     for (count, number, line) in LEVELS {
         let document = nested(&rt, "a", count, "");
         assert!(rt;
-            ends_with(&rt, sheet.as_str(), document.as_bytes(), number, line),
+            ends_with(
+                &rt,
+                TRANSFORM,
+                sheet.as_str(),
+                document.as_bytes(),
+                number,
+                line
+            ),
             "{count}"
         );
         drop(document);
     }
+    drop(sheet);
+}
+
+// The same with other depths: of so many elements under the built-in rules, and of as many in which
+// each has a template of 40 levels.
+const DEPTHS: [(&[&str], usize, u8, &str); 6] = [
+    (
+        &["transform", "s.xsl", "d.xml", "--depth=1"],
+        1,
+        8,
+        "deep 1\n",
+    ),
+    (&["transform", "s.xsl", "d.xml", "--depth=2"], 1, 0, ""),
+    (
+        &["transform", "s.xsl", "d.xml", "--depth", "99"],
+        99,
+        8,
+        "deep 99\n",
+    ),
+    (
+        &["transform", "--depth", "101", "s.xsl", "d.xml"],
+        100,
+        0,
+        "",
+    ),
+    (&["transform", "s.xsl", "d.xml", "--depth=300"], 299, 0, ""),
+    (
+        &["transform", "s.xsl", "d.xml", "--depth=300"],
+        300,
+        8,
+        "deep 300\n",
+    ),
+];
+
+#[test]
+fn depths_of_the_words(rt: HostRuntime) {
+    let sheet = sheet(&rt, "");
+    for (words, count, number, line) in DEPTHS {
+        let document = nested(&rt, "a", count, "");
+        assert!(rt;
+            ends_with(
+                &rt,
+                words,
+                sheet.as_str(),
+                document.as_bytes(),
+                number,
+                line
+            ),
+            "{count}"
+        );
+        drop(document);
+    }
+    drop(sheet);
+}
+
+#[test]
+fn the_greatest_depth_of_the_widest_templates(rt: HostRuntime) {
+    let words: &[&str] = &["transform", "s.xsl", "d.xml", "--depth=300"];
+    let sheet = widening_sheet(&rt);
+    let document = nested(&rt, "a", 299, "");
+    let bytes = document.as_bytes();
+    assert!(rt; ends_with(&rt, words, sheet.as_str(), bytes, 7, "dynamic XTLM0002\n"));
+    drop(document);
     drop(sheet);
 }

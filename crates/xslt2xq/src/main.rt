@@ -1,12 +1,12 @@
-//! Runs XSLT 2.0 stylesheets.
+//! Runs XQuery 1.0 queries and XSLT 2.0 stylesheets.
 //!
-//! `xslt2xq transform SHEET DOC` writes what the stylesheet in the file SHEET makes of the document
-//! in the file DOC, as XML in UTF-8, to standard output; `command_words` says which options and
-//! parameters may stand beside them. It refuses all other words, files that cannot be read or have
-//! more than 64 MiB, stylesheets and documents that it cannot read, and stylesheets that run into
-//! an error. Then one line on standard error says why, and the status of the process is the number
-//! of `driver::Status`. What a run does is `driver::run`; here it is given the words, the files and
-//! the streams of the system.
+//! `xslt2xq query QUERY DOC` writes what the query in the file QUERY gives on the document in the file
+//! DOC, and `xslt2xq transform SHEET DOC` what the stylesheet in the file SHEET makes of it, as XML in
+//! UTF-8, to standard output; `command_words` says which options and parameters may stand beside them.
+//! It refuses all other words, files that cannot be read or have more than 64 MiB, queries,
+//! stylesheets and documents that it cannot read, and those that run into an error. Then one line on
+//! standard error says why, and the status of the process is the number of `driver::Status`. What a
+//! run does is `driver::run`; here it is given the words, the files and the streams of the system.
 //!
 //! Example: with `<xsl:stylesheet version="2.0" xmlns:xsl="http://www.w3.org/1999/XSL/Transform"/>`
 //! in s.xsl and `<a>x</a>` in d.xml, `xslt2xq transform s.xsl d.xml` writes `<?xml version="1.0"

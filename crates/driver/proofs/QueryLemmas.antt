@@ -1,0 +1,160 @@
+-- How the refusals of the parts make the refusals of a request for a query's run.
+use Rattle.std.proofs.Common.{◌≡◌, ℕ, ◌+◌, List, [], ◌∷◌, length, map, inl, inr, refl, sym, ap, ◌∙◌, Bool}
+use Rattle.std.proofs.Common.{None, Some, subst, chars}
+use Rattle.std.specs.Str.{encode_utf8_all, IsUtf8}
+use Rattle.xt_io.specs.Files.{FilesState, KeepsFiles}
+use Rattle.xt_tree.specs.declared.trees.Tree.{Tree}
+use Rattle.xdm_items.specs.declared.items.Item.{Item}
+use Rattle.xt_syntax.specs.declared.queries.Query.{Query as Parsed}
+use Rattle.xquery_syntax.specs.Spelled.{SpellsWithin}
+use Rattle.outcomes.specs.Outcome.{Outcome, Ends, Fails}
+use Rattle.outcomes.specs.Outcome as outcome
+use Rattle.expr_meaning.specs.Queries.{Given, query_outcome}
+use Rattle.xdm_items.specs.declared.items.Item.TheVariants.{Node as a_node}
+use Rattle.doc_set.specs.Sets.{DocumentSet}
+use Rattle.xquery_eval.specs.Runs.{given_of as given_texts}
+use Rattle.xquery_eval.specs.declared.params.Param.{Param}
+use Rattle.command_words.specs.Requests.{Query, Inputs, given_of, inputs_in}
+use Rattle.command_words.specs.declared.parameters.Parameter.{Parameter}
+use Rattle.command_words.specs.declared.requests.Inputs.{Inputs as InputsOfCode}
+use Rattle.run_parts.specs.Inputs.{Holdings, HoldsBytes, HoldsInputs, IsInputRefusedAs, IsUnloadedAs}
+use Rattle.driver.specs.Meaning.{HoldsAllOfQuery, HasText, IsRefusedAs}
+use Rattle.driver.specs.Queries.{IsQuery, IsNoQueryAs, HoldsQuery, IsQueryRefusedAs, Gives}
+use Rattle.driver.specs.Queries.{IsNotGivenAs, IsRunRefusedAs, IsUnwrittenAs, items_of, outcome_on}
+use Rattle.driver.specs.Queries.{param_of, set_of, written_for}
+use Rattle.white_space.specs.Stripped.{stripped}
+use Rattle.run_parts.specs.declared.status.Status.{Status}
+use Rattle.run_parts.specs.declared.status.Status.TheVariants.{Load, TooLong, Malformed, Static}
+use Rattle.run_parts.specs.declared.status.Status.TheVariants.{Dynamic, Deep, Memory}
+use Rattle.run_parts.proofs.Loads.{failed_later, long_later}
+
+-- the file of the query is not loaded
+pub query_unloaded : (file : List ℕ) (old new : FilesState) (status : Status)
+    → IsUnloadedAs file old new status → IsQueryRefusedAs file old new status
+query_unloaded file old new (Load name) x = x
+query_unloaded file old new (TooLong name n) x = x
+query_unloaded file old new Memory x = x
+query_unloaded file old new _ x = absurd x
+
+-- the bytes of the file are no query
+pub query_unread : (file : List ℕ) (old new : FilesState) (items bytes : List ℕ) (status : Status)
+    → bytes ≡ items → HoldsBytes old.held file items → IsNoQueryAs bytes status
+    → IsQueryRefusedAs file old new status
+query_unread file old new items bytes (Static code) same held x =
+    record { bytes = bytes; held = rw same held; none = x }
+query_unread file old new items bytes Memory same held x = x
+query_unread file old new items bytes _ same held x = absurd x
+
+pub query_held : (files : Holdings) (file items bytes : List ℕ) (query : Parsed)
+    → bytes ≡ items → HoldsBytes files file items → IsQuery bytes query
+    → HoldsQuery files file query
+query_held files file items bytes query same held x =
+    record { bytes = bytes; held = rw same held; stands = x }
+
+-- the query is refused
+pub refused_first : (query : List ℕ) (inputs : Inputs) (old new : FilesState) (status : Status)
+    → IsQueryRefusedAs query old new status → IsRefusedAs (Query query inputs) old new status
+refused_first query inputs old new (Load name) x = (inl x.0, rw x.0 x.1)
+refused_first query inputs old new (TooLong name n) x = (inl x.0, rw x.0 x.1)
+refused_first query inputs old new (Static code) x = x
+refused_first query inputs old new Memory x = x
+refused_first query inputs old new _ x = absurd x
+
+-- the inputs are refused, after a query
+pub refused_second : (query : List ℕ) (inputs : Inputs) (parsed : Parsed) (old mid new : FilesState) (status : Status)
+    → HoldsQuery old.held query parsed → KeepsFiles old mid
+    → IsInputRefusedAs inputs mid new status
+    → IsRefusedAs (Query query inputs) old new status
+refused_second query inputs parsed old mid new (Load name) held keeps x = (
+  inr (record { query = parsed; held = held }, rw keeps.held at x.0),
+  failed_later old mid new (encode_utf8_all name) keeps x.1,
+)
+refused_second query inputs parsed old mid new (TooLong name n) held keeps x = (
+  inr (record { query = parsed; held = held }, rw keeps.held at x.0),
+  long_later old mid new (encode_utf8_all name) n keeps x.1,
+)
+refused_second query inputs parsed old mid new (Malformed name spot) held keeps x =
+    (record { query = parsed; held = held }, rw keeps.held at x)
+refused_second query inputs parsed old mid new Memory held keeps x = x
+refused_second query inputs parsed old mid new _ held keeps x = absurd x
+
+-- all are held
+abbrev pub all_held : (query : List ℕ) (inputs : Inputs) (q : Parsed) (d : Tree) (ds : List Tree) (old mid : FilesState)
+    → HoldsQuery old.held query q → KeepsFiles old mid → HoldsInputs mid.held inputs d ds
+    → HoldsAllOfQuery old.held query inputs
+all_held query inputs q d ds old mid held keeps x = record {
+  parsed = q;
+  document_tree = d;
+  further_trees = ds;
+  query_held = held;
+  inputs_held = rw keeps.held at x;
+}
+
+-- there is no text, after all
+pub refused_third : (query : List ℕ) (inputs : Inputs) (q : Parsed) (d : Tree) (ds : List Tree) (old mid new : FilesState) (status : Status)
+    → HoldsQuery old.held query q → KeepsFiles old mid → HoldsInputs mid.held inputs d ds
+    → IsNotGivenAs q inputs d ds status
+    → IsRefusedAs (Query query inputs) old new status
+refused_third query inputs q d ds old mid new (Dynamic code) held keeps docs x =
+    (all_held query inputs q d ds old mid held keeps docs, x)
+refused_third query inputs q d ds old mid new (Deep depth) held keeps docs x =
+    (all_held query inputs q d ds old mid held keeps docs, x.0, x.1)
+refused_third query inputs q d ds old mid new Memory held keeps docs x = x
+refused_third query inputs q d ds old mid new _ held keeps docs x = absurd x
+
+-- the text is that of the request
+pub text_given : (query : List ℕ) (inputs : Inputs) (text : List ℕ) (q : Parsed) (d : Tree) (ds : List Tree) (old mid : FilesState)
+    → HoldsQuery old.held query q → KeepsFiles old mid → HoldsInputs mid.held inputs d ds
+    → Gives q inputs d ds text
+    → HasText (Query query inputs) old text
+text_given query inputs text q d ds old mid held keeps docs x = record {
+  held = all_held query inputs q d ds old mid held keeps docs;
+  gives = x;
+}
+
+-- the parameters are given as they are
+names_kept : (ps : List Parameter) → given_texts (map param_of ps) ≡ map given_of ps
+names_kept [] = refl
+names_kept (p ∷ ps) = ap (λ gs. (p.name, p.value) ∷ gs) (names_kept ps)
+
+-- what the evaluator is asked for
+pub run_on : (query : Parsed) (document : Tree) (set : DocumentSet) (i : InputsOfCode) (given : List Param)
+    → given ≡ map param_of i.parameters
+    → query_outcome (record { query = query; documents = set; given = given_texts given }) (a_node (record { number = 0; tree = document; path = []; attribute = None })) i.depth (length set + 1) ≡ outcome_on query document set (inputs_in i)
+unfolding outcome_on
+run_on query document set i given e =
+    ap (λ (g : List Given). query_outcome (record { query = query; documents = set; given = g }) (a_node (record { number = 0; tree = document; path = []; attribute = None })) i.depth (length set + 1))
+    (ap given_texts e ∙ names_kept i.parameters)
+
+-- what is asked for is the run on the stripped documents
+pub same_run : (q : Parsed) (inputs : Inputs) (d : Tree) (ds : List Tree) (document : Tree) (set : DocumentSet)
+    → document ≡ stripped q.space d → set ≡ set_of q.space inputs.documents ds
+    → outcome_on q document set inputs ≡ items_of q inputs d ds
+same_run q inputs d ds document set e f =
+    ap (λ (t : Tree). outcome_on q t set inputs) e
+    ∙ ap (λ (s : DocumentSet). outcome_on q (stripped q.space d) s inputs) f
+
+-- the run gives no items
+pub run_refused : (q : Parsed) (inputs : Inputs) (d : Tree) (ds : List Tree) (o : Outcome (List Item)) (status : Status)
+    → o ≡ items_of q inputs d ds → IsRunRefusedAs o inputs.depth status
+    → IsNotGivenAs q inputs d ds status
+run_refused q inputs d ds o (Dynamic code) same x = inl (sym same ∙ x)
+run_refused q inputs d ds o (Deep depth) same x = (x.0, sym same ∙ x.1)
+run_refused q inputs d ds o Memory same x = x
+run_refused q inputs d ds o _ same x = absurd x
+
+-- the items have no text
+pub items_unwritten : (q : Parsed) (inputs : Inputs) (d : Tree) (ds : List Tree) (o : Outcome (List Item)) (items : List Item) (next : ℕ) (status : Status)
+    → o ≡ items_of q inputs d ds → o ≡ Ends items next
+    → IsUnwrittenAs (written_for q.omit items) status → IsNotGivenAs q inputs d ds status
+items_unwritten q inputs d ds o items next (Dynamic code) same ends x =
+    inr (x.0, record { items = items; next = next; ends = sym same ∙ ends; unwritten = x.1 })
+items_unwritten q inputs d ds o items next Memory same ends x = x
+items_unwritten q inputs d ds o items next _ same ends x = absurd x
+
+-- the text of the items
+pub items_written : (q : Parsed) (inputs : Inputs) (d : Tree) (ds : List Tree) (o : Outcome (List Item)) (items : List Item) (next : ℕ) (text : List ℕ)
+    → o ≡ items_of q inputs d ds → o ≡ Ends items next → written_for q.omit items ≡ Some text
+    → Gives q inputs d ds text
+items_written q inputs d ds o items next text same ends written =
+    record { items = items; next = next; ends = sym same ∙ ends; written = written }

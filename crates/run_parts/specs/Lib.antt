@@ -1,0 +1,4 @@
+pub mod Further
+pub mod Inputs
+pub mod Result
+pub mod Status
