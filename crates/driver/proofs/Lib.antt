@@ -1,4 +1,2 @@
-pub mod QueryLemmas
 pub mod Runs
-pub mod SetLemmas
 pub mod Transforms

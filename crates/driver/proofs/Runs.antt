@@ -7,12 +7,26 @@ use Rattle.xt_io.specs.Sink.{SinkState, Puts}
 use Rattle.xt_io.proofs.SinkLemmas.{Puts-none, Puts-whole}
 use Rattle.command_words.specs.Requests.{Asked, Transform, Query, Inputs, request_of}
 use Rattle.run_parts.specs.Inputs.{IsInput, IsLoadedOf, Holdings}
+use Rattle.query_runs.specs.Texts.{IsNoQueryTextAs}
 use Rattle.driver.specs.Meaning.{HasText, IsRefusedAs, IsReached, IsNamed}
 use Rattle.run_parts.specs.Status.{Tells, Writes}
 use Rattle.driver.specs.Theorem.{Answers, Completes, IsClean, Notes}
 use Rattle.run_parts.specs.declared.status.Status.{Status}
 use Rattle.run_parts.specs.declared.status.Status.TheVariants.{Done, Usage, Load, TooLong, Malformed}
 use Rattle.run_parts.specs.declared.status.Status.TheVariants.{Static, Dynamic, Deep, Write, Memory}
+
+-- there is no text of a query, as the request for it is refused
+pub query_refused : (query : List ℕ) (inputs : Inputs) (old new : FilesState) (status : Status)
+    → IsNoQueryTextAs query inputs old new status
+    → IsRefusedAs (Query query inputs) old new status
+query_refused query inputs old new (Load name) x = x
+query_refused query inputs old new (TooLong name n) x = x
+query_refused query inputs old new (Malformed name spot) x = x
+query_refused query inputs old new (Static code) x = x
+query_refused query inputs old new (Dynamic code) x = x
+query_refused query inputs old new (Deep depth) x = x
+query_refused query inputs old new Memory x = x
+query_refused query inputs old new _ x = absurd x
 
 -- a request that is refused before anything is written
 pub answers_refused : (words : List (List ℕ)) (request : Asked) (files files' : FilesState) (out : SinkState) (status : Status)

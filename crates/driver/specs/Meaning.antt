@@ -8,15 +8,14 @@ use Rattle.xt_names.specs.declared.codes.Code.TheVariants as code_variants
 use Rattle.xt_names.specs.declared.codes.SheetStaticCode.TheVariants.{XTUN0001}
 use Rattle.doc_grammar.specs.declared.spots.Spot.{Spot}
 use Rattle.sheet_meaning.specs.Outcome as outcome
-use Rattle.outcomes.specs.Outcome as query_outcome
-use Rattle.xt_syntax.specs.declared.queries.Query.{Query as Parsed}
 use Rattle.command_words.specs.Requests.{Asked, Transform, Query, Inputs, request_of}
 use Rattle.command_words.specs.Words.{Words}
 use Rattle.run_parts.specs.Inputs.{Holdings, HoldsNoDocument, HoldsSheet, HoldsNoSheet}
 use Rattle.run_parts.specs.Inputs.{HoldsInputs, IsInput}
 use Rattle.run_parts.specs.Inputs.{IsLoadFailure, IsTooLong, IsLoadedOf, IsMalformedOf}
-use Rattle.driver.specs.Queries.{HoldsQuery, HoldsSomeQuery, HoldsNoQuery, Gives, IsFailingOn}
-use Rattle.driver.specs.Queries.{items_of}
+use Rattle.query_runs.specs.Queries.{HoldsNoQuery}
+use Rattle.query_runs.specs.Texts.{HasQueryText, IsQueryReached, IsQueryMalformed, IsQueryFailing}
+use Rattle.query_runs.specs.Texts.{IsQueryTooDeep}
 use Rattle.run_parts.specs.Result.{Makes, outcome_of}
 use Rattle.run_parts.specs.declared.status.Status.{Status}
 use Rattle.run_parts.specs.declared.status.Status.TheVariants.{Load, TooLong, Malformed, Static}
@@ -30,14 +29,6 @@ pub record HoldsAll (files : Holdings) (sheet : List ℕ) (inputs : Inputs) : Ty
   pub sheet_held : HoldsSheet files sheet sheet_tree
   pub inputs_held : HoldsInputs files inputs document_tree further_trees
 
--- a query and what it runs on, as the files hold them
-pub record HoldsAllOfQuery (files : Holdings) (query : List ℕ) (inputs : Inputs) : Type 0 where
-  pub parsed : Parsed
-  pub document_tree : Tree
-  pub further_trees : List Tree
-  pub query_held : HoldsQuery files query parsed
-  pub inputs_held : HoldsInputs files inputs document_tree further_trees
-
 -- some stylesheet, as the files hold it
 pub record HoldsSomeSheet (files : Holdings) (sheet : List ℕ) : Type 0 where
   pub tree : Tree
@@ -49,16 +40,10 @@ pub record Transforms (files : Holdings) (sheet : List ℕ) (inputs : Inputs) (t
   pub held : HoldsAll files sheet inputs
   pub makes : Makes inputs.depth held.sheet_tree held.document_tree text
 
--- the text is what the query gives on the documents, as the files hold them
-pub record Queries (files : Holdings) (query : List ℕ) (inputs : Inputs) (text : List ℕ)
-    : Type 0 where
-  pub held : HoldsAllOfQuery files query inputs
-  pub gives : Gives held.parsed inputs held.document_tree held.further_trees text
-
 -- the text that is written for a request
 abbrev pub HasText : Asked → FilesState → List ℕ → Type 0
 HasText (Transform sheet inputs) files text = Transforms files.held sheet inputs text
-HasText (Query query inputs) files text = Queries files.held query inputs text
+HasText (Query query inputs) files text = HasQueryText files.held query inputs text
 
 -- the words ask for something, and this is its text
 abbrev pub Means : Words → FilesState → List ℕ → Type 0
@@ -74,8 +59,7 @@ IsNamed (Query query inputs) name = (name ≡ query) ⊎ IsInput inputs name
 abbrev pub IsReached : Asked → FilesState → List ℕ → Type 0
 IsReached (Transform sheet inputs) files name =
     (name ≡ sheet) ⊎ (HoldsSomeSheet files.held sheet × IsLoadedOf inputs files.held name)
-IsReached (Query query inputs) files name =
-    (name ≡ query) ⊎ (HoldsSomeQuery files.held query × IsLoadedOf inputs files.held name)
+IsReached (Query query inputs) files name = IsQueryReached query inputs files.held name
 
 -- a static rule is broken, whose code this is: the stylesheet's tree is none of a stylesheet, or
 -- the query's text spells none or breaks a rule
@@ -90,25 +74,21 @@ IsMalformed (Transform sheet inputs) files name spot =
     ((name ≡ sheet) × HoldsNoDocument files.held name spot)
     ⊎ (HoldsSomeSheet files.held sheet × IsMalformedOf inputs files.held name spot)
 IsMalformed (Query query inputs) files name spot =
-    HoldsSomeQuery files.held query × IsMalformedOf inputs files.held name spot
+    IsQueryMalformed query inputs files.held name spot
 
 -- the run fails with the code
 abbrev pub IsFailing : Asked → FilesState → Code → Type 0
 IsFailing (Transform sheet inputs) files code =
     (all : HoldsAll files.held sheet inputs)
     × (outcome_of inputs.depth all.sheet_tree all.document_tree ≡ outcome.Fails code)
-IsFailing (Query query inputs) files code =
-    (all : HoldsAllOfQuery files.held query inputs)
-    × IsFailingOn all.parsed inputs all.document_tree all.further_trees code
+IsFailing (Query query inputs) files code = IsQueryFailing query inputs files.held code
 
 -- the run would pass the depth
 abbrev pub IsTooDeep : Asked → FilesState → ℕ → Type 0
 IsTooDeep (Transform sheet inputs) files depth =
     (all : HoldsAll files.held sheet inputs) × (depth ≡ inputs.depth)
     × (outcome_of inputs.depth all.sheet_tree all.document_tree ≡ outcome.Deep)
-IsTooDeep (Query query inputs) files depth =
-    (all : HoldsAllOfQuery files.held query inputs) × (depth ≡ inputs.depth)
-    × (items_of all.parsed inputs all.document_tree all.further_trees ≡ query_outcome.Deep)
+IsTooDeep (Query query inputs) files depth = IsQueryTooDeep query inputs files.held depth
 
 -- why a request is refused so, before anything is written
 abbrev pub IsRefusedAs : Asked → FilesState → FilesState → Status → Type 0

@@ -17,9 +17,7 @@
 //! and the status is `Status::Done`, whose number is 0.
 #![tactic(auto)]
 
-mod evaluate;
 mod program;
-mod query;
 mod transform;
 
 pub use program::run;

@@ -7,9 +7,9 @@ ghost use Rattle.command_words.specs.Texts.{are_different};
 ghost use Rattle.driver.specs.Meaning.{HasText, IsRefusedAs};
 ghost use Rattle.driver.specs.Theorem.{Answers, Completes, Keeps, Notes};
 
-use crate::query::query as run_query;
 use crate::transform::transform;
 use command_words::{Request, read_request};
+use query_runs::query_text;
 use run_parts::{Status, tell, write};
 use std::alloc::{AllocError, Global};
 use xt_io::{Files, Sink};
@@ -76,6 +76,6 @@ fn text_of<F: Files>(alloc: Global, request: &Request<'_>, files: &mut F) -> Res
 {
     match request {
         Request::Transform { sheet, inputs } => transform(alloc, sheet, inputs, files),
-        Request::Query { query, inputs } => run_query(alloc, query, inputs, files),
+        Request::Query { query, inputs } => query_text(alloc, query, inputs, files),
     }
 }

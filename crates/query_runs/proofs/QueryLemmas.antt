@@ -6,27 +6,47 @@ use Rattle.xt_io.specs.Files.{FilesState, KeepsFiles}
 use Rattle.xt_tree.specs.declared.trees.Tree.{Tree}
 use Rattle.xdm_items.specs.declared.items.Item.{Item}
 use Rattle.xt_syntax.specs.declared.queries.Query.{Query as Parsed}
-use Rattle.xquery_syntax.specs.Spelled.{SpellsWithin}
+use Rattle.xquery_syntax.specs.Spelled.{SpellsWithin, Parsed as IsAnswer}
+use Rattle.xt_syntax.specs.declared.prefixes.ParseFault.{ParseFault}
+use Rattle.xt_syntax.specs.declared.prefixes.ParseFault.TheVariants.{Syntax, TooDeep}
+use Rattle.xt_syntax.specs.declared.prefixes.ParseFault.TheVariants as parse_variants
+use Rattle.std.specs.Prelude.{Err}
 use Rattle.outcomes.specs.Outcome.{Outcome, Ends, Fails}
 use Rattle.outcomes.specs.Outcome as outcome
-use Rattle.expr_meaning.specs.Queries.{Given, query_outcome}
+use Rattle.expr_meaning.specs.Queries.{Run, query_outcome}
 use Rattle.xdm_items.specs.declared.items.Item.TheVariants.{Node as a_node}
 use Rattle.doc_set.specs.Sets.{DocumentSet}
 use Rattle.xquery_eval.specs.Runs.{given_of as given_texts}
 use Rattle.xquery_eval.specs.declared.params.Param.{Param}
-use Rattle.command_words.specs.Requests.{Query, Inputs, given_of, inputs_in}
+use Rattle.command_words.specs.Requests.{Inputs, given_of, inputs_in}
 use Rattle.command_words.specs.declared.parameters.Parameter.{Parameter}
 use Rattle.command_words.specs.declared.requests.Inputs.{Inputs as InputsOfCode}
 use Rattle.run_parts.specs.Inputs.{Holdings, HoldsBytes, HoldsInputs, IsInputRefusedAs, IsUnloadedAs}
-use Rattle.driver.specs.Meaning.{HoldsAllOfQuery, HasText, IsRefusedAs}
-use Rattle.driver.specs.Queries.{IsQuery, IsNoQueryAs, HoldsQuery, IsQueryRefusedAs, Gives}
-use Rattle.driver.specs.Queries.{IsNotGivenAs, IsRunRefusedAs, IsUnwrittenAs, items_of, outcome_on}
-use Rattle.driver.specs.Queries.{param_of, set_of, written_for}
+use Rattle.query_runs.specs.Texts.{HoldsAllOfQuery, HasQueryText, IsNoQueryTextAs}
+use Rattle.query_runs.specs.Queries.{IsNone, misspelt, breaks, too_deep, IsNoneAs, told_of}
+use Rattle.query_runs.specs.Queries.{IsQuery, IsNoQueryAs, HoldsQuery, IsQueryRefusedAs, Gives}
+use Rattle.query_runs.specs.Queries.{IsNotGivenAs, IsRunRefusedAs, IsUnwrittenAs, items_of, outcome_on}
+use Rattle.query_runs.specs.Queries.{param_of, set_of, written_for}
 use Rattle.white_space.specs.Stripped.{stripped}
 use Rattle.run_parts.specs.declared.status.Status.{Status}
 use Rattle.run_parts.specs.declared.status.Status.TheVariants.{Load, TooLong, Malformed, Static}
 use Rattle.run_parts.specs.declared.status.Status.TheVariants.{Dynamic, Deep, Memory}
 use Rattle.run_parts.proofs.Loads.{failed_later, long_later}
+
+-- what the parser says of a text that is no query
+pub none_told : (text : List ℕ) (fault : ParseFault) → IsAnswer (Err fault) 400 text
+    → IsNoneAs text (told_of fault)
+none_told text Syntax x = misspelt refl x
+none_told text (parse_variants.Static code) x = breaks x
+none_told text TooDeep x = too_deep refl x
+none_told text (parse_variants.Memory e) x = tt
+
+-- .. and so of the bytes
+pub none_of_bytes : (bytes text : List ℕ) (status : Status) → text ≡ bytes
+    → IsNoneAs (chars text) status → IsNoQueryAs bytes status
+none_of_bytes bytes text (Static code) same x = inr (subst (λ t. IsNone (chars t) code) same x)
+none_of_bytes bytes text Memory same x = tt
+none_of_bytes bytes text _ same x = absurd x
 
 -- the file of the query is not loaded
 pub query_unloaded : (file : List ℕ) (old new : FilesState) (status : Status)
@@ -53,7 +73,7 @@ query_held files file items bytes query same held x =
 
 -- the query is refused
 pub refused_first : (query : List ℕ) (inputs : Inputs) (old new : FilesState) (status : Status)
-    → IsQueryRefusedAs query old new status → IsRefusedAs (Query query inputs) old new status
+    → IsQueryRefusedAs query old new status → IsNoQueryTextAs query inputs old new status
 refused_first query inputs old new (Load name) x = (inl x.0, rw x.0 x.1)
 refused_first query inputs old new (TooLong name n) x = (inl x.0, rw x.0 x.1)
 refused_first query inputs old new (Static code) x = x
@@ -64,7 +84,7 @@ refused_first query inputs old new _ x = absurd x
 pub refused_second : (query : List ℕ) (inputs : Inputs) (parsed : Parsed) (old mid new : FilesState) (status : Status)
     → HoldsQuery old.held query parsed → KeepsFiles old mid
     → IsInputRefusedAs inputs mid new status
-    → IsRefusedAs (Query query inputs) old new status
+    → IsNoQueryTextAs query inputs old new status
 refused_second query inputs parsed old mid new (Load name) held keeps x = (
   inr (record { query = parsed; held = held }, rw keeps.held at x.0),
   failed_later old mid new (encode_utf8_all name) keeps x.1,
@@ -94,7 +114,7 @@ all_held query inputs q d ds old mid held keeps x = record {
 pub refused_third : (query : List ℕ) (inputs : Inputs) (q : Parsed) (d : Tree) (ds : List Tree) (old mid new : FilesState) (status : Status)
     → HoldsQuery old.held query q → KeepsFiles old mid → HoldsInputs mid.held inputs d ds
     → IsNotGivenAs q inputs d ds status
-    → IsRefusedAs (Query query inputs) old new status
+    → IsNoQueryTextAs query inputs old new status
 refused_third query inputs q d ds old mid new (Dynamic code) held keeps docs x =
     (all_held query inputs q d ds old mid held keeps docs, x)
 refused_third query inputs q d ds old mid new (Deep depth) held keeps docs x =
@@ -106,7 +126,7 @@ refused_third query inputs q d ds old mid new _ held keeps docs x = absurd x
 pub text_given : (query : List ℕ) (inputs : Inputs) (text : List ℕ) (q : Parsed) (d : Tree) (ds : List Tree) (old mid : FilesState)
     → HoldsQuery old.held query q → KeepsFiles old mid → HoldsInputs mid.held inputs d ds
     → Gives q inputs d ds text
-    → HasText (Query query inputs) old text
+    → HasQueryText old.held query inputs text
 text_given query inputs text q d ds old mid held keeps docs x = record {
   held = all_held query inputs q d ds old mid held keeps docs;
   gives = x;
@@ -117,14 +137,23 @@ names_kept : (ps : List Parameter) → given_texts (map param_of ps) ≡ map giv
 names_kept [] = refl
 names_kept (p ∷ ps) = ap (λ gs. (p.name, p.value) ∷ gs) (names_kept ps)
 
+-- the same run, whatever it is made of
+same_query : (a b : Run) (x : Item) (n k : ℕ) → a ≡ b →
+    query_outcome a x n k ≡ query_outcome b x n k
+same_query a b x n k e = λ i. query_outcome (e i) x n k
+
 -- what the evaluator is asked for
 pub run_on : (query : Parsed) (document : Tree) (set : DocumentSet) (i : InputsOfCode) (given : List Param)
     → given ≡ map param_of i.parameters
     → query_outcome (record { query = query; documents = set; given = given_texts given }) (a_node (record { number = 0; tree = document; path = []; attribute = None })) i.depth (length set + 1) ≡ outcome_on query document set (inputs_in i)
 unfolding outcome_on
 run_on query document set i given e =
-    ap (λ (g : List Given). query_outcome (record { query = query; documents = set; given = g }) (a_node (record { number = 0; tree = document; path = []; attribute = None })) i.depth (length set + 1))
-    (ap given_texts e ∙ names_kept i.parameters)
+    let same : given_texts given ≡ map given_of i.parameters =
+        ap given_texts e ∙ names_kept i.parameters in
+    let asked : Run = record { query = query; documents = set; given = given_texts given } in
+    let told : Run = record { query = query; documents = set; given = map given_of i.parameters } in
+    let runs : asked ≡ told = λ j. record { query = query; documents = set; given = same j } in
+    same_query asked told (a_node (record { number = 0; tree = document; path = []; attribute = None })) i.depth (length set + 1) runs
 
 -- what is asked for is the run on the stripped documents
 pub same_run : (q : Parsed) (inputs : Inputs) (d : Tree) (ds : List Tree) (document : Tree) (set : DocumentSet)

@@ -16,6 +16,9 @@ use Rattle.doc_set.specs.Sets.{DocumentSet}
 use Rattle.doc_writer.specs.WrittenItems.{written_items, written_items_bare}
 use Rattle.white_space.specs.Stripped.{stripped}
 use Rattle.xt_syntax.specs.declared.queries.Query.{Query}
+use Rattle.xt_syntax.specs.declared.prefixes.ParseFault.{ParseFault}
+use Rattle.xt_syntax.specs.declared.prefixes.ParseFault.TheVariants.{Syntax, TooDeep}
+use Rattle.xt_syntax.specs.declared.prefixes.ParseFault.TheVariants as parse_variants
 use Rattle.xquery_syntax.specs.Spelled.{SpellsWithin, BreaksFirst, IsTooDeep, Misspelt}
 use Rattle.outcomes.specs.Outcome.{Outcome, Ends, Fails}
 use Rattle.outcomes.specs.Outcome as outcome
@@ -37,19 +40,36 @@ pub record IsQuery (bytes : List ℕ) (query : Query) : Type 0 where
   pub utf8 : IsUtf8 bytes
   pub spells : SpellsWithin nest_limit (chars bytes) query
 
--- why bytes are no query: they are no text, or one that spells none, that breaks a static rule, or
--- whose expressions nest more deeply
+-- why a text is no query: it spells none, breaks a static rule, or nests more deeply
+pub data IsNone (text : List ℕ) (code : Code) : Type 0 where
+  misspelt : code ≡ code_variants.QueryStatic XPST0003 → Misspelt nest_limit text
+      → IsNone text code
+  breaks : BreaksFirst nest_limit text code → IsNone text code
+  too_deep : code ≡ code_variants.SheetStatic XTLM0004 → IsTooDeep nest_limit text
+      → IsNone text code
+
+-- why bytes are no query: they are no text, or one that is none
 abbrev pub IsNoQuery : List ℕ → Code → Type 0
 IsNoQuery bytes code =
     ((code ≡ code_variants.QueryStatic XPST0003) × ¬ (IsUtf8 bytes))
-    ⊎ ((code ≡ code_variants.QueryStatic XPST0003) × Misspelt nest_limit (chars bytes))
-    ⊎ BreaksFirst nest_limit (chars bytes) code
-    ⊎ ((code ≡ code_variants.SheetStatic XTLM0004) × IsTooDeep nest_limit (chars bytes))
+    ⊎ IsNone (chars bytes) code
+
+abbrev pub IsNoneAs : List ℕ → Status → Type 0
+IsNoneAs text (Static code) = IsNone text code
+IsNoneAs text Memory = ⊤
+IsNoneAs text _ = ⊥
 
 abbrev pub IsNoQueryAs : List ℕ → Status → Type 0
 IsNoQueryAs bytes (Static code) = IsNoQuery bytes code
 IsNoQueryAs bytes Memory = ⊤
 IsNoQueryAs bytes _ = ⊥
+
+-- what is said of a text that is no query
+abbrev pub told_of : ParseFault → Status
+told_of Syntax = Static (code_variants.QueryStatic XPST0003)
+told_of (parse_variants.Static code) = Static code
+told_of TooDeep = Static (code_variants.SheetStatic XTLM0004)
+told_of (parse_variants.Memory e) = Memory
 
 -- the bytes under the name are this query
 pub record HoldsQuery (files : Holdings) (name : List ℕ) (query : Query) : Type 0 where

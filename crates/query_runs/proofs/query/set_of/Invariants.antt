@@ -1,8 +1,8 @@
 use Rattle.std.proofs.Common.{◌≡◌, ◌++◌, true, drop}
 use Rattle.doc_set.specs.Sets.{names_of}
 use Rattle.command_words.specs.Texts.{are_different}
-use Rattle.driver.specs.Queries.{set_of}
-use Rattle.driver.proofs.query.set_of.Given as goal
+use Rattle.query_runs.specs.Queries.{set_of}
+use Rattle.query_runs.proofs.query.set_of.Given as goal
 
 abbrev pub invariant-loop-place : goal.invariant-loop-place
 invariant-loop-place l = record {

@@ -2,11 +2,14 @@
 ghost use Rattle.std.specs.Prelude.{◌≡◌, ◌++◌, ◌∷◌, [], true, false, Some, IfOk, IfErr, OnOk};
 ghost use Rattle.xt_io.specs.Files.{KeepsFiles};
 ghost use Rattle.doc_set.specs.Sets.{is_named};
-ghost use Rattle.command_words.specs.Requests.{Query as QueryAsked, inputs_in};
+ghost use Rattle.command_words.specs.Requests.{inputs_in};
 ghost use Rattle.command_words.specs.Texts.{are_different};
-ghost use Rattle.driver.specs.Meaning.{HasText, IsRefusedAs};
-ghost use Rattle.driver.specs.Queries.{HoldsQuery, IsQuery, IsNoQueryAs, IsQueryRefusedAs};
-ghost use Rattle.driver.specs.Queries.{Gives, IsNotGivenAs, IsUnwrittenAs, set_of, written_for};
+ghost use Rattle.query_runs.specs.Texts.{HasQueryText, IsNoQueryTextAs};
+ghost use Rattle.std.specs.Str.{chars};
+ghost use Rattle.xquery_syntax.specs.Spelled.{SpellsWithin};
+ghost use Rattle.query_runs.specs.Queries.{HoldsQuery, IsQuery, IsNoQueryAs, IsQueryRefusedAs};
+ghost use Rattle.query_runs.specs.Queries.{IsNoneAs, told_of};
+ghost use Rattle.query_runs.specs.Queries.{Gives, IsNotGivenAs, IsUnwrittenAs, set_of, written_for};
 
 use crate::evaluate::evaluate;
 use command_words::Inputs;
@@ -31,9 +34,16 @@ const NO_QUERY: Status = Status::Static(Code::QueryStatic(QueryStaticCode::XPST0
 /// What is said of a query that nests too deeply.
 const TOO_DEEP: Status = Status::Static(Code::SheetStatic(SheetStaticCode::XTLM0004));
 
-/// The text that is written for the request.
+/// The text of what the query in the file `query` gives on the documents that the inputs name, as
+/// the files hold them; parameters are the values of external variables (XQuery 1.0, 2.2.3, and
+/// XSLT 2.0 and XQuery 1.0 Serialization, 5).
+///
+/// `Load` and `TooLong` come with the first file that cannot be loaded, the query's before those of
+/// documents; `Static` where the text is no query or breaks a static rule; `Malformed` with the
+/// first file that is no document; `Dynamic` with the code of the first error; `Deep` where one more
+/// call than the depth would have to be open.
 #[tactic(auto, using(run_parts::proofs::Loads::keeps_then))]
-pub fn query<F: Files>(
+pub fn query_text<F: Files>(
     alloc: Global,
     query: &str,
     inputs: &Inputs<'_>,
@@ -41,19 +51,13 @@ pub fn query<F: Files>(
 ) -> Result<Vec<u8>, Status>
     requires { are_different (inputs_in inputs.now).documents ≡ true }
     ensures text { IfOk result (λ text.
-        HasText (QueryAsked query.now (inputs_in inputs.now)) (F.state files.old) text.items) }
-    ensures refused { IfErr result (IsRefusedAs
-        (QueryAsked query.now (inputs_in inputs.now)) (F.state files.old) (F.state files.new)) }
+        HasQueryText (F.state files.old).held query.now (inputs_in inputs.now) text.items) }
+    ensures refused { IfErr result (IsNoQueryTextAs
+        query.now (inputs_in inputs.now) (F.state files.old) (F.state files.new)) }
     ensures keeps { KeepsFiles (F.state files.old) (F.state files.new) }
 {
     let query = load_query(alloc, query, files)?;
-    let trees = match load_inputs(alloc, inputs, files) {
-        Ok(trees) => trees,
-        Err(status) => {
-            drop(query);
-            return Err(status);
-        }
-    };
+    let trees = load_inputs(alloc, inputs, files)?;
     let text = result_text(alloc, &query, inputs, &trees);
     // The run is over, and the system takes its memory back at once.
     forget(trees);
@@ -76,15 +80,32 @@ fn query_in(alloc: Global, bytes: &[u8]) -> Result<Query, Status>
     ensures query { IfOk result (IsQuery bytes.now) }
     ensures refused { IfErr result (IsNoQueryAs bytes.now) }
 {
-    let Ok(text) = from_utf8(bytes) else {
-        return Err(NO_QUERY);
-    };
+    match from_utf8(bytes) {
+        Ok(text) => parsed(alloc, text),
+        Err(_) => Err(NO_QUERY),
+    }
+}
+
+// The query that the text spells.
+fn parsed(alloc: Global, text: &str) -> Result<Query, Status>
+    ensures query { IfOk result (SpellsWithin 400 (chars text.now)) }
+    ensures refused { IfErr result (IsNoneAs (chars text.now)) }
+{
     match parse_query(alloc, text) {
         Ok(query) => Ok(query),
-        Err(ParseFault::Syntax) => Err(NO_QUERY),
-        Err(ParseFault::Static(code)) => Err(Status::Static(code)),
-        Err(ParseFault::TooDeep) => Err(TOO_DEEP),
-        Err(ParseFault::Memory(_)) => Err(Status::Memory),
+        Err(fault) => Err(told(fault)),
+    }
+}
+
+// What is said of a text that is no query.
+fn told(fault: ParseFault) -> Status
+    ensures { result ≡ told_of fault }
+{
+    match fault {
+        ParseFault::Syntax => NO_QUERY,
+        ParseFault::Static(code) => Status::Static(code),
+        ParseFault::TooDeep => TOO_DEEP,
+        ParseFault::Memory(_) => Status::Memory,
     }
 }
 

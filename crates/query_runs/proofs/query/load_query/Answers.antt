@@ -1,6 +1,6 @@
 use Rattle.std.proofs.lemmas.Result.{IfErr-weaker}
-use Rattle.driver.proofs.QueryLemmas.{query_unread}
-use Rattle.driver.proofs.query.load_query.Goals as goal
+use Rattle.query_runs.proofs.QueryLemmas.{query_unread}
+use Rattle.query_runs.proofs.query.load_query.Goals as goal
 
 pub returns-clause-refused : goal.returns-clause-refused
 returns-clause-refused g c =

@@ -1,6 +1,6 @@
 use Rattle.std.proofs.Common.{refl, sym, ◌∙◌}
-use Rattle.driver.proofs.QueryLemmas.{run_on}
-use Rattle.driver.proofs.evaluate.evaluate.Goals as goal
+use Rattle.query_runs.proofs.QueryLemmas.{run_on}
+use Rattle.query_runs.proofs.evaluate.evaluate.Goals as goal
 
 pub returns-in-Ok-clause-items : goal.returns-in-Ok-clause-items
 returns-in-Ok-clause-items c = (

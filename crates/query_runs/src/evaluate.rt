@@ -2,7 +2,7 @@
 ghost use Rattle.std.specs.Prelude.{◌≡◌, IfOk, IfErr, ℕ, map};
 ghost use Rattle.outcomes.specs.Outcome.{Ends};
 ghost use Rattle.command_words.specs.Requests.{inputs_in};
-ghost use Rattle.driver.specs.Queries.{outcome_on, param_of, IsRunRefusedAs};
+ghost use Rattle.query_runs.specs.Queries.{outcome_on, param_of, IsRunRefusedAs};
 
 use command_words::{Inputs, Parameter};
 use doc_set::DocSet;

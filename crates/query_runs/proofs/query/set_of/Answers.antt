@@ -1,7 +1,7 @@
 use Rattle.std.proofs.Common.{◌≡◌, ◌<◌, ◌∙◌, length, min, ap, arith}
-use Rattle.driver.specs.Queries.{set_of}
-use Rattle.driver.proofs.SetLemmas.{new_turn, set_end}
-use Rattle.driver.proofs.query.set_of.Goals as goal
+use Rattle.query_runs.specs.Queries.{set_of}
+use Rattle.query_runs.proofs.SetLemmas.{new_turn, set_end}
+use Rattle.query_runs.proofs.query.set_of.Goals as goal
 
 pub add-requires : goal.add-requires
 add-requires c =

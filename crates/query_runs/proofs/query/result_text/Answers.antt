@@ -1,7 +1,7 @@
 use Rattle.std.proofs.lemmas.Result.{IfOk-weaker, IfErr-weaker, err_from_is_err_and}
 use Rattle.command_words.specs.Requests.{inputs_in}
-use Rattle.driver.proofs.QueryLemmas.{same_run, run_refused, items_unwritten, items_written}
-use Rattle.driver.proofs.query.result_text.Goals as goal
+use Rattle.query_runs.proofs.QueryLemmas.{same_run, run_refused, items_unwritten, items_written}
+use Rattle.query_runs.proofs.query.result_text.Goals as goal
 
 pub returns-clause-text : goal.returns-clause-text
 returns-clause-text c =

@@ -15,7 +15,7 @@ use Rattle.xt_tree.specs.declared.trees.Tree.{Tree}
 use Rattle.white_space.specs.Stripped.{stripped}
 use Rattle.doc_set.specs.Sets.{DocumentSet, names_of, is_named}
 use Rattle.command_words.specs.Texts.{are_different}
-use Rattle.driver.specs.Queries.{set_of}
+use Rattle.query_runs.specs.Queries.{set_of}
 
 both : (a b : Bool) → a && b ≡ true → (a ≡ true) × (b ≡ true)
 both true b e = (refl, e)
