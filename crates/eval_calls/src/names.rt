@@ -62,6 +62,7 @@ fn called_in_library(name: &ExprName, arity: usize) -> Called
 
 /// What is called by the name with so many arguments (XPath 2.0, 3.1.5).
 #[tactic(auto, unfolding(expr_meaning::specs::Calls::called))]
+#[inline(never)]
 pub fn find_called(name: &ExprName, arity: usize) -> Called
     ensures { called_as result ≡ called name.now arity }
 {

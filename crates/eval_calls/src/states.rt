@@ -18,6 +18,7 @@ const NO_TREE: ValueFault = ValueFault::Error(Code::SheetDynamic(SheetDynamicCod
 
 /// current(): the item with which the whole expression began (XSLT 2.0, 16.6.1); XPDY0002 where there
 /// is none.
+#[inline(never)]
 pub fn current_item(alloc: Global, current: Option<&Item>) -> Result<ItemList, ValueFault>
     ensures { Answers (current_value (item_behind current.entry)) result }
 {
@@ -28,6 +29,7 @@ pub fn current_item(alloc: Global, current: Option<&Item>) -> Result<ItemList, V
 }
 
 /// current-group() (XSLT 2.0, 14.1): empty outside of a group.
+#[inline(never)]
 pub fn group_members(alloc: Global, group: Option<&Group>) -> Result<ItemList, AllocError>
     ensures { IfOk result (λ items. items ≡ members_of (group_behind group.entry)) }
 {
@@ -38,6 +40,7 @@ pub fn group_members(alloc: Global, group: Option<&Group>) -> Result<ItemList, A
 }
 
 /// current-grouping-key() (XSLT 2.0, 14.2): empty outside of a group and where the group has none.
+#[inline(never)]
 pub fn group_key(alloc: Global, group: Option<&Group>) -> Result<ItemList, AllocError>
     ensures { IfOk result (λ items. items ≡ key_of (group_behind group.entry)) }
 {
@@ -66,6 +69,7 @@ fn root_of_item(alloc: Global, item: &Item) -> Result<Node, ValueFault>
 
 /// The root of the tree in which key() looks: that of the context node, which is a document; XTDE1270
 /// where there is none (XSLT 2.0, 16.3.1).
+#[inline(never)]
 pub fn key_root(alloc: Global, focus: &Focus) -> Result<Node, ValueFault>
     ensures { Answers (keyed_root (focus_of focus.now)) result }
 {
@@ -86,6 +90,7 @@ fn literal(alloc: Global, item: &Item) -> Result<Text, AllocError>
 }
 
 /// The name in the first argument of key(), which is a literal (XSLT 2.0, 16.3.1).
+#[inline(never)]
 pub fn key_name(alloc: Global, argument: &ItemList) -> Result<Text, AllocError>
     ensures { IfOk result (λ name. name ≡ literal_text argument.now) }
 {

@@ -56,6 +56,7 @@ fn has_any(alloc: Global, items: Seq, wanted: bool) -> Result<ItemList, ValueFau
 
 /// What the function gives of one argument (XPath 2.0, 3.1.5). count(), exists() and empty() ask
 /// the sequence; all others get its list.
+#[inline(never)]
 pub fn late_answer(alloc: Global, f: Builtin, items: Seq) -> Result<ItemList, ValueFault>
     ensures { Answers (function_value f (given items.moves ∷ [])) result }
 {

@@ -43,6 +43,7 @@ fn item_there(alloc: Global, items: Seq, place: i64) -> Result<ItemList, AllocEr
 
 /// What a predicate that is an integer keeps: the item at that position, which counts from 1
 /// (XPath 2.0, 3.3.2); FOAR0002 where there are more than 2^63-1 items.
+#[inline(never)]
 pub fn late_item(alloc: Global, items: Seq, place: i64) -> Result<ItemList, EvalFault>
     ensures { (env : Env) (k : ℕ) → Answers result k
         (kept (literal place) env (given items.moves) k) }

@@ -13,6 +13,7 @@ use xt_names::{List, Name, Text, TextBuilder};
 use xt_tree::{Node, Tree};
 
 /// Literal characters of a direct element, as a text node (XQuery 1.0, 3.7.1.3).
+#[inline(never)]
 pub fn text_node(alloc: Global, text: Text) -> Result<Item, AllocError>
     ensures { IfOk result (λ item. item ≡ literal_node (text_tree text)) }
 {
@@ -84,6 +85,7 @@ fn take(
 /// The items, with each longest run of atoms as one text node, in which a space stands between the
 /// atoms (XQuery 1.0, 3.7.1.3).
 #[tactic(auto, unfolding(expr_meaning::specs::Making::joined_atoms))]
+#[inline(never)]
 pub fn joined_atoms(alloc: Global, items: &ItemList) -> Result<ItemList, AllocError>
     ensures { IfOk result (λ made. made ≡ joined_atoms items.now) }
 {

@@ -35,6 +35,7 @@ fn listed(
 }
 
 /// An element with these items as its content (XQuery 1.0, 3.7.3.1).
+#[inline(never)]
 pub fn make_element(
     alloc: Global,
     next: &mut u64,
@@ -49,6 +50,7 @@ pub fn make_element(
 }
 
 /// A document with these items as its content (XQuery 1.0, 3.7.3.3).
+#[inline(never)]
 pub fn make_document(
     alloc: Global,
     next: &mut u64,
@@ -62,6 +64,7 @@ pub fn make_document(
 }
 
 /// An attribute of that value (XQuery 1.0, 3.7.3.2).
+#[inline(never)]
 pub fn make_attribute(
     alloc: Global,
     next: &mut u64,
@@ -77,6 +80,7 @@ pub fn make_attribute(
 }
 
 /// A text node (XQuery 1.0, 3.7.3.4).
+#[inline(never)]
 pub fn make_text(alloc: Global, next: &mut u64, value: &str) -> Result<ItemList, EvalFault>
     ensures { Answers result next.new (made (Gives (text_tree (chars value.now))) next.old) }
 {
@@ -86,6 +90,7 @@ pub fn make_text(alloc: Global, next: &mut u64, value: &str) -> Result<ItemList,
 }
 
 /// A comment; XQDY0072 where the text may not stand in one (XQuery 1.0, 3.7.3.6).
+#[inline(never)]
 pub fn make_comment(alloc: Global, next: &mut u64, value: &str) -> Result<ItemList, EvalFault>
     ensures { Answers result next.new (made (comment_of (chars value.now)) next.old) }
 {
@@ -95,6 +100,7 @@ pub fn make_comment(alloc: Global, next: &mut u64, value: &str) -> Result<ItemLi
 }
 
 /// A processing instruction; XQDY0026 where the text may not stand in one (XQuery 1.0, 3.7.3.5).
+#[inline(never)]
 pub fn make_pi(
     alloc: Global,
     next: &mut u64,

@@ -85,6 +85,7 @@ fn name_of_atom(
 /// The name that a computed element has: one atom that is a QName, or a text that spells a name
 /// whose prefix is declared; `default` is the namespace of one without a prefix. All else is
 /// XQDY0074 (XQuery 1.0, 3.7.3.1).
+#[inline(never)]
 pub fn computed_element(
     alloc: Global,
     namespaces: &[Binding],
@@ -105,6 +106,7 @@ pub fn computed_element(
 }
 
 /// The name of an attribute, which is not `xmlns`: XQDY0044 (XQuery 1.0, 3.7.3.2).
+#[inline(never)]
 pub fn checked_attribute(name: Name) -> Result<Name, Code>
     ensures { result ≡ attribute_name name }
 {
@@ -117,6 +119,7 @@ pub fn checked_attribute(name: Name) -> Result<Name, Code>
 
 /// The name that a computed attribute has, as that of an element, but one without a prefix is in no
 /// namespace (XQuery 1.0, 3.7.3.2).
+#[inline(never)]
 pub fn computed_attribute(
     alloc: Global,
     namespaces: &[Binding],

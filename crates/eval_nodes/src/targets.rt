@@ -20,6 +20,7 @@ fn is_xml(text: &str) -> bool
 
 /// The text as a target: XQDY0041 where it is no NCName, XQDY0064 where it is `xml` in any case
 /// (XQuery 1.0, 3.7.3.5).
+#[inline(never)]
 pub fn fixed_target(text: Text) -> Result<Text, ValueFault>
     ensures { Answers (target_of_text text) result }
 {
@@ -46,6 +47,7 @@ fn target_of_atom(alloc: Global, atom: &Atom) -> Result<Text, ValueFault>
 
 /// The target that one atom gives: the text of a QName, a string or an untyped value (XQuery 1.0,
 /// 3.7.3.5). All else is XQDY0041.
+#[inline(never)]
 pub fn computed_target(alloc: Global, items: &ItemList) -> Result<Text, ValueFault>
     ensures { Answers (target_of_items items.now) result }
 {

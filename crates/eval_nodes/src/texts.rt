@@ -8,6 +8,7 @@ use xdm_items::{ItemList, atomize};
 use xt_names::Text;
 
 /// The texts of the items made atoms, with a space between them (XQuery 1.0, 3.7.3.2).
+#[inline(never)]
 pub fn spaced_text(alloc: Global, items: &ItemList) -> Result<Text, AllocError>
     ensures { IfOk result (λ text. text ≡ spaced_text items.now) }
 {

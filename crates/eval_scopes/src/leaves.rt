@@ -46,6 +46,7 @@ pub fn variable<'a>(
 }
 
 /// The list of a variable (XPath 2.0, 3.1.2): XPDY0002 where it has no value.
+#[inline(never)]
 pub fn variable_list(
     alloc: Global,
     fixed: &Fixed,
@@ -62,6 +63,7 @@ pub fn variable_list(
 }
 
 /// The context item (XPath 2.0, 3.1.4): XPDY0002 where there is none.
+#[inline(never)]
 pub fn context_item(alloc: Global, env: &Env) -> Result<ItemList, EvalFault>
     ensures { (k : ℕ) → Answers result k (context (env_of env.now) k) }
 {
@@ -73,6 +75,7 @@ pub fn context_item(alloc: Global, env: &Env) -> Result<ItemList, EvalFault>
 
 /// `/`: the root of the context node's tree (XPath 2.0, 3.2). XPDY0002 comes where there is no
 /// context item, XPTY0020 where it is an atom, and XPDY0050 where the root is no document.
+#[inline(never)]
 pub fn document_root(alloc: Global, env: &Env) -> Result<ItemList, EvalFault>
     ensures { (k : ℕ) → Answers result k (root_of (env_of env.now) k) }
 {
@@ -120,6 +123,7 @@ fn is_document(tree: &Tree) -> bool
 /// name, and FODC0002 where the set has none (Functions and Operators, 15.5.4). XPTY0004 comes
 /// where the argument is no text.
 #[tactic(auto, unfolding(expr_meaning::specs::Documents::document_in))]
+#[inline(never)]
 pub fn document_value(
     alloc: Global,
     fixed: &Fixed,

@@ -24,6 +24,7 @@ fn copy_variable(variable: &Variable) -> Result<Variable, AllocError>
 }
 
 /// The same variables; their values share what they hold (XPath 2.0, 3.1.2).
+#[inline(never)]
 pub fn copy_variables(alloc: Global, variables: &[Variable]) -> Result<Vec<Variable>, AllocError>
     ensures { IfOk result (λ copy. copy.items ≡ variables.now) }
 {

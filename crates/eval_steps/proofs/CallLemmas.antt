@@ -33,7 +33,7 @@ itself (Ends xs k) = refl
 itself (Fails code) = refl
 itself Deep = refl
 
-int_means : (p : Program) (n : ℤ) → outcome p (Int n) ≡ literal n
+pub int_means : (p : Program) (n : ℤ) → outcome p (Int n) ≡ literal n
 int_means p n =
     ap (outcome p) (sym (rolls-Int n))
     ∙ fold-roll-Expr _ _ _ _ _ _ _ _ _ _ _ _ _ _ _ _ _ _ _

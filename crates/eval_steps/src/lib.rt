@@ -11,7 +11,8 @@
 mod steps;
 
 pub use steps::{
-    WRONG_TYPE, bound_item, bound_list, bound_place, is_kept_at, list_size, literal_place,
-    literal_text, ordered_items, path_items, path_size, place_in, pop_variable, push_attribute,
-    push_cell, push_kept, push_list, push_variable, step_from, truth_list, truth_of, tuple_key,
+    WRONG_TYPE, bound_item, bound_list, bound_place, is_kept_at, list_size, literal_integer,
+    literal_place, literal_text, ordered_items, path_items, path_size, place_in, pop_variable,
+    push_attribute, push_cell, push_kept, push_list, push_variable, step_from, truth_list,
+    truth_of, tuple_key,
 };

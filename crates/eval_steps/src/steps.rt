@@ -38,6 +38,14 @@ use xt_types::{Axis, Test};
 /// The error of a key of two atoms, and of keys of two kinds (XQuery 1.0, 3.8.3).
 pub const WRONG_TYPE: Code = Code::Dynamic(DynamicCode::XPTY0004);
 
+/// The list of an integer's literal (XPath 2.0, 3.1.1).
+#[inline(never)]
+pub fn literal_integer(alloc: Global, number: i64) -> Result<ItemList, EvalFault>
+    ensures { (k : ℕ) → Answers result k (Ends (of_integer number) k) }
+{
+    Ok(integer_list(alloc, number)?)
+}
+
 /// The list of a literal (XPath 2.0, 3.1.1).
 #[inline(never)]
 pub fn literal_text(alloc: Global, text: &Text) -> Result<ItemList, EvalFault>
@@ -47,6 +55,7 @@ pub fn literal_text(alloc: Global, text: &Text) -> Result<ItemList, EvalFault>
 }
 
 /// The list of a truth value, with the fault of what gave it (XPath 2.0, 3.6).
+#[inline(never)]
 pub fn truth_list(alloc: Global, truth: Result<bool, EvalFault>) -> Result<ItemList, EvalFault>
     ensures { (k : ℕ) (o : Outcome Bool) → Answers truth k o → Answers result k (as_items o) }
 {
@@ -182,6 +191,7 @@ pub fn push_kept(list: &mut ItemList, item: &Item, keeps: bool) -> Result<(), Al
 }
 
 /// Puts an argument at the end (XPath 2.0, 3.1.5).
+#[inline(never)]
 pub fn push_list(lists: &mut Vec<ItemList>, list: ItemList) -> Result<(), AllocError>
     ensures { OnOk result (lists.new.items ≡ lists.old.items ++ list ∷ []) }
 {
@@ -190,6 +200,7 @@ pub fn push_list(lists: &mut Vec<ItemList>, list: ItemList) -> Result<(), AllocE
 }
 
 /// Binds a variable within those that are bound already (XQuery 1.0, 3.8.1).
+#[inline(never)]
 pub fn push_variable(bound: &mut Vec<Variable>, variable: Variable) -> Result<(), AllocError>
     ensures { OnOk result (bound.new.items ≡ bound.old.items ++ variable ∷ []) }
 {
@@ -198,6 +209,7 @@ pub fn push_variable(bound: &mut Vec<Variable>, variable: Variable) -> Result<()
 }
 
 /// Takes the innermost variable off (XQuery 1.0, 3.8.1).
+#[inline(never)]
 pub fn pop_variable(bound: &mut Vec<Variable>)
     ensures { (others : Lists Variable) (v : Variable) → bound.old.items ≡ others ++ v ∷ [] →
         bound.new.items ≡ others }
@@ -220,6 +232,7 @@ pub fn push_attribute(
 }
 
 /// Puts a key at the end of a row (XQuery 1.0, 3.8.3).
+#[inline(never)]
 pub fn push_cell(cells: &mut List<Option<Atom>>, cell: Option<Atom>) -> Result<(), AllocError>
     ensures { OnOk result (cells.new ≡ cells.old ++ cell ∷ []) }
 {

@@ -6,6 +6,7 @@ use xdm_items::{Item, ItemList};
 use xt_names::List;
 
 /// A list of one item (XPath 2.0, 2).
+#[inline(never)]
 pub fn one(alloc: Global, item: Item) -> Result<ItemList, AllocError>
     ensures { IfOk result (λ list. list ≡ item ∷ []) }
 {
@@ -16,6 +17,7 @@ pub fn one(alloc: Global, item: Item) -> Result<ItemList, AllocError>
 
 /// The items of the first list and those of the second behind them (XPath 2.0, 3.3.1). A first list
 /// without items takes no memory.
+#[inline(never)]
 pub fn append(list: ItemList, more: ItemList) -> Result<ItemList, AllocError>
     ensures { IfOk result (λ both. both ≡ list ++ more) }
 {

@@ -27,6 +27,7 @@ pub fn key_cell(alloc: Global, many: Code, items: &ItemList) -> Result<Option<At
 
 /// The places of the rows, from 0, in the one stable order of their keys; `mixed` where a column
 /// holds keys of two kinds or a QName (XQuery 1.0, 3.8.3; XSLT 2.0, 13.1.2).
+#[inline(never)]
 pub fn sorted_places(
     alloc: Global,
     mixed: Code,

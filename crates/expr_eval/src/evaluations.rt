@@ -10,9 +10,8 @@ ghost use Rattle.eval_values.specs.Operators.{value_of_one, value_of_two};
 
 use crate::hosts::{Callee, Host};
 use eval_scopes::{Env, EvalFault, context_item, document_root, variable_list};
-use eval_steps::{literal_text, truth_list};
+use eval_steps::{literal_integer, literal_text, truth_list};
 use eval_values::{OneOperator, Operator, append, apply, apply_to_one};
-use function_arguments::integer_list;
 use operator_values::treated;
 use xdm_items::ItemList;
 use xt_names::{ExprName, List};
@@ -38,7 +37,7 @@ impl<'a, G: Callee, F: Fn(&ExprName, &[ItemList], &mut u64) -> Result<ItemList, 
     {
         let alloc = self.alloc;
         match e {
-            Expr::Int(number) => Ok(integer_list(alloc, *number)?),
+            Expr::Int(number) => literal_integer(alloc, *number),
             Expr::Str(text) => literal_text(alloc, text),
             Expr::Var(name) => variable_list(alloc, &self.fixed, env, name),
             Expr::Context => context_item(alloc, env),

@@ -76,6 +76,7 @@ impl<'a, G: Callee, F: Fn(&ExprName, &[ItemList], &mut u64) -> Result<ItemList, 
     }
 
     /// key(), once its arguments are evaluated (XSLT 2.0, 16.3).
+    #[inline(never)]
     fn call_key(&self, env: &Env, next: &mut u64, lists: &[ItemList]) -> Result<ItemList, EvalFault>
         ensures { let p = program_of self.now.fixed (G.calls self.now.given)
             (G.keys self.now.given) in
@@ -90,6 +91,7 @@ impl<'a, G: Callee, F: Fn(&ExprName, &[ItemList], &mut u64) -> Result<ItemList, 
     }
 
     /// A call, once its arguments are evaluated (XPath 2.0, 3.1.5).
+    #[inline(never)]
     pub(crate) fn call(
         &self,
         env: &Env,

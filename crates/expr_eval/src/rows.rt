@@ -25,6 +25,7 @@ pub(crate) struct Rows {
 }
 
 /// Which keys descend.
+#[inline(never)]
 fn directions(alloc: Global, orders: &[Order]) -> Result<Vec<bool>, AllocError>
     ensures { IfOk result (λ made. made.items ≡ directions_of orders.now) }
 {
@@ -36,6 +37,7 @@ fn directions(alloc: Global, orders: &[Order]) -> Result<Vec<bool>, AllocError>
 }
 
 /// The places of the rows in order; XPTY0004 where keys are of two kinds.
+#[inline(never)]
 fn sorted_rows(
     alloc: Global,
     keys: &List<KeyRow>,
@@ -60,6 +62,7 @@ impl Rows {
     }
 
     /// Puts a tuple of these variables at the end.
+    #[inline(never)]
     pub(crate) fn push(
         &mut self,
         alloc: Global,
@@ -79,6 +82,7 @@ impl Rows {
 
     /// The places of the tuples, from 0, in the one stable order of their keys; XPTY0004 where keys
     /// are of two kinds (XQuery 1.0, 3.8.3).
+    #[inline(never)]
     pub(crate) fn places(&self, alloc: Global, orders: &[Order]) -> Result<List<u64>, EvalFault>
         ensures { (k : ℕ) → AnswersAs (map (tuple_at self.now.tuples.items)) result k
             (ordered wrong_type (directions_of orders.now) (rows_of self.now) k) }

@@ -22,7 +22,8 @@ use Rattle.command_words.specs.Requests.{Inputs, given_of, inputs_in}
 use Rattle.command_words.specs.declared.parameters.Parameter.{Parameter}
 use Rattle.command_words.specs.declared.requests.Inputs.{Inputs as InputsOfCode}
 use Rattle.run_parts.specs.Inputs.{Holdings, HoldsBytes, HoldsInputs, IsInputRefusedAs, IsUnloadedAs}
-use Rattle.query_runs.specs.Texts.{HoldsAllOfQuery, HasQueryText, IsNoQueryTextAs}
+use Rattle.query_runs.specs.Texts.{HoldsAllOfQuery, HoldsAllInputs, HasQueryText, HasTextOf}
+use Rattle.query_runs.specs.Texts.{IsNoQueryTextAs, IsNoTextOfAs}
 use Rattle.query_runs.specs.Queries.{IsNone, misspelt, breaks, too_deep, IsNoneAs, told_of}
 use Rattle.query_runs.specs.Queries.{IsQuery, IsNoQueryAs, HoldsQuery, IsQueryRefusedAs, Gives}
 use Rattle.query_runs.specs.Queries.{IsNotGivenAs, IsRunRefusedAs, IsUnwrittenAs, items_of, outcome_on}
@@ -80,56 +81,81 @@ refused_first query inputs old new (Static code) x = x
 refused_first query inputs old new Memory x = x
 refused_first query inputs old new _ x = absurd x
 
--- the inputs are refused, after a query
-pub refused_second : (query : List ℕ) (inputs : Inputs) (parsed : Parsed) (old mid new : FilesState) (status : Status)
-    → HoldsQuery old.held query parsed → KeepsFiles old mid
-    → IsInputRefusedAs inputs mid new status
-    → IsNoQueryTextAs query inputs old new status
-refused_second query inputs parsed old mid new (Load name) held keeps x = (
-  inr (record { query = parsed; held = held }, rw keeps.held at x.0),
-  failed_later old mid new (encode_utf8_all name) keeps x.1,
-)
-refused_second query inputs parsed old mid new (TooLong name n) held keeps x = (
-  inr (record { query = parsed; held = held }, rw keeps.held at x.0),
-  long_later old mid new (encode_utf8_all name) n keeps x.1,
-)
-refused_second query inputs parsed old mid new (Malformed name spot) held keeps x =
-    (record { query = parsed; held = held }, rw keeps.held at x)
-refused_second query inputs parsed old mid new Memory held keeps x = x
-refused_second query inputs parsed old mid new _ held keeps x = absurd x
+-- the inputs are refused
+pub inputs_refused : (q : Parsed) (inputs : Inputs) (old new : FilesState) (status : Status)
+    → IsInputRefusedAs inputs old new status → IsNoTextOfAs q inputs old new status
+inputs_refused q inputs old new (Load name) x = x
+inputs_refused q inputs old new (TooLong name n) x = x
+inputs_refused q inputs old new (Malformed name spot) x = x
+inputs_refused q inputs old new Memory x = x
+inputs_refused q inputs old new _ x = absurd x
 
--- all are held
-abbrev pub all_held : (query : List ℕ) (inputs : Inputs) (q : Parsed) (d : Tree) (ds : List Tree) (old mid : FilesState)
-    → HoldsQuery old.held query q → KeepsFiles old mid → HoldsInputs mid.held inputs d ds
-    → HoldsAllOfQuery old.held query inputs
-all_held query inputs q d ds old mid held keeps x = record {
-  parsed = q;
-  document_tree = d;
-  further_trees = ds;
-  query_held = held;
-  inputs_held = rw keeps.held at x;
+-- the query gives no text on what the files hold
+pub none_given : (q : Parsed) (inputs : Inputs) (d : Tree) (ds : List Tree) (old new : FilesState) (status : Status)
+    → HoldsInputs old.held inputs d ds → IsNotGivenAs q inputs d ds status
+    → IsNoTextOfAs q inputs old new status
+none_given q inputs d ds old new (Dynamic code) docs x =
+    (record { document_tree = d; further_trees = ds; inputs_held = docs }, x)
+none_given q inputs d ds old new (Deep depth) docs x =
+    (record { document_tree = d; further_trees = ds; inputs_held = docs }, x.0, x.1)
+none_given q inputs d ds old new Memory docs x = x
+none_given q inputs d ds old new _ docs x = absurd x
+
+-- the text is what the query gives on what the files hold
+pub text_of_inputs : (files : Holdings) (q : Parsed) (inputs : Inputs) (d : Tree) (ds : List Tree) (text : List ℕ)
+    → HoldsInputs files inputs d ds → Gives q inputs d ds text → HasTextOf files q inputs text
+text_of_inputs files q inputs d ds text docs x = record {
+  held = record { document_tree = d; further_trees = ds; inputs_held = docs };
+  gives = x;
 }
 
--- there is no text, after all
-pub refused_third : (query : List ℕ) (inputs : Inputs) (q : Parsed) (d : Tree) (ds : List Tree) (old mid new : FilesState) (status : Status)
-    → HoldsQuery old.held query q → KeepsFiles old mid → HoldsInputs mid.held inputs d ds
-    → IsNotGivenAs q inputs d ds status
+-- the query and its inputs
+abbrev pub all_held : (query : List ℕ) (inputs : Inputs) (q : Parsed) (files : Holdings)
+    → HoldsQuery files query q → HoldsAllInputs files inputs → HoldsAllOfQuery files query inputs
+all_held query inputs q files held x = record {
+  parsed = q;
+  document_tree = x.document_tree;
+  further_trees = x.further_trees;
+  query_held = held;
+  inputs_held = x.inputs_held;
+}
+
+abbrev later : (inputs : Inputs) (old mid : FilesState) → KeepsFiles old mid
+    → HoldsAllInputs mid.held inputs → HoldsAllInputs old.held inputs
+later inputs old mid keeps x = record {
+  document_tree = x.document_tree;
+  further_trees = x.further_trees;
+  inputs_held = rw keeps.held at x.inputs_held;
+}
+
+-- there is no text of a query that is held
+pub refused_second : (query : List ℕ) (inputs : Inputs) (q : Parsed) (old mid new : FilesState) (status : Status)
+    → HoldsQuery old.held query q → KeepsFiles old mid → IsNoTextOfAs q inputs mid new status
     → IsNoQueryTextAs query inputs old new status
-refused_third query inputs q d ds old mid new (Dynamic code) held keeps docs x =
-    (all_held query inputs q d ds old mid held keeps docs, x)
-refused_third query inputs q d ds old mid new (Deep depth) held keeps docs x =
-    (all_held query inputs q d ds old mid held keeps docs, x.0, x.1)
-refused_third query inputs q d ds old mid new Memory held keeps docs x = x
-refused_third query inputs q d ds old mid new _ held keeps docs x = absurd x
+refused_second query inputs q old mid new (Load name) held keeps x = (
+  inr (record { query = q; held = held }, rw keeps.held at x.0),
+  failed_later old mid new (encode_utf8_all name) keeps x.1,
+)
+refused_second query inputs q old mid new (TooLong name n) held keeps x = (
+  inr (record { query = q; held = held }, rw keeps.held at x.0),
+  long_later old mid new (encode_utf8_all name) n keeps x.1,
+)
+refused_second query inputs q old mid new (Malformed name spot) held keeps x =
+    (record { query = q; held = held }, rw keeps.held at x)
+refused_second query inputs q old mid new (Dynamic code) held keeps x =
+    (all_held query inputs q old.held held (later inputs old mid keeps x.0), x.1)
+refused_second query inputs q old mid new (Deep depth) held keeps x =
+    (all_held query inputs q old.held held (later inputs old mid keeps x.0), x.1, x.2)
+refused_second query inputs q old mid new Memory held keeps x = x
+refused_second query inputs q old mid new _ held keeps x = absurd x
 
 -- the text is that of the request
-pub text_given : (query : List ℕ) (inputs : Inputs) (text : List ℕ) (q : Parsed) (d : Tree) (ds : List Tree) (old mid : FilesState)
-    → HoldsQuery old.held query q → KeepsFiles old mid → HoldsInputs mid.held inputs d ds
-    → Gives q inputs d ds text
+pub text_given : (query : List ℕ) (inputs : Inputs) (q : Parsed) (text : List ℕ) (old mid : FilesState)
+    → HoldsQuery old.held query q → KeepsFiles old mid → HasTextOf mid.held q inputs text
     → HasQueryText old.held query inputs text
-text_given query inputs text q d ds old mid held keeps docs x = record {
-  held = all_held query inputs q d ds old mid held keeps docs;
-  gives = x;
+text_given query inputs q text old mid held keeps x = record {
+  held = all_held query inputs q old.held held (later inputs old mid keeps x.held);
+  gives = x.gives;
 }
 
 -- the parameters are given as they are
@@ -149,7 +175,7 @@ pub run_on : (query : Parsed) (document : Tree) (set : DocumentSet) (i : InputsO
 unfolding outcome_on
 run_on query document set i given e =
     let same : given_texts given ≡ map given_of i.parameters =
-        ap given_texts e ∙ names_kept i.parameters in
+    ap given_texts e ∙ names_kept i.parameters in
     let asked : Run = record { query = query; documents = set; given = given_texts given } in
     let told : Run = record { query = query; documents = set; given = map given_of i.parameters } in
     let runs : asked ≡ told = λ j. record { query = query; documents = set; given = same j } in

@@ -16,6 +16,36 @@ use Rattle.run_parts.specs.declared.status.Status.TheVariants.{Dynamic, Deep, Me
 use Rattle.query_runs.specs.Queries.{HoldsQuery, HoldsSomeQuery, HoldsNoQuery, Gives, IsFailingOn}
 use Rattle.query_runs.specs.Queries.{items_of}
 
+-- what a query runs on, as the files hold it
+pub record HoldsAllInputs (files : Holdings) (inputs : Inputs) : Type 0 where
+  pub document_tree : Tree
+  pub further_trees : List Tree
+  pub inputs_held : HoldsInputs files inputs document_tree further_trees
+
+-- the text is what this query gives on the documents, as the files hold them
+pub record HasTextOf (files : Holdings) (query : Query) (inputs : Inputs) (text : List ℕ)
+    : Type 0 where
+  pub held : HoldsAllInputs files inputs
+  pub gives : Gives query inputs held.document_tree held.further_trees text
+
+-- why this query has no text
+abbrev pub IsNoTextOfAs : Query → Inputs → FilesState → FilesState → Status → Type 0
+IsNoTextOfAs query inputs old new (Load name) =
+    IsLoadedOf inputs old.held (encode_utf8_all name)
+    × IsLoadFailure old new (encode_utf8_all name)
+IsNoTextOfAs query inputs old new (TooLong name n) =
+    IsLoadedOf inputs old.held (encode_utf8_all name) × IsTooLong old new (encode_utf8_all name) n
+IsNoTextOfAs query inputs old new (Malformed name spot) =
+    IsMalformedOf inputs old.held (encode_utf8_all name) spot
+IsNoTextOfAs query inputs old new (Dynamic code) =
+    (all : HoldsAllInputs old.held inputs)
+    × IsFailingOn query inputs all.document_tree all.further_trees code
+IsNoTextOfAs query inputs old new (Deep depth) =
+    (all : HoldsAllInputs old.held inputs) × (depth ≡ inputs.depth)
+    × (items_of query inputs all.document_tree all.further_trees ≡ outcome.Deep)
+IsNoTextOfAs query inputs old new Memory = ⊤
+IsNoTextOfAs query inputs old new _ = ⊥
+
 -- a query and what it runs on, as the files hold them
 pub record HoldsAllOfQuery (files : Holdings) (query : List ℕ) (inputs : Inputs) : Type 0 where
   pub parsed : Query

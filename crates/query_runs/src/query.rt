@@ -4,7 +4,7 @@ ghost use Rattle.xt_io.specs.Files.{KeepsFiles};
 ghost use Rattle.doc_set.specs.Sets.{is_named};
 ghost use Rattle.command_words.specs.Requests.{inputs_in};
 ghost use Rattle.command_words.specs.Texts.{are_different};
-ghost use Rattle.query_runs.specs.Texts.{HasQueryText, IsNoQueryTextAs};
+ghost use Rattle.query_runs.specs.Texts.{HasQueryText, IsNoQueryTextAs, HasTextOf, IsNoTextOfAs};
 ghost use Rattle.std.specs.Str.{chars};
 ghost use Rattle.xquery_syntax.specs.Spelled.{SpellsWithin};
 ghost use Rattle.query_runs.specs.Queries.{HoldsQuery, IsQuery, IsNoQueryAs, IsQueryRefusedAs};
@@ -57,11 +57,29 @@ pub fn query_text<F: Files>(
     ensures keeps { KeepsFiles (F.state files.old) (F.state files.new) }
 {
     let query = load_query(alloc, query, files)?;
-    let trees = load_inputs(alloc, inputs, files)?;
-    let text = result_text(alloc, &query, inputs, &trees);
+    let text = text_on(alloc, &query, inputs, files);
     // The run is over, and the system takes its memory back at once.
-    forget(trees);
     forget(query);
+    text
+}
+
+// The text of what the query gives on the documents that the inputs name.
+fn text_on<F: Files>(
+    alloc: Global,
+    query: &Query,
+    inputs: &Inputs<'_>,
+    files: &mut F,
+) -> Result<Vec<u8>, Status>
+    requires { are_different (inputs_in inputs.now).documents ≡ true }
+    ensures text { IfOk result (λ text.
+        HasTextOf (F.state files.old).held query.now (inputs_in inputs.now) text.items) }
+    ensures refused { IfErr result (IsNoTextOfAs
+        query.now (inputs_in inputs.now) (F.state files.old) (F.state files.new)) }
+    ensures keeps { KeepsFiles (F.state files.old) (F.state files.new) }
+{
+    let trees = load_inputs(alloc, inputs, files)?;
+    let text = result_text(alloc, query, inputs, &trees);
+    forget(trees);
     text
 }
 

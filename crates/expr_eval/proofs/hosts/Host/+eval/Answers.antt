@@ -33,7 +33,7 @@ use Rattle.expr_eval.proofs.Keys.{flwor_fault, flwor_order_fault, flwor_ends, ro
 use Rattle.expr_eval.proofs.Keys.{row_dropped, row_keys_fault, row_made}
 use Rattle.eval_steps.proofs.Places.{places_by_count, path_by_count, count_is, path_count_is}
 use Rattle.eval_steps.proofs.Places.{slash_fault, slash_answers}
-use Rattle.eval_steps.proofs.CallLemmas.{call_of_one, filter_at}
+use Rattle.eval_steps.proofs.CallLemmas.{call_of_one, filter_at, int_means}
 use Rattle.std.proofs.Common.{ℤ, subst}
 use Rattle.std.specs.Prelude.{FitsSigned}
 use Rattle.std.specs.Int.{w64}
@@ -1067,6 +1067,12 @@ eval_filter-returns-in_ok-items-in-Some g t c =
     (kept (literal n) (env_of c.args.env.now) (given c.in_ok-items-in-Some.items.moves)
     c.eval_late.new.next)) (to_z-of_z w64 c.in-Some.place fits)
     (c.late_item.ensures (env_of c.args.env.now) c.eval_late.new.next))
+
+pub eval-returns-in-Int : goal.eval-returns-in-Int
+eval-returns-in-Int g t c =
+    let p = program_of c.args.self.now.fixed (g.G.Callee.calls c.args.self.now.given)
+    (g.G.Callee.keys c.args.self.now.given) in
+    rw (c.in-Int.is, int_means p c.in-Int.number) (c.literal_integer.ensures c.args.next.now)
 
 pub eval-returns-in-Var : goal.eval-returns-in-Var
 eval-returns-in-Var g t c =
