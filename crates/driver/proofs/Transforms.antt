@@ -1,11 +1,11 @@
 -- How the refusals of the parts make the refusals of a request for a stylesheet's run.
-use Rattle.std.proofs.Common.{◌≡◌, ℕ, List, inl, inr, refl}
+use Rattle.std.proofs.Common.{ℕ, List, inl, inr}
 use Rattle.std.specs.Str.{encode_utf8_all}
 use Rattle.xt_io.specs.Files.{FilesState, KeepsFiles}
 use Rattle.xt_tree.specs.declared.trees.Tree.{Tree}
 use Rattle.command_words.specs.Requests.{Transform, Inputs}
 use Rattle.run_parts.specs.Inputs.{HoldsSheet, HoldsNoSheet, HoldsInputs, IsReadRefusedAs}
-use Rattle.run_parts.specs.Inputs.{IsInputRefusedAs, IsLoadedOf, IsMalformedOf}
+use Rattle.run_parts.specs.Inputs.{IsInputRefusedAs}
 use Rattle.driver.specs.Meaning.{HoldsAll, HasText, IsRefusedAs}
 use Rattle.run_parts.specs.Result.{Makes, IsResultRefusedAs}
 use Rattle.run_parts.specs.declared.status.Status.{Status}

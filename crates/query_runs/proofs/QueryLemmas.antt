@@ -1,18 +1,17 @@
 -- How the refusals of the parts make the refusals of a request for a query's run.
-use Rattle.std.proofs.Common.{◌≡◌, ℕ, ◌+◌, List, [], ◌∷◌, length, map, inl, inr, refl, sym, ap, ◌∙◌, Bool}
+use Rattle.std.proofs.Common.{◌≡◌, ℕ, ◌+◌, List, [], ◌∷◌, length, map, inl, inr, refl, sym, ap, ◌∙◌}
 use Rattle.std.proofs.Common.{None, Some, subst, chars}
-use Rattle.std.specs.Str.{encode_utf8_all, IsUtf8}
+use Rattle.std.specs.Str.{encode_utf8_all}
 use Rattle.xt_io.specs.Files.{FilesState, KeepsFiles}
 use Rattle.xt_tree.specs.declared.trees.Tree.{Tree}
 use Rattle.xdm_items.specs.declared.items.Item.{Item}
 use Rattle.xt_syntax.specs.declared.queries.Query.{Query as Parsed}
-use Rattle.xquery_syntax.specs.Spelled.{SpellsWithin, Parsed as IsAnswer}
+use Rattle.xquery_syntax.specs.Spelled.{Parsed as IsAnswer}
 use Rattle.xt_syntax.specs.declared.prefixes.ParseFault.{ParseFault}
 use Rattle.xt_syntax.specs.declared.prefixes.ParseFault.TheVariants.{Syntax, TooDeep}
 use Rattle.xt_syntax.specs.declared.prefixes.ParseFault.TheVariants as parse_variants
 use Rattle.std.specs.Prelude.{Err}
-use Rattle.outcomes.specs.Outcome.{Outcome, Ends, Fails}
-use Rattle.outcomes.specs.Outcome as outcome
+use Rattle.outcomes.specs.Outcome.{Outcome, Ends}
 use Rattle.expr_meaning.specs.Queries.{Run, query_outcome}
 use Rattle.xdm_items.specs.declared.items.Item.TheVariants.{Node as a_node}
 use Rattle.doc_set.specs.Sets.{DocumentSet}

@@ -1,4 +1,4 @@
-use Rattle.std.proofs.Common.{◌≡◌, chars, subst, sym}
+use Rattle.std.proofs.Common.{chars, subst, sym}
 use Rattle.query_runs.specs.Queries.{IsNoneAs}
 use Rattle.query_runs.proofs.QueryLemmas.{none_told}
 use Rattle.query_runs.proofs.query.parsed.Goals as goal
