@@ -8,6 +8,7 @@ set -eu
 
 top=$(dirname "$(dirname "$(readlink -f "${BASH_SOURCE[0]}")")")
 data=$top/bench/data
+source "$top/bench/measure.sh"
 
 case ${1-} in
 '')
@@ -28,22 +29,6 @@ mkdir -p "$data"
 sheet=$data/one-element.xsl
 printf '%s' '<xsl:stylesheet version="2.0" xmlns:xsl="http://www.w3.org/1999/XSL/Transform">' \
     '<xsl:template match="/"><r/></xsl:template></xsl:stylesheet>' >"$sheet"
-
-# The smallest user time and the smallest peak of three runs, and the status of the last.
-measure() {
-    local name=$1 times status=0
-    shift
-    times=$(mktemp)
-    for _ in 1 2 3; do
-        status=0
-        /usr/bin/time -q -a -o "$times" -f '%U %M' "$@" >/dev/null 2>&1 || status=$?
-    done
-    awk -v name="$name" -v status="$status" '
-        NR == 1 || $1 < user { user = $1 }
-        NR == 1 || $2 < peak { peak = $2 }
-        END { printf "%-10s user %7.2f s   peak %9d kB   status %d\n", name, user, peak, status }' "$times"
-    rm -f "$times"
-}
 
 # Proves and builds it where need be.
 "$top/xslt2xq" transform "$sheet" "$document" >/dev/null || true
