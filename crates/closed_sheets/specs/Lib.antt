@@ -1,0 +1,4 @@
+pub mod Forms
+pub mod Values
+pub mod Instrs
+pub mod Sheets
