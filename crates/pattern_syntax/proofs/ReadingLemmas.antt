@@ -38,20 +38,23 @@ use Rattle.pattern_syntax.specs.Meant.{patterns_of, pattern_broken, is_allowed, 
 use Rattle.pattern_syntax.specs.Readings.{value, syntax, static, too_deep}
 use Rattle.pattern_syntax.specs.Readings.{value_or, resolved, shaped, answer_of}
 use Rattle.pattern_syntax.specs.Readings.{reading_in, begins_with_key, reading_tokens}
+use Rattle.pattern_syntax.specs.Readings.{keyed, unless_key}
 use Rattle.pattern_syntax.specs.Readings.{pattern_reading, unplaced, IsLexed, Gives, GivesText}
-use Rattle.pattern_syntax.specs.Spelled.{IsRead, IsMeant, Spells, SpellsWithin, shapeless}
+use Rattle.pattern_syntax.specs.Spelled.{IsRead, IsKeyForm, IsSupported, IsMeant, Spells}
+use Rattle.pattern_syntax.specs.Spelled.{SpellsWithin, shapeless}
 use Rattle.pattern_syntax.specs.Spelled.{breaks, unsupported, IsRefused, key_form, refused}
 use Rattle.pattern_syntax.specs.Spelled.{IsTooDeep, Parsed}
 use Rattle.pattern_syntax.proofs.BrokenLemmas.{pattern_breaks}
+use Rattle.pattern_syntax.proofs.KeyLemmas.{no_key}
 
 wrong : {P : Type 0} → true ≡ false → P
 wrong e = cc
 
 -- tokens of the grammar
 pub reads_terms : (s : Setting) (k : ℕ) (ts : List Written) (r : Result (List Pattern) ParseFault)
-    (o : Option (List Token)) → begins_with_key ts ≡ false → o ≡ terms_of ts
-    → Gives r (reading_in s k o) → Gives r (reading_tokens s k ts)
-reads_terms s k ts r o n e g = rw n (subst (λ x. Gives r (reading_in s k x)) e g)
+    (o : Option (List Token)) → o ≡ terms_of ts → Gives r (reading_in s k o)
+    → Gives r (reading_in s k (terms_of ts))
+reads_terms s k ts r o e g = subst (λ x. Gives r (reading_in s k x)) e g
 
 pub ruleset reads = (reads_terms)
 
@@ -135,14 +138,29 @@ lexed_once text (Some ts) (Some us) x y = ap Some (x.1.1
 
 -- what is read
 is_read : (text : List ℕ) (ts : List Written) (us : List Token) (raw : Raw)
-    → IsLexed text (Some ts) → begins_with_key ts ≡ false → terms_of ts ≡ Some us
+    → IsLexed text (Some ts) → terms_of ts ≡ Some us
     → read_whole xpath us ≡ Some raw → IsRead text raw
-is_read text ts us raw l n e f = record {
+is_read text ts us raw l e f = record {
   tokens = ts;
   lexed = l;
-  supported = n;
   is_written =
       record { terms = us; are = e; spelled = runs_spells f };
+}
+
+is_supported : (text : List ℕ) (ts : List Written) (us : List Token) (raw : Raw)
+    → IsLexed text (Some ts) → begins_with_key ts ≡ false → terms_of ts ≡ Some us
+    → read_whole xpath us ≡ Some raw → IsSupported text raw
+unfolding is_read
+is_supported text ts us raw l n e f = record { read = is_read text ts us raw l e f; keyless = n }
+
+is_key_form : (text : List ℕ) (ts : List Written) (us : List Token) (raw : Raw)
+    → IsLexed text (Some ts) → begins_with_key ts ≡ true → terms_of ts ≡ Some us
+    → read_whole xpath us ≡ Some raw → IsKeyForm text
+unfolding is_read
+is_key_form text ts us raw l n e f = record {
+  raw = raw;
+  read = is_read text ts us raw l e f;
+  keyed = n;
 }
 
 not_lexed : (text : List ℕ) → IsLexed text None → (ts : List Written) (raw : Raw)
@@ -169,15 +187,15 @@ not_read : (text : List ℕ) (ts : List Written) (us : List Token) → IsLexed t
 not_read text ts us l e f vs raw m w = none-some _ (sym f
     ∙ only_one ts us raw e (subst (λ x. IsWritten x raw) (sym (same_tokens text ts vs l m)) w))
 
-too_deep_text : (k : ℕ) (text : List ℕ) (raw : Raw) → IsRead text raw
+too_deep_text : (k : ℕ) (text : List ℕ) (raw : Raw) → IsSupported text raw
     → k < predicate_nest_of raw → IsTooDeep k text
-too_deep_text k text raw r n =
-    let a : raw_nest_of raw ≤ 1 + length r.is_written.terms = spelled_within r.is_written.spelled
-    in
-    let b : length r.is_written.terms ≡ length r.tokens = terms_length r.tokens r.is_written.terms
-    r.is_written.are in
+too_deep_text k text raw w n =
+    let a : raw_nest_of raw ≤ 1 + length w.read.is_written.terms = spelled_within
+    w.read.is_written.spelled in
+    let b : length w.read.is_written.terms ≡ length w.read.tokens = terms_length w.read.tokens
+    w.read.is_written.terms w.read.is_written.are in
     let c : predicate_nest_of raw ≤ raw_nest_of raw = within-less raw in
-    record { raw = raw; is_read = r; nests = n; long = omega arith }
+    record { raw = raw; supported = w; nests = n; long = omega arith }
 
 -- an answer by the case that it is
 module _ (s : Setting) (k : ℕ) (text : List ℕ) where
@@ -224,13 +242,13 @@ module _ (s : Setting) (k : ℕ) (text : List ℕ) where
   first_some [] ys c e = absurd (none-some _ e)
   first_some (x ∷ xs) ys c e = e
 
-  for_allowed : (r : Result (List Pattern) ParseFault) (raw : Raw) (b : Bool) → IsRead text raw
+  for_allowed : (r : Result (List Pattern) ParseFault) (raw : Raw) (b : Bool) → IsSupported text raw
       → predicate_nest_of raw ≤ k → is_pattern raw ≡ true → broken_of s raw ≡ []
       → is_allowed s raw ≡ b → Gives r (value_or (first (cond b [] (SheetStatic XTUN0001 ∷ [])))
       (patterns_of s raw)) → Parsed r s k text
   for_allowed r raw true w n p b a g = for_value r (patterns_of s raw) (record {
     raw = raw;
-    is_read = w;
+    is_read = w.read;
     nests = n;
     is_meant = record {
       shape = p;
@@ -244,20 +262,20 @@ module _ (s : Setting) (k : ℕ) (text : List ℕ) where
       (unsupported p b a)) g
 
   for_rules : (r : Result (List Pattern) ParseFault) (raw : Raw) (codes : List Code)
-      → IsRead text raw → predicate_nest_of raw ≤ k → is_pattern raw ≡ true
+      → IsSupported text raw → predicate_nest_of raw ≤ k → is_pattern raw ≡ true
       → broken_of s raw ≡ codes → Gives r (value_or (first (codes ++ left_out s raw)) (patterns_of
       s raw)) → Parsed r s k text
   for_rules r raw [] w n p b g = for_allowed r raw (is_allowed s raw) w n p b refl g
   for_rules r raw (c ∷ cs) w n p b g = for_static r c (refused w n (breaks p (ap first b))) g
 
-  for_shape : (r : Result (List Pattern) ParseFault) (raw : Raw) (b : Bool) → IsRead text raw
+  for_shape : (r : Result (List Pattern) ParseFault) (raw : Raw) (b : Bool) → IsSupported text raw
       → predicate_nest_of raw ≤ k → is_pattern raw ≡ b
       → Gives r (cond b (resolved s raw) (static (SheetStatic XTSE0340))) → Parsed r s k text
   for_shape r raw true w n p g = for_rules r raw (broken_of s raw) w n p refl (subst (λ xs. Gives
       r (value_or (first (xs ++ left_out s raw)) (patterns_of s raw))) (pattern_breaks s raw p) g)
   for_shape r raw false w n p g = for_static r (SheetStatic XTSE0340) (refused w n (shapeless p)) g
 
-  for_nest : (r : Result (List Pattern) ParseFault) (raw : Raw) (b : Bool) → IsRead text raw
+  for_nest : (r : Result (List Pattern) ParseFault) (raw : Raw) (b : Bool) → IsSupported text raw
       → nat_le (predicate_nest_of raw) k ≡ b
       → Gives r (answer_of s (cond b (read.Value raw) read.TooDeep)) → Parsed r s k text
   for_nest r raw true w e g = for_shape r raw (is_pattern raw) w (leb-true _ _ e) refl g
@@ -269,7 +287,7 @@ module _ (s : Setting) (k : ℕ) (text : List ℕ) where
       → Parsed r s k text
   for_read r ts us None l n e f g = for_syntax r (not_read text ts us l e f) g
   for_read r ts us (Some raw) l n e f g = for_nest r raw (nat_le (predicate_nest_of raw) k)
-      (is_read text ts us raw l n e f) refl g
+      (is_supported text ts us raw l n e f) refl g
 
   for_terms : (r : Result (List Pattern) ParseFault) (ts : List Written) (o : Option (List Token))
       → IsLexed text (Some ts) → begins_with_key ts ≡ false → terms_of ts ≡ o
@@ -277,11 +295,42 @@ module _ (s : Setting) (k : ℕ) (text : List ℕ) where
   for_terms r ts None l n e g = for_syntax r (not_terms text ts l e) g
   for_terms r ts (Some us) l n e g = for_read r ts us (read_whole xpath us) l n e refl g
 
+  -- what begins with `key(` or `id(`
+  keyed_value : (o : Option Code) (ps : List Pattern) → keyed (value_or o ps)
+      ≡ static (SheetStatic XTUN0001)
+  keyed_value None ps = refl
+  keyed_value (Some c) ps = refl
+
+  keyed_shape : (raw : Raw) (b : Bool) → keyed (cond b (resolved s raw) (static (SheetStatic
+      XTSE0340))) ≡ static (SheetStatic XTUN0001)
+  keyed_shape raw true = keyed_value (first (pattern_broken s raw ++ left_out s raw)) (patterns_of
+      s raw)
+  keyed_shape raw false = refl
+
+  keyed_reading : (raw : Raw) (b : Bool) → keyed (answer_of s (cond b (read.Value raw)
+      read.TooDeep)) ≡ static (SheetStatic XTUN0001)
+  keyed_reading raw true = keyed_shape raw (is_pattern raw)
+  keyed_reading raw false = refl
+
+  for_keyed_read : (r : Result (List Pattern) ParseFault) (ts : List Written) (us : List Token) (o
+      : Option Raw) → IsLexed text (Some ts) → begins_with_key ts ≡ true → terms_of ts ≡ Some us
+      → read_whole xpath us ≡ o → Gives r (keyed (answer_of s (within_by Predicates k o)))
+      → Parsed r s k text
+  for_keyed_read r ts us None l n e f g = for_syntax r (not_read text ts us l e f) g
+  for_keyed_read r ts us (Some raw) l n e f g = for_static r (SheetStatic XTUN0001) (key_form
+      (is_key_form text ts us raw l n e f)) (subst (Gives r) (keyed_reading raw (nat_le
+      (predicate_nest_of raw) k)) g)
+
+  for_keyed : (r : Result (List Pattern) ParseFault) (ts : List Written) (o : Option (List Token))
+      → IsLexed text (Some ts) → begins_with_key ts ≡ true → terms_of ts ≡ o
+      → Gives r (keyed (reading_in s k o)) → Parsed r s k text
+  for_keyed r ts None l n e g = for_syntax r (not_terms text ts l e) g
+  for_keyed r ts (Some us) l n e g = for_keyed_read r ts us (read_whole xpath us) l n e refl g
+
   for_key : (r : Result (List Pattern) ParseFault) (ts : List Written) (b : Bool)
       → IsLexed text (Some ts) → begins_with_key ts ≡ b
-      → Gives r (cond b (static (SheetStatic XTUN0001)) (reading_in s k (terms_of ts)))
-      → Parsed r s k text
-  for_key r ts true l e g = for_static r (SheetStatic XTUN0001) (key_form l e) g
+      → Gives r (unless_key b (reading_in s k (terms_of ts))) → Parsed r s k text
+  for_key r ts true l e g = for_keyed r ts (terms_of ts) l e refl g
   for_key r ts false l e g = for_terms r ts (terms_of ts) l e refl g
 
   for_text : (r : Result (List Pattern) ParseFault) (o : Option (List Written)) → IsLexed text o
@@ -321,8 +370,8 @@ spelled_reads s k text o ps l w =
     w.is_read.is_written.spelled in
     let h : nat_le (predicate_nest_of w.raw) k ≡ true = le-leb _ _ w.nests in
     ap (pattern_reading s k) t
-    ∙ ap (λ b. cond b (static (SheetStatic XTUN0001)) (reading_in s k (terms_of
-    w.is_read.tokens))) w.is_read.supported
+    ∙ ap (λ b. unless_key b (reading_in s k (terms_of w.is_read.tokens))) (no_key w.is_read.tokens
+    w.raw w.is_read.is_written w.is_meant.shape)
     ∙ ap (reading_in s k) w.is_read.is_written.are
     ∙ ap (λ o. answer_of s (within_by Predicates k o)) f
     ∙ ap (λ b. answer_of s (cond b (read.Value w.raw) read.TooDeep)) h

@@ -75,9 +75,18 @@ begins_with_key [] = false
 begins_with_key (t ∷ []) = false
 begins_with_key (t ∷ u ∷ ts) = is_key_text t.kind t.characters && is_open_text u.kind u.characters
 
+-- of what spells an expression, what begins so is refused for it before all else
+abbrev pub keyed : Answer → Answer
+keyed syntax = syntax
+keyed (value ps) = static (SheetStatic XTUN0001)
+keyed (static c) = static (SheetStatic XTUN0001)
+keyed too_deep = static (SheetStatic XTUN0001)
+
+abbrev pub unless_key : Bool → Answer → Answer
+unless_key b a = if b then keyed a else a
+
 abbrev pub reading_tokens : Setting → ℕ → List Written → Answer
-reading_tokens s k ts =
-    if begins_with_key ts then static (SheetStatic XTUN0001) else reading_in s k (terms_of ts)
+reading_tokens s k ts = unless_key (begins_with_key ts) (reading_in s k (terms_of ts))
 
 -- the answer for the tokens of a text, where it has some
 abbrev pub pattern_reading : Setting → ℕ → Option (List Written) → Answer

@@ -19,12 +19,22 @@ use Rattle.pattern_shapes.specs.Shapes.{is_pattern}
 use Rattle.pattern_syntax.specs.Meant.{patterns_of, is_allowed}
 use Rattle.pattern_syntax.specs.Readings.{IsLexed, begins_with_key}
 
--- the text spells the raw value, and is no call of key() or id()
+-- the text spells the raw value
 pub record IsRead (text : List ℕ) (raw : Raw) : Type 0 where
   pub tokens : List Written
   pub lexed : IsLexed text (Some tokens)
-  pub supported : begins_with_key tokens ≡ false
   pub is_written : IsWritten tokens raw
+
+-- .. and begins with `key(` or `id(`
+pub record IsKeyForm (text : List ℕ) : Type 0 where
+  pub raw : Raw
+  pub read : IsRead text raw
+  pub keyed : begins_with_key read.tokens ≡ true
+
+-- .. or does not
+pub record IsSupported (text : List ℕ) (raw : Raw) : Type 0 where
+  pub read : IsRead text raw
+  pub keyless : begins_with_key read.tokens ≡ false
 
 -- the raw value is a pattern, and means these alternatives
 pub record IsMeant (s : Setting) (raw : Raw) (ps : List Pattern) : Type 0 where
@@ -55,17 +65,16 @@ pub data Why (s : Setting) (raw : Raw) : Code → Type 0 where
       → Why s raw (SheetStatic XTUN0001)
 
 pub data IsRefused (s : Setting) (k : ℕ) (text : List ℕ) : Code → Type 0 where
-  key_form : {tokens : List Written} → IsLexed text (Some tokens)
-      → begins_with_key tokens ≡ true → IsRefused s k text (SheetStatic XTUN0001)
-  refused : {raw : Raw} {c : Code} → IsRead text raw → predicate_nest_of raw ≤ k → Why s raw c
-      → IsRefused s k text c
+  key_form : IsKeyForm text → IsRefused s k text (SheetStatic XTUN0001)
+  refused : {raw : Raw} {c : Code} → IsSupported text raw → predicate_nest_of raw ≤ k
+      → Why s raw c → IsRefused s k text c
 
 -- some predicate nests deeper, and so there are as many tokens as the limit at least
 pub record IsTooDeep (k : ℕ) (text : List ℕ) : Type 0 where
   pub raw : Raw
-  pub is_read : IsRead text raw
+  pub supported : IsSupported text raw
   pub nests : k < predicate_nest_of raw
-  pub long : k ≤ length is_read.tokens
+  pub long : k ≤ length supported.read.tokens
 
 -- what the answer of the parser says of the text
 abbrev pub Parsed : Result (List Pattern) ParseFault → Setting → ℕ → List ℕ → Type 0

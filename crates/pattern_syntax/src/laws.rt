@@ -1,5 +1,5 @@
 // What texts spell.
-ghost use Rattle.std.specs.Prelude.{◌≡◌, ◌↔◌, ℕ, List, Option, map, true};
+ghost use Rattle.std.specs.Prelude.{◌≡◌, ◌↔◌, ℕ, List, Option, map, true, false};
 ghost use Rattle.xt_syntax.specs.declared.patterns.Pattern.{Pattern};
 ghost use Rattle.expr_terms.specs.declared.raws.Raw.{Raw};
 ghost use Rattle.expr_terms.specs.Nest.{raw_nest_of};
@@ -11,10 +11,12 @@ ghost use Rattle.expr_nest.specs.Measures.{predicate_nest_of};
 ghost use Rattle.expr_resolve.specs.declared.setting.Setting.{Setting};
 ghost use Rattle.expr_resolve.specs.Folds.{broken_of};
 ghost use Rattle.expr_tokens.specs.Terms.{Written};
+ghost use Rattle.xpath_syntax.specs.Spelled.{IsWritten};
 ghost use Rattle.pattern_shapes.specs.Shapes.{is_pattern};
 ghost use Rattle.pattern_syntax.specs.Meant.{pattern_broken};
 ghost use Rattle.pattern_syntax.specs.Predicates.{deepest, pattern_parts};
 ghost use Rattle.pattern_syntax.specs.Readings.{IsLexed, pattern_reading, value};
+ghost use Rattle.pattern_syntax.specs.Readings.{begins_with_key};
 ghost use Rattle.pattern_syntax.specs.Spelled.{Spells, SpellsWithin};
 
 /// A text has one list of tokens at most, and spells one list of alternatives at most.
@@ -48,4 +50,11 @@ pub fn a_pattern_nests_as_its_predicates()
         → predicate_nest_of raw ≡ deepest (pattern_parts raw) }
     ensures tests { (l : Language) (ts rest : List Token) (v : Raw)
         → Derives l node_test ts v rest → raw_nest_of v ≡ 0 }
+{}
+
+/// No pattern begins with `key(` or `id(`: a text that does is refused for that form alone, and no
+/// pattern of another form is refused with it (XSLT 2.0, 5.5.2).
+pub fn no_pattern_begins_with_key()
+    ensures { (tokens : List Written) (raw : Raw) → IsWritten tokens raw → is_pattern raw ≡ true
+        → begins_with_key tokens ≡ false }
 {}

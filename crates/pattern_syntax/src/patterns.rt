@@ -6,13 +6,15 @@ ghost use Rattle.xt_names.specs.declared.codes.Code.{Code};
 ghost use Rattle.xt_names.specs.declared.codes.Code.TheVariants.{SheetStatic};
 ghost use Rattle.xt_names.specs.declared.codes.SheetStaticCode.TheVariants.{XTUN0001};
 ghost use Rattle.expr_terms.specs.declared.raws.Raw.{Raw};
-ghost use Rattle.expr_tokens.specs.Terms.{written};
+ghost use Rattle.xt_syntax.specs.declared.prefixes.ParseFault.TheVariants.{Static};
+ghost use Rattle.expr_tokens.specs.Terms.{written, terms_of};
 ghost use Rattle.expr_names.specs.Answers.{Answers};
 ghost use Rattle.expr_resolve.specs.declared.setting.Setting.{Setting};
 ghost use Rattle.pattern_syntax.specs.Meant.{patterns_of, have_allowed};
 ghost use Rattle.pattern_syntax.specs.Readings.{Gives, GivesText, resolved, shaped, rules_broken};
-ghost use Rattle.pattern_syntax.specs.Readings.{reading_of, reading_tokens, begins_with_key};
-ghost use Rattle.pattern_syntax.specs.Readings.{is_key_text, is_open_text};
+ghost use Rattle.pattern_syntax.specs.Readings.{reading_of, reading_in, reading_tokens};
+ghost use Rattle.pattern_syntax.specs.Readings.{begins_with_key, is_key_text, is_open_text};
+ghost use Rattle.pattern_syntax.specs.Readings.{Answer, keyed};
 ghost use Rattle.pattern_syntax.specs.Spelled.{Parsed};
 
 use crate::alternatives::{are_allowed, patterns};
@@ -126,8 +128,46 @@ fn read(
     }
 }
 
-/// What the tokens of a text are read as.
+/// What the tokens of a text are read as, whatever they begin with.
 #[tactic(auto, using(crate::proofs::ReadingLemmas::reads))]
+fn read_terms(
+    alloc: Global,
+    s: &Setting,
+    limit: u16,
+    tokens: &[Token<'_>],
+) -> Result<List<Pattern>, ParseFault>
+    ensures { Gives result (reading_in s.now limit (terms_of (map written tokens.now))) }
+{
+    match terms(alloc, tokens) {
+        Err(e) => Err(ParseFault::Memory(e)),
+        Ok(None) => Err(ParseFault::Syntax),
+        Ok(Some(terms)) => read(alloc, s, limit, terms),
+    }
+}
+
+fn key_fault() -> ParseFault
+    ensures { result ≡ Static (SheetStatic XTUN0001) }
+{
+    ParseFault::Static(Code::SheetStatic(SheetStaticCode::XTUN0001))
+}
+
+/// XTUN0001 in place of what an expression gives that begins with `key(` or `id(`.
+fn keyed(found: Result<List<Pattern>, ParseFault>) -> Result<List<Pattern>, ParseFault>
+    ensures { (a : Answer) → Gives found a → Gives result (keyed a) }
+{
+    match found {
+        Ok(all) => {
+            drop(all);
+            Err(key_fault())
+        }
+        Err(ParseFault::Static(_)) => Err(key_fault()),
+        Err(ParseFault::TooDeep) => Err(key_fault()),
+        Err(ParseFault::Syntax) => Err(ParseFault::Syntax),
+        Err(ParseFault::Memory(e)) => Err(ParseFault::Memory(e)),
+    }
+}
+
+/// What the tokens of a text are read as.
 fn read_tokens(
     alloc: Global,
     s: &Setting,
@@ -136,13 +176,11 @@ fn read_tokens(
 ) -> Result<List<Pattern>, ParseFault>
     ensures { Gives result (reading_tokens s.now limit (map written tokens.now)) }
 {
+    let found = read_terms(alloc, s, limit, tokens);
     if begins_with_key(tokens) {
-        return Err(ParseFault::Static(Code::SheetStatic(SheetStaticCode::XTUN0001)));
-    }
-    match terms(alloc, tokens) {
-        Err(e) => Err(ParseFault::Memory(e)),
-        Ok(None) => Err(ParseFault::Syntax),
-        Ok(Some(terms)) => read(alloc, s, limit, terms),
+        keyed(found)
+    } else {
+        found
     }
 }
 
@@ -170,12 +208,12 @@ fn parse_within(
 /// The alternatives of the pattern that the text spells, in order, as prefixes and names without
 /// prefix are resolved here (XSLT 2.0, 5.5.2).
 ///
-/// Where it spells none, the cause is the first of these: `Static(XTUN0001)` where its first
-/// tokens are `key` or `id` and then `(`; `Syntax` where it spells no expression; `TooDeep` where
-/// what it spells nests deeper than 40 levels, of which a pattern has as many as the deepest of
-/// its predicates (there are as many tokens at least); `Static(XTSE0340)` where that has not the
-/// shape of a pattern; `Static` with the code of the first static rule of expressions that it
-/// breaks; and `Static(XTUN0001)` where a test or a predicate is one that patterns have not.
+/// Where it spells none, the cause is the first of these: `Syntax` where it spells no expression;
+/// `Static(XTUN0001)` where its first tokens are `key` or `id` and then `(`; `TooDeep` where what it
+/// spells nests deeper than 40 levels, of which a pattern has as many as the deepest of its predicates
+/// (there are as many tokens at least); `Static(XTSE0340)` where that has not the shape of a pattern;
+/// `Static` with the code of the first static rule of expressions that it breaks; and
+/// `Static(XTUN0001)` where a test or a predicate is one that patterns have not.
 #[tactic(auto, using(crate::proofs::ReadingLemmas::answers))]
 pub fn parse_pattern(
     alloc: Global,

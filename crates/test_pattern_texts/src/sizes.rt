@@ -63,6 +63,7 @@ fn predicates_nest_to_the_limit(rt: HostRuntime) {
         ("(", "a", 1000, ")", "XTSE0340"),
         ("-", "a", 39, "", "XTSE0340"),
         ("-", "a", 40, "", "too deep"),
+        ("key(", "a", 41, ")", "XTUN0001"),
     ];
     for (front, text, times, end, wanted) in cases {
         let words = repeated(&rt, front, text, times, end);

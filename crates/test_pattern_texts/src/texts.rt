@@ -72,6 +72,8 @@ fn what_is_no_expression(rt: HostRuntime) {
         "#",
         "a[#]",
         "a[99999999999999999999]",
+        "key ( 'a'",
+        "id(99999999999999999999)",
     ];
     for words in cases {
         let found = shown(&rt, "", words);
@@ -117,10 +119,9 @@ fn what_has_another_shape(rt: HostRuntime) {
 fn what_is_left_out(rt: HostRuntime) {
     let cases = [
         "key('a', 'b')",
-        "key ( 'a'",
+        "key ( 'a', q:b )",
         "key('a', 'b')/c",
         "id('x')",
-        "id(99999999999999999999)",
         "document-node()",
         "child::document-node()/a",
         "element()",
