@@ -1,0 +1,16 @@
+-- What texts mean where they stand, and which rules they break there. E is the type of what
+-- expressions are read as, P that of the alternatives of patterns.
+use Rattle.std.specs.Prelude.{ℕ, List}
+use Rattle.xt_names.specs.declared.codes.Code.{Code}
+use Rattle.xt_types.specs.declared.types.SeqType.{SeqType}
+use Rattle.sheet_texts.specs.declared.places.Place.{Place}
+
+-- of each kind of text all rules that are broken, in reading order, and the value, which says
+-- something where none is
+pub record Reading (E P : Type 0) : Type 0 where
+  pub expr_faults : Place → List ℕ → List Code
+  pub expr_value : Place → List ℕ → E
+  pub patterns_faults : Place → List ℕ → List Code
+  pub patterns_value : Place → List ℕ → List P
+  pub type_faults : Place → List ℕ → List Code
+  pub type_value : Place → List ℕ → SeqType

@@ -1,0 +1,52 @@
+// What texts mean where they stand.
+ghost use Rattle.expr_names.specs.Answers.{Answers};
+
+use crate::places::Place;
+use expr_names::ResolveFault;
+use std::alloc::Global;
+use xt_names::{List, Shared, Text};
+use xt_types::SeqType;
+
+/// What reads expressions, patterns and types: each method gives what the text means at the place,
+/// and refuses it exactly where it breaks a rule there, with the code of the first one.
+pub trait Reader {
+    ghost use Rattle.expr_names.specs.Answers.{Answers};
+    ghost use Rattle.sheet_texts.specs.Readings.{Reading};
+
+    type Expr: Drop;
+
+    type Pattern: Drop;
+
+    /// What texts mean, and which rules they break.
+    ghost reads: { Self → Reading Self.Expr Self.Pattern };
+
+    /// The expression that the text spells (XPath 2.0, 2).
+    fn expr(
+        &self,
+        alloc: Global,
+        place: &Place,
+        text: &Text,
+    ) -> Result<Shared<Self::Expr>, ResolveFault>
+        ensures { Answers result ((reads self.now).expr_faults place.now text.now)
+            ((reads self.now).expr_value place.now text.now) };
+
+    /// The alternatives of the pattern that the text spells (XSLT 2.0, 5.5.2).
+    fn patterns(
+        &self,
+        alloc: Global,
+        place: &Place,
+        text: &Text,
+    ) -> Result<List<Self::Pattern>, ResolveFault>
+        ensures { Answers result ((reads self.now).patterns_faults place.now text.now)
+            ((reads self.now).patterns_value place.now text.now) };
+
+    /// The type that the text spells (XPath 2.0, 2.5.3).
+    fn sequence_type(
+        &self,
+        alloc: Global,
+        place: &Place,
+        text: &Text,
+    ) -> Result<SeqType, ResolveFault>
+        ensures { Answers result ((reads self.now).type_faults place.now text.now)
+            ((reads self.now).type_value place.now text.now) };
+}
