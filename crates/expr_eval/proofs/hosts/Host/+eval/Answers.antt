@@ -1072,7 +1072,11 @@ pub eval-returns-in-Int : goal.eval-returns-in-Int
 eval-returns-in-Int g t c =
     let p = program_of c.args.self.now.fixed (g.G.Callee.calls c.args.self.now.given)
     (g.G.Callee.keys c.args.self.now.given) in
-    rw (c.in-Int.is, int_means p c.in-Int.number) (c.literal_integer.ensures c.args.next.now)
+    let fits : FitsSigned w64 c.in-Int.number = search rules in
+    rw (c.in-Int.is, int_means p c.in-Int.number) (subst
+    (λ (n : ℤ). Answers c.literal_integer.result c.args.next.now
+    (literal n (env_of c.args.env.now) c.args.next.now)) (to_z-of_z w64 c.in-Int.number fits)
+    (c.literal_integer.ensures c.args.next.now))
 
 pub eval-returns-in-Var : goal.eval-returns-in-Var
 eval-returns-in-Var g t c =
