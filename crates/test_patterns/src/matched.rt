@@ -92,6 +92,8 @@ fn places(rt: HostRuntime) {
         &rt,
         [
             ("b[1]", "00", true),
+            ("/ a / b[2]", "02", true),
+            ("/ a / b[2]", "00", false),
             ("b[2]", "02", true),
             ("b[2]", "00", false),
             ("*[2]", "01", true),
