@@ -128,6 +128,9 @@ fn how_deep(rt: HostRuntime) {
         ("", 399, "+1", "query"),
         ("", 400, "+1", "deep"),
         ("<a>", 401, "</a>", "deep"),
+        ("<a>", 100_000, "</a>", "deep"),
+        ("<a>", 100_000, "", "syntax"),
+        ("(: ", 100_000, ":)", "syntax"),
     ];
     for (front, times, end, wanted) in cases {
         let text = repeated(&rt, front, "1", times, end);
@@ -136,4 +139,14 @@ fn how_deep(rt: HostRuntime) {
         assert_eq!(rt; found.as_str(), wanted, "{front}{end}");
         drop(found);
     }
+}
+
+#[test]
+fn comments_nest(rt: HostRuntime) {
+    let mut text = repeated(&rt, "(:", "", 100_000, ":)");
+    put(&rt, &mut text, "1");
+    let found = told(&rt, text.as_str());
+    drop(text);
+    assert_eq!(rt; found.as_str(), "query");
+    drop(found);
 }
