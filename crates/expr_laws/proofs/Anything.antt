@@ -1,7 +1,9 @@
--- Where nothing is asked of items.
+-- Where nothing is asked of items, names and texts.
 use Rattle.std.proofs.Common.{◌≡◌, List, [], ◌∷◌, ap}
-use Rattle.std.specs.Prelude.{Result, Ok, Err}
+use Rattle.std.specs.Prelude.{true, Result, Ok, Err}
 use Rattle.xt_names.specs.declared.codes.Code.{Code}
+use Rattle.xt_names.specs.declared.names.Name.{Name}
+use Rattle.xt_tree.specs.Sound.{is_sound_name}
 use Rattle.function_arguments.specs.Answers.{of_integer, of_truth}
 use Rattle.lazy_seq.specs.Orders.{in_document_order}
 use Rattle.outcomes.specs.Outcome.{Outcome, Ends, Fails, Deep, OnEnds, Every, Anything}
@@ -18,6 +20,11 @@ all_any (x ∷ xs) = (tt, all_any xs)
 pub any_value : {A : Type 0} (v : Result (List A) Code) → OnValue (Every Anything) v
 any_value (Ok xs) = all_any xs
 any_value (Err code) = tt
+
+-- where nothing is asked of names
+pub any_name : (v : Result Name Code) → OnValue (λ n. ⊥ → is_sound_name n ≡ true) v
+any_name (Ok n) = λ s. absurd s
+any_name (Err code) = tt
 
 pub any_list : {A : Type 0} (o : Outcome (List A)) → OnEnds (Every Anything) o
 any_list (Ends xs k) = all_any xs
@@ -47,7 +54,7 @@ any_kept = record {
   root = λ x g. any_value _;
   step = λ axis wanted x g. any_value _;
   ordered = λ xs g. all_any (in_document_order xs);
-  library = λ f focus args g. any_value _;
+  library = λ f focus h args g. any_value _;
 }
 
 pub same_places : AreAlike Anything (λ e f. e ≡ f)
@@ -67,6 +74,7 @@ module _ (like : Code → Code → Type 0) (alike : (code : Code) → like code 
   -- the relation, looked at in the same place on both sides
   abbrev pub in_one_place : Carrier
   in_one_place = record {
+    strict = ⊥;
     like = like;
     alike = alike;
     rel = rel;
@@ -79,8 +87,16 @@ module _ (like : Code → Code → Type 0) (alike : (code : Code) → like code 
 
   pub any_made : IsMade in_one_place
   any_made = record {
-    any = λ t k. any_list _;
-    atom = λ a. tt;
-    literal = λ t. tt;
+    integer = λ n. tt;
+    string = λ t g. tt;
+    spaced = λ xs g s. absurd s;
     joined = λ xs g. all_any (joined_atoms xs);
+    literal_text = λ t g. tt;
+    literal_attribute = λ n t g h. tt;
+    element = λ n xs g h k. any_list _;
+    document = λ xs g k. any_list _;
+    attribute = λ n t g h k. any_list _;
+    text = λ t g k. any_list _;
+    comment = λ t g k. any_list _;
+    pi = λ target t g h k. any_list _;
   }

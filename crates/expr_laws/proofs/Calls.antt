@@ -1,20 +1,27 @@
 -- Calls are carried where their arguments are.
 use Rattle.std.proofs.Common.{◌≡◌, ℕ, suc, ap, refl, List, [], ◌∷◌, length, subst}
-use Rattle.std.specs.Prelude.{map}
+use Rattle.std.specs.Prelude.{map, Bool, true, false, if◌then◌else◌, Option, Some, None, Ok, Err}
+use Rattle.xt_names.specs.declared.codes.Code.TheVariants.{Dynamic}
+use Rattle.xt_names.specs.declared.codes.DynamicCode.TheVariants.{XPDY0050}
+use Rattle.doc_set.specs.Sets.{is_document}
 use Rattle.xt_names.specs.declared.names.ExprName.{ExprName}
 use Rattle.xdm_items.specs.declared.items.Item.{Item}
+use Rattle.xdm_items.specs.declared.items.Item.TheVariants.{Node, Atom}
+use Rattle.sort_meaning.specs.Sorted.{Placed}
+use Rattle.expr_meaning.specs.Paths.{root_place}
 use Rattle.fn_lib.specs.Values.{argument}
 use Rattle.operator_values.specs.Operands.{atom_of}
-use Rattle.outcomes.specs.Outcome.{Ends, and_then, step_outcome, Every, Anything}
+use Rattle.outcomes.specs.Outcome.{Ends, and_then, step_outcome, Every}
 use Rattle.outcomes.proofs.Relations.{every_append}
 use Rattle.expr_meaning.specs.Env.{Env, Meaning, Program}
 use Rattle.expr_meaning.specs.Calls.{listed, lists_of, Called, library, document, current}
 use Rattle.expr_meaning.specs.Calls.{current_group, current_key, key, declared, called}
 use Rattle.expr_meaning.specs.Calls.{library_value, document_value, current_value, members_of}
 use Rattle.expr_meaning.specs.Calls.{key_of, keyed_root, literal_text, found_by_key, call_value}
+use Rattle.expr_meaning.specs.Calls.{root_of_item, no_tree}
 use Rattle.expr_meaning.specs.Calls.{call_of}
-use Rattle.expr_laws.specs.Carrier.{Carrier, Meet, AllMeet, ProgramsMeet}
-use Rattle.expr_laws.proofs.Steps.{same_step, any_step}
+use Rattle.expr_laws.specs.Carrier.{Carrier, Meet, AllMeet, ProgramsMeet, OnValue}
+use Rattle.expr_laws.proofs.Steps.{same_step}
 
 module _ (c : Carrier) where
   pub lists_meet : (ms ns : List Meaning) → AllMeet c ms ns → (e f : Env) → c.at e f → (k : ℕ) →
@@ -38,6 +45,22 @@ module _ (c : Carrier) where
   as_long (m ∷ ms) [] h = absurd h
   as_long (m ∷ ms) (n ∷ ns) h = ap suc (as_long ms ns h.1)
 
+  -- the root of a tree of which something is known
+  item_root : (x : Item) → c.good x → OnValue (λ r. c.good (Node r)) (root_of_item x)
+  item_root (Atom a) g = tt
+  item_root (Node n) g = by (is_document n.tree) (c.kept.root (Node n) g)
+    where
+      by : (b : Bool) → OnValue (Every c.good)
+          (if b then Ok (Node (root_place n) ∷ []) else Err (Dynamic XPDY0050)) →
+          OnValue (λ r. c.good (Node r)) (if b then Ok (root_place n) else Err no_tree)
+      by true h = h.0
+      by false h = tt
+
+  root_known : (o : Option (Placed Item)) → ((p : Placed Item) → o ≡ Some p → c.good p.value) →
+      OnValue (λ r. c.good (Node r)) (keyed_root o)
+  root_known None h = tt
+  root_known (Some p) h = item_root p.value (h p refl)
+
   module _ (p q : Program) (meet : ProgramsMeet c p q) where
     keyed_meets : (e f : Env) → c.at e f → (args : List (List Item)) → (k : ℕ) →
         c.rel (List Item) (Every c.good) (found_by_key p e args k) (found_by_key q f args k)
@@ -45,10 +68,12 @@ module _ (c : Carrier) where
         subst (λ o. c.rel (List Item) (Every c.good) (found_by_key p e args k)
         (and_then (step_outcome (keyed_root o) k) (q.keys (literal_text (argument args 0))
         (map atom_of (argument args 1))))) (c.places.focus e f s)
-        (c.carries.next _ _ Anything (Every c.good) (step_outcome (keyed_root e.focus) k)
-        (step_outcome (keyed_root e.focus) k) _ _ (any_step c (keyed_root e.focus) k)
+        (c.carries.next _ _ (λ r. c.good (Node r)) (Every c.good)
+        (step_outcome (keyed_root e.focus) k) (step_outcome (keyed_root e.focus) k) _ _
+        (same_step c (λ r. c.good (Node r)) (keyed_root e.focus)
+        (root_known e.focus (c.places.item e f s)) k)
         (λ root j u. meet.keys (literal_text (argument args 0)) (map atom_of (argument args 1))
-        root j))
+        root u j))
 
     value_meets : (d : Called) (name : ExprName) (e f : Env) → c.at e f →
         (args : List (List Item)) → Every (Every c.good) args → (k : ℕ) →
@@ -59,7 +84,7 @@ module _ (c : Carrier) where
         (step_outcome (library_value b e.focus args) k) (step_outcome (library_value b o args) k))
         (c.places.focus e f s)
         (same_step c (Every c.good) (library_value b e.focus args)
-        (c.kept.library b e.focus args g) k)
+        (c.kept.library b e.focus (c.places.item e f s) args g) k)
     value_meets document name e f s args g k =
         subst (λ v. c.rel (List Item) (Every c.good)
         (step_outcome (document_value p (argument args 0)) k) (step_outcome v k))

@@ -20,7 +20,7 @@ use Rattle.expr_meaning.specs.Queries.{program_at, top_env}
 use Rattle.expr_meaning.specs.Queries.{initialised, globals_from, query_outcome}
 use Rattle.expr_laws.specs.Carrier.{Carrier, ProgramsMeet, IsMade}
 use Rattle.expr_laws.specs.Depth.{CallsChangeNothing}
-use Rattle.expr_laws.proofs.Anything.{any_list, any_made, any_value, in_one_place}
+use Rattle.expr_laws.proofs.Anything.{any_list, any_made, any_name, any_value, in_one_place}
 use Rattle.expr_laws.proofs.Steps.{any_step}
 use Rattle.expr_laws.proofs.Whole.{whole_meets}
 
@@ -55,11 +55,13 @@ module _ (run : Run) where
       ProgramsMeet depth (program_at run globals n) (program_at run globals (suc n))
   programs_meet globals n h = record {
     calls = λ name args g k. h name args k;
-    keys = λ name values root k. unchanged (List Item) (Every Anything) (Ends [] k) tt;
+    keys = λ name values root g k. unchanged (List Item) (Every Anything) (Ends [] k) tt;
     document = λ xs. refl;
     documents = λ xs. any_value _;
     namespaces = refl;
     element_default = refl;
+    element_names = λ xs g. any_name _;
+    attribute_names = λ xs g. any_name _;
     variables = λ e f h name. ap (λ x. variable_value (program_at run globals n) x name) h;
     variable = λ e f h name. any_value _;
   }
@@ -69,7 +71,7 @@ module _ (run : Run) where
       (outcome (program_at run globals (suc n)) x e k)
   expr_deeper globals n h x e k =
       whole_meets depth made (program_at run globals n) (program_at run globals (suc n))
-      (programs_meet globals n h) x e e refl k
+      (programs_meet globals n h) x (λ s. absurd s) e e refl k
 
   body_deeper : (globals : List Binding) (n : ℕ) → CallsMeet globals n → (f : QueryFunction)
       (bound : List Binding) (k : ℕ) → deeper (List Item) (Every Anything)

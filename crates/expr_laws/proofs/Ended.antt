@@ -8,7 +8,7 @@ use Rattle.expr_meaning.specs.Env.{Env, Program, variable_value}
 use Rattle.expr_meaning.specs.Meaning.{outcome}
 use Rattle.expr_laws.specs.Carrier.{ProgramsMeet}
 use Rattle.expr_laws.specs.Ended.{IsEnded, CallsEnd}
-use Rattle.expr_laws.proofs.Anything.{any_list, any_made, any_value, in_one_place}
+use Rattle.expr_laws.proofs.Anything.{any_list, any_made, any_name, any_value, in_one_place}
 use Rattle.expr_laws.proofs.Whole.{whole_meets}
 
 abbrev ended : Relation
@@ -38,16 +38,18 @@ pub always_ended : (p : Program) → CallsEnd p → (x : Expr) (e : Env) (k : �
     IsEnded (outcome p x e k)
 always_ended p h x e k =
     (whole_meets (in_one_place any_code (λ code. tt) ended ended_carries)
-    (any_made any_code (λ code. tt) ended ended_carries) p p meets x e e refl k).0
+    (any_made any_code (λ code. tt) ended ended_carries) p p meets x (λ s. absurd s) e e refl k).0
   where
     meets : ProgramsMeet (in_one_place any_code (λ code. tt) ended ended_carries) p p
     meets = record {
       calls = λ name args g j. any_ended (p.calls name args j) (h.calls name args j);
-      keys = λ name values root j. any_ended (p.keys name values root j) (h.keys name values root j);
+      keys = λ name values root g j. any_ended (p.keys name values root j) (h.keys name values root j);
       document = λ xs. refl;
       documents = λ xs. any_value _;
       namespaces = refl;
       element_default = refl;
+      element_names = λ xs g. any_name _;
+      attribute_names = λ xs g. any_name _;
       variables = λ e f s name. ap (λ z. variable_value p z name) s;
       variable = λ e f s name. any_value _;
     }

@@ -5,6 +5,8 @@ pub mod Paths
 pub mod Flow
 pub mod Calls
 pub mod Making
+pub mod Texts
+pub mod Rolled
 pub mod Whole
 pub mod Anything
 pub mod Depth

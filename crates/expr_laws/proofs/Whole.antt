@@ -1,8 +1,18 @@
--- Every expression is carried from one program to another that is related.
-use Rattle.std.proofs.Common.{◌≡◌, List, [], ◌∷◌, refl, map}
-use Rattle.std.specs.Prelude.{Bool, Option, Some, None}
+-- Every expression is carried from one program to another that is related; where the relation is
+-- strict, every one whose texts and names XML allows.
+use Rattle.std.proofs.Common.{◌≡◌, List, [], ◌∷◌, refl, map, sym, ap, ◌∙◌}
+use Rattle.std.proofs.lemmas.Bool.{and_parts}
+use Rattle.std.specs.Prelude.{Bool, true, ◌&&◌, Option, Some, None}
+use Rattle.xt_names.specs.declared.names.Name.{Name}
+use Rattle.xt_tree.specs.Sound.{is_sound_name, is_named_xmlns}
+use Rattle.xt_forms.specs.Regular.{every}
 use Rattle.xt_atoms.specs.declared.atoms.Atom.TheVariants as atom
+use Rattle.xdm_items.specs.declared.items.Item.{Item}
 use Rattle.xdm_items.specs.declared.items.Item.TheVariants.{Atom}
+use Rattle.expr_meaning.specs.Values.{binary}
+use Rattle.xt_names.specs.declared.codes.Code.{Code}
+use Rattle.expr_laws.specs.Carrier.{KeepsBoth}
+use Rattle.std.specs.Prelude.{Result}
 use Rattle.xt_syntax.specs.declared.exprs.Expr.{Expr}
 use Rattle.xt_syntax.specs.declared.exprs.Arm.{Arm}
 use Rattle.xt_syntax.specs.declared.exprs.Clause.{Clause}
@@ -12,10 +22,6 @@ use Rattle.xt_syntax.specs.declared.exprs.Bind.{Bind}
 use Rattle.xt_syntax.specs.declared.exprs.NameSource.{NameSource}
 use Rattle.xt_syntax.specs.declared.exprs.DirectAttr.{DirectAttr}
 use Rattle.xt_syntax.specs.declared.exprs.Part.{Part}
-use Rattle.xt_syntax.specs.declared.exprs.Clause.TheOpen.{Expr-F, Arm-F, Clause-F, Order-F}
-use Rattle.xt_syntax.specs.declared.exprs.Clause.TheOpen.{Flwor-F}
-use Rattle.xt_syntax.specs.declared.exprs.Clause.TheOpen.{Bind-F, NameSource-F, DirectAttr-F}
-use Rattle.xt_syntax.specs.declared.exprs.Clause.TheOpen.{Part-F}
 use Rattle.xt_syntax.specs.declared.exprs.Clause.TheOpen.{Int, Str, Var, Context, Root, Comma, Or}
 use Rattle.xt_syntax.specs.declared.exprs.Clause.TheOpen.{And, If, Flwor, Quant, General, Value}
 use Rattle.xt_syntax.specs.declared.exprs.Clause.TheOpen.{Is}
@@ -30,11 +36,7 @@ use Rattle.xt_syntax.specs.declared.exprs.Clause.TheViews.{roll-Expr, roll-Arm, 
 use Rattle.xt_syntax.specs.declared.exprs.Clause.TheViews.{roll-Order}
 use Rattle.xt_syntax.specs.declared.exprs.Clause.TheViews.{roll-Flwor, roll-Bind, roll-NameSource}
 use Rattle.xt_syntax.specs.declared.exprs.Clause.TheViews.{roll-DirectAttr, roll-Part}
-use Rattle.xt_syntax.specs.declared.exprs.Clause.TheFolds.{fold-roll-Expr, fold-roll-Arm}
-use Rattle.xt_syntax.specs.declared.exprs.Clause.TheFolds.{fold-roll-Clause, fold-roll-Order}
-use Rattle.xt_syntax.specs.declared.exprs.Clause.TheFolds.{fold-roll-Flwor, fold-roll-Bind}
-use Rattle.xt_syntax.specs.declared.exprs.Clause.TheFolds.{fold-roll-NameSource, fold-roll-Part}
-use Rattle.xt_syntax.specs.declared.exprs.Clause.TheFolds.{fold-roll-DirectAttr, ind-Expr}
+use Rattle.xt_syntax.specs.declared.exprs.Clause.TheFolds.{ind-Expr}
 use Rattle.xt_syntax.specs.declared.exprs.Clause.TheFolds.{map-Expr, map-Arm, map-Clause}
 use Rattle.xt_syntax.specs.declared.exprs.Clause.TheFolds.{map-Order}
 use Rattle.xt_syntax.specs.declared.exprs.Clause.TheFolds.{map-Flwor, map-Bind, map-NameSource}
@@ -49,10 +51,19 @@ use Rattle.operator_values.specs.Nodes.{intersect_value, except_value}
 use Rattle.operator_values.specs.Numbers.{arithmetic_value, range_value, negated_value}
 use Rattle.operator_values.specs.Numbers.{signed_value}
 use Rattle.operator_values.specs.Types.{instance_value, treated_value, cast_value, castable_value}
-use Rattle.expr_meaning.specs.Env.{Program, Meaning}
-use Rattle.expr_meaning.specs.Meaning.{meanings, expr_means, clause_means, name_means, part_means}
+use Rattle.expr_meaning.specs.Env.{Program}
+use Rattle.expr_meaning.specs.Meaning.{meanings}
 use Rattle.expr_meaning.specs.Meaning.{steps, outcome}
-use Rattle.expr_laws.specs.Carrier.{Carrier, Meet, AllMeet, ProgramsMeet, IsMade}
+use Rattle.closed_queries.specs.Texts.{is_sound_name as is_name, is_sound_attribute_name}
+use Rattle.closed_queries.specs.Texts.{is_sound_expr_name, is_sound_test, is_sound_type}
+use Rattle.closed_queries.specs.Texts.{is_sound_kind}
+use Rattle.closed_queries.specs.ExprTexts.{every_bound}
+use Rattle.closed_queries.specs.ExprTexts.{is_sound_place, has_sound_texts}
+use Rattle.closed_queries.specs.ExprTexts.{is_sound_arm, is_sound_clause, bound_of, is_sound_order}
+use Rattle.closed_queries.specs.ExprTexts.{is_sound_source, is_sound_attr, is_sound_part}
+use Rattle.closed_queries.specs.ExprTexts.{is_sound_flwor}
+use Rattle.expr_laws.specs.Carrier.{Carrier, Meet, AllMeet, ProgramsMeet, IsMade, IsName}
+use Rattle.expr_laws.specs.Carrier.{IsAttributeName}
 use Rattle.expr_laws.proofs.Logic.{ArmsMeet, BoundMeet, AllBoundMeet, or_meets, and_meets}
 use Rattle.expr_laws.proofs.Logic.{choice_meets, quantifier_meets}
 use Rattle.expr_laws.proofs.Values.{just_meets, variable_meets, context_meets, comma_meets}
@@ -61,42 +72,73 @@ use Rattle.expr_laws.proofs.Paths.{root_meets, filter_meets, step_meets, slash_m
 use Rattle.expr_laws.proofs.Flow.{ClauseMeets, ClausesMeet, OrdersMeet, for_meets, at_meets}
 use Rattle.expr_laws.proofs.Flow.{let_meets, flwor_meets}
 use Rattle.expr_laws.proofs.Calls.{call_meets}
-use Rattle.expr_laws.proofs.Making.{NameMeets, PartMeets, PartsMeet, AttributesMeet}
+use Rattle.expr_laws.proofs.Making.{NameMeets, PartMeets, PartsMeet, AttributeMeets, AttributesMeet}
 use Rattle.expr_laws.proofs.Making.{document_meets, comment_meets, text_meets, pi_meets}
 use Rattle.expr_laws.proofs.Making.{direct_meets, element_meets, attribute_meets}
+use Rattle.expr_laws.proofs.Texts.{texts_of, texts_rolled, arm_texts_rolled, bind_texts_rolled}
+use Rattle.expr_laws.proofs.Texts.{order_texts_rolled, attr_texts_rolled, flwor_texts}
+use Rattle.expr_laws.proofs.Texts.{flwor_texts_rolled, clause_texts, clause_texts_rolled}
+use Rattle.expr_laws.proofs.Texts.{name_texts, name_texts_rolled, part_texts, part_texts_rolled}
+use Rattle.expr_laws.proofs.Rolled.{means, rolled, rolled_arm, rolled_bind, rolled_order}
+use Rattle.expr_laws.proofs.Rolled.{rolled_attr, flwor_value, rolled_flwor, clause_value}
+use Rattle.expr_laws.proofs.Rolled.{rolled_clause, name_value, rolled_name, part_value}
+use Rattle.expr_laws.proofs.Rolled.{rolled_part}
+use Rattle.expr_laws.proofs.Texts.{ExprForm, ArmForm, BindForm, OrderForm, AttrForm}
+use Rattle.expr_laws.proofs.Texts.{FlworForm, ClauseForm, NameForm, PartForm}
 
 module _ (c : Carrier) (makes : IsMade c) (p q : Program) (meet : ProgramsMeet c p q) where
+  -- what is asked where the relation is strict
+  abbrev Asked : Bool → Type 0
+  Asked b = c.strict → b ≡ true
+
+  first : (a b : Bool) → Asked (a && b) → Asked a
+  first a b h s = (and_parts a b (h s)).0
+
+  second : (a b : Bool) → Asked (a && b) → Asked b
+  second a b h s = (and_parts a b (h s)).1
+
+  name_known : (n : Name) → Asked (is_name n) → IsName c n
+  unfolding is_name is_sound_name
+  name_known n h = h
+
+  attribute_known : (n : Name) → Asked (is_sound_attribute_name n) → IsAttributeName c n
+  unfolding is_sound_attribute_name is_name is_sound_name is_named_xmlns
+  attribute_known n h = h
+
   abbrev ExprMeets : Expr → Type 0
-  ExprMeets e = Meet c (outcome p e) (outcome q e)
+  ExprMeets e = Asked (has_sound_texts e) → Meet c (outcome p e) (outcome q e)
 
   abbrev ClauseOf : Clause → Type 0
-  ClauseOf x = ClauseMeets c (clause_gives meanings (steps p) x)
+  ClauseOf x = Asked (is_sound_clause x) → ClauseMeets c (clause_gives meanings (steps p) x)
       (clause_gives meanings (steps q) x)
 
   abbrev NameOf : NameSource → Type 0
-  NameOf x = NameMeets c (name_gives meanings (steps p) x) (name_gives meanings (steps q) x)
+  NameOf x = Asked (is_sound_source x) →
+      NameMeets c (name_gives meanings (steps p) x) (name_gives meanings (steps q) x)
 
   abbrev PartOf : Part → Type 0
-  PartOf x = PartMeets c (part_gives meanings (steps p) x) (part_gives meanings (steps q) x)
+  PartOf x = Asked (is_sound_part x) →
+      PartMeets c (part_gives meanings (steps p) x) (part_gives meanings (steps q) x)
 
   abbrev ArmOf : Arm → Type 0
-  ArmOf x =
+  ArmOf x = Asked (is_sound_arm x) →
       Meet c (arm_gives meanings (steps p) x).0 (arm_gives meanings (steps q) x).0
       × Meet c (arm_gives meanings (steps p) x).1 (arm_gives meanings (steps q) x).1
 
   abbrev BindOf : Bind → Type 0
-  BindOf x = BoundMeet c (bind_gives meanings (steps p) x) (bind_gives meanings (steps q) x)
+  BindOf x = Asked (bound_of x).sound →
+      BoundMeet c (bind_gives meanings (steps p) x) (bind_gives meanings (steps q) x)
 
   abbrev AttrOf : DirectAttr → Type 0
-  AttrOf x =
-      ((attr_gives meanings (steps p) x).0 ≡ (attr_gives meanings (steps q) x).0)
-      × PartsMeet c (attr_gives meanings (steps p) x).1 (attr_gives meanings (steps q) x).1
+  AttrOf x = Asked (is_sound_attr x) →
+      AttributeMeets c (attr_gives meanings (steps p) x) (attr_gives meanings (steps q) x)
 
   abbrev FlworMeets : FlworOf → Type 0
-  FlworMeets x = Meet c (flwor_gives meanings (steps p) x) (flwor_gives meanings (steps q) x)
+  FlworMeets x = Asked (is_sound_flwor x) →
+      Meet c (flwor_gives meanings (steps p) x) (flwor_gives meanings (steps q) x)
 
   abbrev OrderOf : Order → Type 0
-  OrderOf x =
+  OrderOf x = Asked (is_sound_order x) →
       Meet c (order_gives meanings (steps p) x).0 (order_gives meanings (steps q) x).0
       × ((order_gives meanings (steps p) x).1 ≡ (order_gives meanings (steps q) x).1)
 
@@ -116,226 +158,233 @@ module _ (c : Carrier) (makes : IsMade c) (p q : Program) (meet : ProgramsMeet c
 
   -- lists of parts
   all_meet : (ys : List known.Exprs) →
+      Asked (every (map has_sound_texts (map (λ y. y.0) ys))) →
       AllMeet c (map (outcome p) (map (λ y. y.0) ys)) (map (outcome q) (map (λ y. y.0) ys))
-  all_meet [] = tt
-  all_meet (y ∷ ys) = (y.1, all_meet ys)
+  all_meet [] h = tt
+  all_meet (y ∷ ys) h =
+      let a = has_sound_texts y.0 in let b = every (map has_sound_texts (map (λ y. y.0) ys)) in
+      (y.1 (first a b h), all_meet ys (second a b h))
 
   arms_meet : (ys : List known.Arms) →
+      Asked (every (map is_sound_arm (map (λ y. y.0) ys))) →
       ArmsMeet c (map (arm_gives meanings (steps p)) (map (λ y. y.0) ys))
       (map (arm_gives meanings (steps q)) (map (λ y. y.0) ys))
-  arms_meet [] = tt
-  arms_meet (y ∷ ys) = (y.1, arms_meet ys)
+  arms_meet [] h = tt
+  arms_meet (y ∷ ys) h =
+      let a = is_sound_arm y.0 in let b = every (map is_sound_arm (map (λ y. y.0) ys)) in
+      (y.1 (first a b h), arms_meet ys (second a b h))
 
   binds_meet : (ys : List known.Binds) →
+      Asked (every_bound (map bound_of (map (λ y. y.0) ys))) →
       AllBoundMeet c (map (bind_gives meanings (steps p)) (map (λ y. y.0) ys))
       (map (bind_gives meanings (steps q)) (map (λ y. y.0) ys))
-  binds_meet [] = tt
-  binds_meet (y ∷ ys) = (y.1, binds_meet ys)
+  binds_meet [] h = tt
+  binds_meet (y ∷ ys) h =
+      let a = (bound_of y.0).sound in let b = every_bound (map bound_of (map (λ y. y.0) ys)) in
+      (y.1 (first a b h), binds_meet ys (second a b h))
 
   clauses_meet : (ys : List known.Clauses) →
+      Asked (every (map is_sound_clause (map (λ y. y.0) ys))) →
       ClausesMeet c (map (clause_gives meanings (steps p)) (map (λ y. y.0) ys))
       (map (clause_gives meanings (steps q)) (map (λ y. y.0) ys))
-  clauses_meet [] = tt
-  clauses_meet (y ∷ ys) = (y.1, clauses_meet ys)
+  clauses_meet [] h = tt
+  clauses_meet (y ∷ ys) h =
+      let a = is_sound_clause y.0 in let b = every (map is_sound_clause (map (λ y. y.0) ys)) in
+      (y.1 (first a b h), clauses_meet ys (second a b h))
 
   orders_meet : (ys : List known.Orders) →
+      Asked (every (map is_sound_order (map (λ y. y.0) ys))) →
       OrdersMeet c (map (order_gives meanings (steps p)) (map (λ y. y.0) ys))
       (map (order_gives meanings (steps q)) (map (λ y. y.0) ys))
-  orders_meet [] = tt
-  orders_meet (y ∷ ys) = (y.1, orders_meet ys)
+  orders_meet [] h = tt
+  orders_meet (y ∷ ys) h =
+      let a = is_sound_order y.0 in let b = every (map is_sound_order (map (λ y. y.0) ys)) in
+      (y.1 (first a b h), orders_meet ys (second a b h))
 
   parts_meet : (ys : List known.Parts) →
+      Asked (every (map is_sound_part (map (λ y. y.0) ys))) →
       PartsMeet c (map (part_gives meanings (steps p)) (map (λ y. y.0) ys))
       (map (part_gives meanings (steps q)) (map (λ y. y.0) ys))
-  parts_meet [] = tt
-  parts_meet (y ∷ ys) = (y.1, parts_meet ys)
+  parts_meet [] h = tt
+  parts_meet (y ∷ ys) h =
+      let a = is_sound_part y.0 in let b = every (map is_sound_part (map (λ y. y.0) ys)) in
+      (y.1 (first a b h), parts_meet ys (second a b h))
 
   attrs_meet : (ys : List known.Attrs) →
+      Asked (every (map is_sound_attr (map (λ y. y.0) ys))) →
       AttributesMeet c (map (attr_gives meanings (steps p)) (map (λ y. y.0) ys))
       (map (attr_gives meanings (steps q)) (map (λ y. y.0) ys))
-  attrs_meet [] = tt
-  attrs_meet (y ∷ ys) = (y.1, attrs_meet ys)
+  attrs_meet [] h = tt
+  attrs_meet (y ∷ ys) h =
+      let a = is_sound_attr y.0 in let b = every (map is_sound_attr (map (λ y. y.0) ys)) in
+      (y.1 (first a b h), attrs_meet ys (second a b h))
 
-  abbrev plain : ExprLayer known →
-      Expr-F Clause Expr NameSource Part Arm Bind DirectAttr FlworOf Order
+  abbrev plain : ExprLayer known → ExprForm
   plain = map-Expr known.Clauses known.Exprs known.Names known.Parts known.Arms known.Binds known.Attrs known.Flwors known.Orders
       Clause Expr NameSource Part Arm Bind DirectAttr FlworOf Order
       (λ y. y.0) (λ y. y.0) (λ y. y.0) (λ y. y.0) (λ y. y.0) (λ y. y.0) (λ y. y.0) (λ y. y.0)
       (λ y. y.0)
 
-  abbrev means : Program → Expr-F Clause Expr NameSource Part Arm Bind DirectAttr FlworOf Order →
-      Meaning
-  means r x = expr_means r (map-Expr Clause Expr NameSource Part Arm Bind DirectAttr FlworOf Order
-      meanings.Clauses meanings.Exprs meanings.Names meanings.Parts meanings.Arms meanings.Binds meanings.Attrs meanings.Flwors meanings.Orders
-      (clause_gives meanings (steps r)) (outcome r) (name_gives meanings (steps r))
-      (part_gives meanings (steps r)) (arm_gives meanings (steps r))
-      (bind_gives meanings (steps r)) (attr_gives meanings (steps r))
-      (flwor_gives meanings (steps r)) (order_gives meanings (steps r)) x)
+  abbrev all_of : List known.Exprs → Bool
+  all_of ys = every (map has_sound_texts (map (λ y. y.0) ys))
 
-  rolled : (r : Program)
-      (x : Expr-F Clause Expr NameSource Part Arm Bind DirectAttr FlworOf Order) →
-      outcome r (roll-Expr x) ≡ means r x
-  rolled r x = fold-roll-Expr _ _ _ _ _ _ _ _ _ _ _ _ _ _ _ _ _ _ x
+  -- an operator on two values
+  operands_meet : (value : List Item → List Item → Result (List Item) Code) →
+      KeepsBoth c.good value → (a b : known.Exprs) →
+      Asked (has_sound_texts a.0 && has_sound_texts b.0) →
+      Meet c (binary value (outcome p a.0) (outcome p b.0))
+      (binary value (outcome q a.0) (outcome q b.0))
+  operands_meet value w a b h =
+      let t = has_sound_texts a.0 in let u = has_sound_texts b.0 in
+      binary_meets c value w _ _ _ _ (a.1 (first t u h)) (b.1 (second t u h))
 
-  form_meets : (y : ExprLayer known) → Meet c (means p (plain y)) (means q (plain y))
-  form_meets (Int n) = just_meets c (Atom (atom.Int n) ∷ []) (makes.atom (atom.Int n), tt)
-  form_meets (Str t) = just_meets c (Atom (atom.Str t) ∷ []) (makes.atom (atom.Str t), tt)
-  form_meets (Var name) = variable_meets c p q meet name
-  form_meets Context = context_meets c
-  form_meets Root = root_meets c
-  form_meets (Comma all) = comma_meets c _ _ (all_meet all)
-  form_meets (Or all) = or_meets c _ _ (all_meet all)
-  form_meets (And all) = and_meets c _ _ (all_meet all)
-  form_meets (If arms other) = choice_meets c _ _ (arms_meet arms) _ _ other.1
-  form_meets (Flwor f) = f.1
-  form_meets (Quant every binds test) = quantifier_meets c every _ _ (binds_meet binds) _ _ test.1
-  form_meets (General op a b) = binary_meets c (general_value op)
-      (c.kept.general op) _ _ _ _ a.1 b.1
-  form_meets (Value op a b) = binary_meets c (single_value op) (c.kept.single op) _ _ _ _ a.1 b.1
-  form_meets (Is a b) = binary_meets c is_value c.kept.is _ _ _ _ a.1 b.1
-  form_meets (Before a b) = binary_meets c before_value c.kept.before _ _ _ _ a.1 b.1
-  form_meets (After a b) = binary_meets c after_value c.kept.after _ _ _ _ a.1 b.1
-  form_meets (Range a b) = binary_meets c range_value c.kept.range _ _ _ _ a.1 b.1
-  form_meets (Arith op a b) =
-      binary_meets c (arithmetic_value op) (c.kept.arithmetic op) _ _ _ _ a.1 b.1
-  form_meets (Minus a) = unary_meets c negated_value c.kept.negated _ _ a.1
-  form_meets (Plus a) = unary_meets c signed_value c.kept.signed _ _ a.1
-  form_meets (Union a b) = binary_meets c union_value c.kept.union _ _ _ _ a.1 b.1
-  form_meets (Intersect a b) = binary_meets c intersect_value c.kept.intersect _ _ _ _ a.1 b.1
-  form_meets (Except a b) = binary_meets c except_value c.kept.except _ _ _ _ a.1 b.1
-  form_meets (InstanceOf a kind) = unary_meets c (instance_value kind)
-      (c.kept.instance kind) _ _ a.1
-  form_meets (Treat a kind) = unary_meets c (treated_value kind) (c.kept.treated kind) _ _ a.1
-  form_meets (Castable a kind empty) =
-      unary_meets c (castable_value kind empty) (c.kept.castable kind empty) _ _ a.1
-  form_meets (Cast a kind empty) =
-      unary_meets c (cast_value kind empty) (c.kept.cast kind empty) _ _ a.1
-  form_meets (Slash a b) = slash_meets c _ _ _ _ a.1 b.1
-  form_meets (Step axis wanted tests) = step_meets c axis wanted _ _ (all_meet tests)
-  form_meets (Filter of tests) = filter_meets c _ _ of.1 _ _ (all_meet tests)
-  form_meets (Call name args) = call_meets c p q meet name _ _ (all_meet args)
-  form_meets (ElemC name content) = element_meets c makes p q meet _ _ name.1 _ _ content.1
-  form_meets (AttrC name content) = attribute_meets c makes p q meet _ _ name.1 _ _ content.1
-  form_meets (DocC content) = document_meets c makes _ _ content.1
-  form_meets (TextC content) = text_meets c makes _ _ content.1
-  form_meets (CommentC content) = comment_meets c makes _ _ content.1
-  form_meets (PiC name content) = pi_meets c makes _ _ name.1 _ _ content.1
-  form_meets (Direct name attrs parts) =
-      direct_meets c makes name _ _ (attrs_meet attrs) _ _ (parts_meet parts)
+  form_meets : (y : ExprLayer known) → Asked (texts_of (plain y)) →
+      Meet c (means p (plain y)) (means q (plain y))
+  form_meets (Int n) h = just_meets c (Atom (atom.Int n) ∷ []) (makes.integer n, tt)
+  form_meets (Str t) h = just_meets c (Atom (atom.Str t) ∷ []) (makes.string t h, tt)
+  form_meets (Var name) h = variable_meets c p q meet name
+  form_meets Context h = context_meets c
+  form_meets Root h = root_meets c
+  form_meets (Comma all) h = comma_meets c _ _ (all_meet all h)
+  form_meets (Or all) h = or_meets c _ _ (all_meet all h)
+  form_meets (And all) h = and_meets c _ _ (all_meet all h)
+  form_meets (If arms other) h =
+      let a = every (map is_sound_arm (map (λ y. y.0) arms)) in let b = has_sound_texts other.0 in
+      choice_meets c _ _ (arms_meet arms (first a b h)) _ _ (other.1 (second a b h))
+  form_meets (Flwor f) h = f.1 h
+  form_meets (Quant every_one binds test) h =
+      let a = every_bound (map bound_of (map (λ y. y.0) binds)) in
+      let b = has_sound_texts test.0 in
+      quantifier_meets c every_one _ _ (binds_meet binds (first a b h)) _ _ (test.1 (second a b h))
+  form_meets (General op a b) h = operands_meet (general_value op) (c.kept.general op) a b h
+  form_meets (Value op a b) h = operands_meet (single_value op) (c.kept.single op) a b h
+  form_meets (Is a b) h = operands_meet is_value c.kept.is a b h
+  form_meets (Before a b) h = operands_meet before_value c.kept.before a b h
+  form_meets (After a b) h = operands_meet after_value c.kept.after a b h
+  form_meets (Range a b) h = operands_meet range_value c.kept.range a b h
+  form_meets (Arith op a b) h = operands_meet (arithmetic_value op) (c.kept.arithmetic op) a b h
+  form_meets (Minus a) h = unary_meets c negated_value c.kept.negated _ _ (a.1 h)
+  form_meets (Plus a) h = unary_meets c signed_value c.kept.signed _ _ (a.1 h)
+  form_meets (Union a b) h = operands_meet union_value c.kept.union a b h
+  form_meets (Intersect a b) h = operands_meet intersect_value c.kept.intersect a b h
+  form_meets (Except a b) h = operands_meet except_value c.kept.except a b h
+  form_meets (InstanceOf a kind) h =
+      let t = has_sound_texts a.0 in let u = is_sound_type kind in
+      unary_meets c (instance_value kind) (c.kept.instance kind) _ _ (a.1 (first t u h))
+  form_meets (Treat a kind) h =
+      let t = has_sound_texts a.0 in let u = is_sound_type kind in
+      unary_meets c (treated_value kind) (c.kept.treated kind) _ _ (a.1 (first t u h))
+  form_meets (Castable a kind empty) h =
+      unary_meets c (castable_value kind empty) (c.kept.castable kind empty) _ _ (a.1 h)
+  form_meets (Cast a kind empty) h =
+      unary_meets c (cast_value kind empty) (c.kept.cast kind empty) _ _ (a.1 h)
+  form_meets (Slash a b) h =
+      let t = has_sound_texts a.0 in let u = has_sound_texts b.0 in
+      slash_meets c _ _ _ _ (a.1 (first t u h)) (b.1 (second t u h))
+  form_meets (Step axis wanted tests) h =
+      let t = is_sound_test wanted in let u = all_of tests in
+      step_meets c axis wanted _ _ (all_meet tests (second t u h))
+  form_meets (Filter of tests) h =
+      let t = has_sound_texts of.0 in let u = all_of tests in
+      filter_meets c _ _ (of.1 (first t u h)) _ _ (all_meet tests (second t u h))
+  form_meets (Call name args) h =
+      let t = is_sound_expr_name name in let u = all_of args in
+      call_meets c p q meet name _ _ (all_meet args (second t u h))
+  form_meets (ElemC name content) h =
+      let t = is_sound_source name.0 in let u = has_sound_texts content.0 in
+      element_meets c makes p q meet _ _ (name.1 (first t u h)) _ _ (content.1 (second t u h))
+  form_meets (AttrC name content) h =
+      let t = is_sound_source name.0 in let u = has_sound_texts content.0 in
+      attribute_meets c makes p q meet _ _ (name.1 (first t u h)) _ _ (content.1 (second t u h))
+  form_meets (DocC content) h = document_meets c makes _ _ (content.1 h)
+  form_meets (TextC content) h = text_meets c makes _ _ (content.1 h)
+  form_meets (CommentC content) h = comment_meets c makes _ _ (content.1 h)
+  form_meets (PiC name content) h =
+      let t = is_sound_source name.0 in let u = has_sound_texts content.0 in
+      pi_meets c makes _ _ (name.1 (first t u h)) _ _ (content.1 (second t u h))
+  form_meets (Direct name attrs parts) h =
+      let t = is_name name in
+      let u = every (map is_sound_attr (map (λ y. y.0) attrs)) in
+      let v = every (map is_sound_part (map (λ y. y.0) parts)) in
+      let r = second t (u && v) h in
+      direct_meets c makes name (name_known name (first t (u && v) h)) _ _
+      (attrs_meet attrs (first u v r)) _ _ (parts_meet parts (second u v r))
 
-  expr_step : (x : Expr-F Clause Expr NameSource Part Arm Bind DirectAttr FlworOf Order)
-      (y : ExprLayer known) → plain y ≡ x → ExprMeets (roll-Expr x)
-  expr_step x y is = rw (← is, rolled p (plain y), rolled q (plain y)) (form_meets y)
+  expr_step : (x : ExprForm) (y : ExprLayer known) → plain y ≡ x → ExprMeets (roll-Expr x)
+  expr_step x y is h = rw (← is, rolled p (plain y), rolled q (plain y)) (form_meets y
+      (λ s. sym (texts_rolled (plain y)) ∙ ap (λ z. has_sound_texts (roll-Expr z)) is ∙ h s))
 
-  abbrev plain_arm : ArmLayer known →
-      Arm-F Clause Expr NameSource Part Arm Bind DirectAttr FlworOf Order
-  plain_arm =
-      map-Arm known.Clauses known.Exprs known.Names known.Parts known.Arms known.Binds known.Attrs known.Flwors known.Orders
+  abbrev plain_arm : ArmLayer known → ArmForm
+  plain_arm = map-Arm known.Clauses known.Exprs known.Names known.Parts known.Arms known.Binds known.Attrs known.Flwors known.Orders
       Clause Expr NameSource Part Arm Bind DirectAttr FlworOf Order
       (λ y. y.0) (λ y. y.0) (λ y. y.0) (λ y. y.0) (λ y. y.0) (λ y. y.0) (λ y. y.0) (λ y. y.0)
       (λ y. y.0)
 
-  rolled_arm : (r : Program)
-      (x : Arm-F Clause Expr NameSource Part Arm Bind DirectAttr FlworOf Order) →
-      arm_gives meanings (steps r) (roll-Arm x)
-      ≡ (outcome r x.test, outcome r x.then)
-  rolled_arm r x = fold-roll-Arm _ _ _ _ _ _ _ _ _ _ _ _ _ _ _ _ _ _ x
-
-  arm_step : (x : Arm-F Clause Expr NameSource Part Arm Bind DirectAttr FlworOf Order)
-      (y : ArmLayer known) →
-      plain_arm y ≡ x → ArmOf (roll-Arm x)
-  arm_step x y is =
+  arm_step : (x : ArmForm) (y : ArmLayer known) → plain_arm y ≡ x → ArmOf (roll-Arm x)
+  arm_step x y is h =
+      let r : Asked (has_sound_texts y.test.0 && has_sound_texts y.then.0) =
+      (λ s. sym (arm_texts_rolled (plain_arm y)) ∙ ap (λ z. is_sound_arm (roll-Arm z)) is ∙ h s) in
+      let t = has_sound_texts y.test.0 in let u = has_sound_texts y.then.0 in
       rw (← is, rolled_arm p (plain_arm y), rolled_arm q (plain_arm y))
-      (y.test.1, y.then.1)
+      (y.test.1 (first t u r), y.then.1 (second t u r))
 
-  abbrev plain_bind : BindLayer known →
-      Bind-F Clause Expr NameSource Part Arm Bind DirectAttr FlworOf Order
-  plain_bind =
-      map-Bind known.Clauses known.Exprs known.Names known.Parts known.Arms known.Binds known.Attrs known.Flwors known.Orders
+  abbrev plain_bind : BindLayer known → BindForm
+  plain_bind = map-Bind known.Clauses known.Exprs known.Names known.Parts known.Arms known.Binds known.Attrs known.Flwors known.Orders
       Clause Expr NameSource Part Arm Bind DirectAttr FlworOf Order
       (λ y. y.0) (λ y. y.0) (λ y. y.0) (λ y. y.0) (λ y. y.0) (λ y. y.0) (λ y. y.0) (λ y. y.0)
       (λ y. y.0)
 
-  rolled_bind : (r : Program)
-      (x : Bind-F Clause Expr NameSource Part Arm Bind DirectAttr FlworOf Order) →
-      bind_gives meanings (steps r) (roll-Bind x)
-      ≡ record { var = x.var; kind = x.kind; source = outcome r x.source }
-  rolled_bind r x = fold-roll-Bind _ _ _ _ _ _ _ _ _ _ _ _ _ _ _ _ _ _ x
-
-  bind_step : (x : Bind-F Clause Expr NameSource Part Arm Bind DirectAttr FlworOf Order)
-      (y : BindLayer known) →
-      plain_bind y ≡ x → BindOf (roll-Bind x)
-  bind_step x y is =
+  bind_step : (x : BindForm) (y : BindLayer known) → plain_bind y ≡ x → BindOf (roll-Bind x)
+  bind_step x y is h =
+      let v = is_sound_expr_name y.var in let t = is_sound_kind y.kind in
+      let u = has_sound_texts y.source.0 in
+      let r : Asked (v && (t && u)) =
+      (λ s. sym (ap (λ b. b.sound) (bind_texts_rolled (plain_bind y)))
+      ∙ ap (λ z. (bound_of (roll-Bind z)).sound) is ∙ h s) in
       rw (← is, rolled_bind p (plain_bind y), rolled_bind q (plain_bind y))
-      (refl, (refl, y.source.1))
+      (refl, (refl, y.source.1 (second t u (second v (t && u) r))))
 
-  abbrev plain_order : OrderLayer known →
-      Order-F Clause Expr NameSource Part Arm Bind DirectAttr FlworOf Order
-  plain_order =
-      map-Order known.Clauses known.Exprs known.Names known.Parts known.Arms known.Binds known.Attrs known.Flwors known.Orders
+  abbrev plain_order : OrderLayer known → OrderForm
+  plain_order = map-Order known.Clauses known.Exprs known.Names known.Parts known.Arms known.Binds known.Attrs known.Flwors known.Orders
       Clause Expr NameSource Part Arm Bind DirectAttr FlworOf Order
       (λ y. y.0) (λ y. y.0) (λ y. y.0) (λ y. y.0) (λ y. y.0) (λ y. y.0) (λ y. y.0) (λ y. y.0)
       (λ y. y.0)
 
-  rolled_order : (r : Program)
-      (x : Order-F Clause Expr NameSource Part Arm Bind DirectAttr FlworOf Order) →
-      order_gives meanings (steps r) (roll-Order x)
-      ≡ (outcome r x.key, x.descending)
-  rolled_order r x = fold-roll-Order _ _ _ _ _ _ _ _ _ _ _ _ _ _ _ _ _ _ x
-
-  order_step : (x : Order-F Clause Expr NameSource Part Arm Bind DirectAttr FlworOf Order)
-      (y : OrderLayer known) →
-      plain_order y ≡ x → OrderOf (roll-Order x)
-  order_step x y is =
+  order_step : (x : OrderForm) (y : OrderLayer known) → plain_order y ≡ x → OrderOf (roll-Order x)
+  order_step x y is h =
       rw (← is, rolled_order p (plain_order y), rolled_order q (plain_order y))
-      (y.key.1, refl)
+      (y.key.1 (λ s. sym (order_texts_rolled (plain_order y)) ∙ ap (λ z. is_sound_order (roll-Order z)) is ∙ h s), refl)
 
-  abbrev plain_attr : AttrLayer known →
-      DirectAttr-F Clause Expr NameSource Part Arm Bind DirectAttr FlworOf Order
-  plain_attr =
-      map-DirectAttr known.Clauses known.Exprs known.Names known.Parts known.Arms known.Binds known.Attrs known.Flwors known.Orders
+  abbrev plain_attr : AttrLayer known → AttrForm
+  plain_attr = map-DirectAttr known.Clauses known.Exprs known.Names known.Parts known.Arms known.Binds known.Attrs known.Flwors known.Orders
       Clause Expr NameSource Part Arm Bind DirectAttr FlworOf Order
       (λ y. y.0) (λ y. y.0) (λ y. y.0) (λ y. y.0) (λ y. y.0) (λ y. y.0) (λ y. y.0) (λ y. y.0)
       (λ y. y.0)
 
-  rolled_attr : (r : Program)
-      (x : DirectAttr-F Clause Expr NameSource Part Arm Bind DirectAttr FlworOf Order) →
-      attr_gives meanings (steps r) (roll-DirectAttr x)
-      ≡ (x.name, map (part_gives meanings (steps r)) x.parts)
-  rolled_attr r x = fold-roll-DirectAttr _ _ _ _ _ _ _ _ _ _ _ _ _ _ _ _ _ _ x
-
-  attr_step : (x : DirectAttr-F Clause Expr NameSource Part Arm Bind DirectAttr FlworOf Order)
-      (y : AttrLayer known) →
-      plain_attr y ≡ x → AttrOf (roll-DirectAttr x)
-  attr_step x y is =
+  attr_step : (x : AttrForm) (y : AttrLayer known) → plain_attr y ≡ x → AttrOf (roll-DirectAttr x)
+  attr_step x y is h =
+      let t = is_sound_attribute_name y.name in
+      let u = every (map is_sound_part (map (λ y. y.0) y.parts)) in
+      let r : Asked (t && u) =
+      (λ s. sym (attr_texts_rolled (plain_attr y)) ∙ ap (λ z. is_sound_attr (roll-DirectAttr z)) is ∙ h s) in
       rw (← is, rolled_attr p (plain_attr y), rolled_attr q (plain_attr y))
-      (refl, parts_meet y.parts)
+      (refl, attribute_known y.name (first t u r), parts_meet y.parts (second t u r))
 
-  abbrev plain_flwor : FlworLayer known →
-      Flwor-F Clause Expr NameSource Part Arm Bind DirectAttr FlworOf Order
-  plain_flwor =
-      map-Flwor known.Clauses known.Exprs known.Names known.Parts known.Arms known.Binds known.Attrs known.Flwors known.Orders
+  abbrev plain_flwor : FlworLayer known → FlworForm
+  plain_flwor = map-Flwor known.Clauses known.Exprs known.Names known.Parts known.Arms known.Binds known.Attrs known.Flwors known.Orders
       Clause Expr NameSource Part Arm Bind DirectAttr FlworOf Order
       (λ y. y.0) (λ y. y.0) (λ y. y.0) (λ y. y.0) (λ y. y.0) (λ y. y.0) (λ y. y.0) (λ y. y.0)
       (λ y. y.0)
-
-  abbrev flwor_value : Program →
-      Flwor-F Clause Expr NameSource Part Arm Bind DirectAttr FlworOf Order → Meaning
-  flwor_value r x = (steps r).of_flwor
-      (map-Flwor Clause Expr NameSource Part Arm Bind DirectAttr FlworOf Order
-      meanings.Clauses meanings.Exprs meanings.Names meanings.Parts meanings.Arms meanings.Binds meanings.Attrs meanings.Flwors meanings.Orders
-      (clause_gives meanings (steps r)) (outcome r) (name_gives meanings (steps r))
-      (part_gives meanings (steps r)) (arm_gives meanings (steps r))
-      (bind_gives meanings (steps r)) (attr_gives meanings (steps r))
-      (flwor_gives meanings (steps r)) (order_gives meanings (steps r)) x)
-
-  rolled_flwor : (r : Program)
-      (x : Flwor-F Clause Expr NameSource Part Arm Bind DirectAttr FlworOf Order) →
-      flwor_gives meanings (steps r) (roll-Flwor x) ≡ flwor_value r x
-  rolled_flwor r x = fold-roll-Flwor _ _ _ _ _ _ _ _ _ _ _ _ _ _ _ _ _ _ x
 
   flwor_known : (clauses : List known.Clauses) (test : Option known.Exprs)
       (orders : List known.Orders) (stable : Bool) (body : known.Exprs) →
+      Asked (flwor_texts (plain_flwor (record {
+        clauses = clauses;
+        test = test;
+        orders = orders;
+        stable = stable;
+        body = body;
+      }))) →
       Meet c
       (flwor_value p (plain_flwor (record {
         clauses = clauses;
@@ -351,125 +400,87 @@ module _ (c : Carrier) (makes : IsMade c) (p q : Program) (meet : ProgramsMeet c
         stable = stable;
         body = body;
       })))
-  flwor_known clauses None orders stable body =
-      flwor_meets c _ _ (clauses_meet clauses) None None tt _ _ (orders_meet orders) _ _ body.1
-  flwor_known clauses (Some t) orders stable body =
-      flwor_meets c _ _ (clauses_meet clauses) (Some _) (Some _) t.1 _ _
-      (orders_meet orders) _ _ body.1
+  flwor_known clauses None orders stable body h =
+      let t = every (map is_sound_clause (map (λ y. y.0) clauses)) in
+      let v = every (map is_sound_order (map (λ y. y.0) orders)) in
+      let w = has_sound_texts body.0 in
+      let r = second true (v && w) (second t (true && (v && w)) h) in
+      flwor_meets c _ _ (clauses_meet clauses (first t (true && (v && w)) h)) None None tt _ _
+      (orders_meet orders (first v w r)) _ _ (body.1 (second v w r))
+  flwor_known clauses (Some test) orders stable body h =
+      let t = every (map is_sound_clause (map (λ y. y.0) clauses)) in
+      let u = has_sound_texts test.0 in
+      let v = every (map is_sound_order (map (λ y. y.0) orders)) in
+      let w = has_sound_texts body.0 in
+      let r = second t (u && (v && w)) h in
+      let e = second u (v && w) r in
+      flwor_meets c _ _ (clauses_meet clauses (first t (u && (v && w)) h)) (Some _) (Some _)
+      (test.1 (first u (v && w) r)) _ _ (orders_meet orders (first v w e)) _ _
+      (body.1 (second v w e))
 
-  flwor_step : (x : Flwor-F Clause Expr NameSource Part Arm Bind DirectAttr FlworOf Order)
+  flwor_step : (x : FlworForm)
       (y : FlworLayer known) →
       plain_flwor y ≡ x → FlworMeets (roll-Flwor x)
-  flwor_step x y is =
+  flwor_step x y is h =
       rw (← is, rolled_flwor p (plain_flwor y), rolled_flwor q (plain_flwor y))
-      (flwor_known y.clauses y.test y.orders y.stable y.body)
+      (flwor_known y.clauses y.test y.orders y.stable y.body
+      (λ s. sym (flwor_texts_rolled (plain_flwor y)) ∙ ap (λ z. is_sound_flwor (roll-Flwor z)) is ∙ h s))
 
-  abbrev plain_clause : ClauseLayer known →
-      Clause-F Clause Expr NameSource Part Arm Bind DirectAttr FlworOf Order
-  plain_clause =
-      map-Clause known.Clauses known.Exprs known.Names known.Parts known.Arms known.Binds known.Attrs known.Flwors known.Orders
+  abbrev plain_clause : ClauseLayer known → ClauseForm
+  plain_clause = map-Clause known.Clauses known.Exprs known.Names known.Parts known.Arms known.Binds known.Attrs known.Flwors known.Orders
       Clause Expr NameSource Part Arm Bind DirectAttr FlworOf Order
       (λ y. y.0) (λ y. y.0) (λ y. y.0) (λ y. y.0) (λ y. y.0) (λ y. y.0) (λ y. y.0) (λ y. y.0)
       (λ y. y.0)
 
-  abbrev clause_value : Program →
-      Clause-F Clause Expr NameSource Part Arm Bind DirectAttr FlworOf Order → meanings.Clauses
-  clause_value r x = clause_means
-      (map-Clause Clause Expr NameSource Part Arm Bind DirectAttr FlworOf Order
-      meanings.Clauses meanings.Exprs meanings.Names meanings.Parts meanings.Arms meanings.Binds meanings.Attrs meanings.Flwors meanings.Orders
-      (clause_gives meanings (steps r)) (outcome r) (name_gives meanings (steps r))
-      (part_gives meanings (steps r)) (arm_gives meanings (steps r))
-      (bind_gives meanings (steps r)) (attr_gives meanings (steps r))
-      (flwor_gives meanings (steps r)) (order_gives meanings (steps r)) x)
-
-  rolled_clause : (r : Program)
-      (x : Clause-F Clause Expr NameSource Part Arm Bind DirectAttr FlworOf Order) →
-      clause_gives meanings (steps r) (roll-Clause x) ≡ clause_value r x
-  rolled_clause r x = fold-roll-Clause _ _ _ _ _ _ _ _ _ _ _ _ _ _ _ _ _ _ x
-
-  clause_meets : (y : ClauseLayer known) →
+  clause_meets : (y : ClauseLayer known) → Asked (clause_texts (plain_clause y)) →
       ClauseMeets c (clause_value p (plain_clause y)) (clause_value q (plain_clause y))
-  clause_meets (For b None) = for_meets c _ _ b.1
-  clause_meets (For b (Some at)) = at_meets c _ _ b.1 at
-  clause_meets (Let b) = let_meets c _ _ b.1
+  clause_meets (For b None) h =
+      let t = (bound_of b.0).sound in let u = is_sound_place (bound_of b.0).var None in
+      for_meets c _ _ (b.1 (first t u h))
+  clause_meets (For b (Some at)) h =
+      let t = (bound_of b.0).sound in let u = is_sound_place (bound_of b.0).var (Some at) in
+      at_meets c _ _ (b.1 (first t u h)) at
+  clause_meets (Let b) h = let_meets c _ _ (b.1 h)
 
-  clause_step : (x : Clause-F Clause Expr NameSource Part Arm Bind DirectAttr FlworOf Order)
+  clause_step : (x : ClauseForm)
       (y : ClauseLayer known) →
       plain_clause y ≡ x → ClauseOf (roll-Clause x)
-  clause_step x y is =
+  clause_step x y is h =
       rw (← is, rolled_clause p (plain_clause y), rolled_clause q (plain_clause y))
-      (clause_meets y)
+      (clause_meets y (λ s. sym (clause_texts_rolled (plain_clause y)) ∙ ap (λ z. is_sound_clause (roll-Clause z)) is ∙ h s))
 
-  abbrev plain_name : NameLayer known →
-      NameSource-F Clause Expr NameSource Part Arm Bind DirectAttr FlworOf Order
-  plain_name =
-      map-NameSource known.Clauses known.Exprs known.Names known.Parts known.Arms known.Binds known.Attrs known.Flwors known.Orders
+  abbrev plain_name : NameLayer known → NameForm
+  plain_name = map-NameSource known.Clauses known.Exprs known.Names known.Parts known.Arms known.Binds known.Attrs known.Flwors known.Orders
       Clause Expr NameSource Part Arm Bind DirectAttr FlworOf Order
       (λ y. y.0) (λ y. y.0) (λ y. y.0) (λ y. y.0) (λ y. y.0) (λ y. y.0) (λ y. y.0) (λ y. y.0)
       (λ y. y.0)
 
-  abbrev name_value : Program →
-      NameSource-F Clause Expr NameSource Part Arm Bind DirectAttr FlworOf Order → meanings.Names
-  name_value r x = name_means
-      (map-NameSource Clause Expr NameSource Part Arm Bind DirectAttr FlworOf Order
-      meanings.Clauses meanings.Exprs meanings.Names meanings.Parts meanings.Arms meanings.Binds meanings.Attrs meanings.Flwors meanings.Orders
-      (clause_gives meanings (steps r)) (outcome r) (name_gives meanings (steps r))
-      (part_gives meanings (steps r)) (arm_gives meanings (steps r))
-      (bind_gives meanings (steps r)) (attr_gives meanings (steps r))
-      (flwor_gives meanings (steps r)) (order_gives meanings (steps r)) x)
-
-  rolled_name : (r : Program)
-      (x : NameSource-F Clause Expr NameSource Part Arm Bind DirectAttr FlworOf Order) →
-      name_gives meanings (steps r) (roll-NameSource x) ≡ name_value r x
-  rolled_name r x = fold-roll-NameSource _ _ _ _ _ _ _ _ _ _ _ _ _ _ _ _ _ _ x
-
-  name_meets : (y : NameLayer known) →
+  name_meets : (y : NameLayer known) → Asked (name_texts (plain_name y)) →
       NameMeets c (name_value p (plain_name y)) (name_value q (plain_name y))
-  name_meets (Fixed n) = refl
-  name_meets (Computed e) = e.1
+  name_meets (Fixed n) h = (refl, name_known n h)
+  name_meets (Computed e) h = e.1 h
 
-  name_step : (x : NameSource-F Clause Expr NameSource Part Arm Bind DirectAttr FlworOf Order)
-      (y : NameLayer known) →
-      plain_name y ≡ x → NameOf (roll-NameSource x)
-  name_step x y is =
+  name_step : (x : NameForm) (y : NameLayer known) → plain_name y ≡ x → NameOf (roll-NameSource x)
+  name_step x y is h =
       rw (← is, rolled_name p (plain_name y), rolled_name q (plain_name y))
-      (name_meets y)
+      (name_meets y (λ s. sym (name_texts_rolled (plain_name y)) ∙ ap (λ z. is_sound_source (roll-NameSource z)) is ∙ h s))
 
-  abbrev plain_part : PartLayer known →
-      Part-F Clause Expr NameSource Part Arm Bind DirectAttr FlworOf Order
-  plain_part =
-      map-Part known.Clauses known.Exprs known.Names known.Parts known.Arms known.Binds known.Attrs known.Flwors known.Orders
+  abbrev plain_part : PartLayer known → PartForm
+  plain_part = map-Part known.Clauses known.Exprs known.Names known.Parts known.Arms known.Binds known.Attrs known.Flwors known.Orders
       Clause Expr NameSource Part Arm Bind DirectAttr FlworOf Order
       (λ y. y.0) (λ y. y.0) (λ y. y.0) (λ y. y.0) (λ y. y.0) (λ y. y.0) (λ y. y.0) (λ y. y.0)
       (λ y. y.0)
 
-  abbrev part_value : Program →
-      Part-F Clause Expr NameSource Part Arm Bind DirectAttr FlworOf Order → meanings.Parts
-  part_value r x = part_means
-      (map-Part Clause Expr NameSource Part Arm Bind DirectAttr FlworOf Order
-      meanings.Clauses meanings.Exprs meanings.Names meanings.Parts meanings.Arms meanings.Binds meanings.Attrs meanings.Flwors meanings.Orders
-      (clause_gives meanings (steps r)) (outcome r) (name_gives meanings (steps r))
-      (part_gives meanings (steps r)) (arm_gives meanings (steps r))
-      (bind_gives meanings (steps r)) (attr_gives meanings (steps r))
-      (flwor_gives meanings (steps r)) (order_gives meanings (steps r)) x)
-
-  rolled_part : (r : Program)
-      (x : Part-F Clause Expr NameSource Part Arm Bind DirectAttr FlworOf Order) →
-      part_gives meanings (steps r) (roll-Part x) ≡ part_value r x
-  rolled_part r x = fold-roll-Part _ _ _ _ _ _ _ _ _ _ _ _ _ _ _ _ _ _ x
-
-  part_meets : (y : PartLayer known) →
+  part_meets : (y : PartLayer known) → Asked (part_texts (plain_part y)) →
       PartMeets c (part_value p (plain_part y)) (part_value q (plain_part y))
-  part_meets (Chars t) = refl
-  part_meets (Enclosed e) = e.1
-  part_meets (Child e) = e.1
+  part_meets (Chars t) h = (refl, h)
+  part_meets (Enclosed e) h = e.1 h
+  part_meets (Child e) h = e.1 h
 
-  part_step : (x : Part-F Clause Expr NameSource Part Arm Bind DirectAttr FlworOf Order)
-      (y : PartLayer known) →
-      plain_part y ≡ x → PartOf (roll-Part x)
-  part_step x y is =
+  part_step : (x : PartForm) (y : PartLayer known) → plain_part y ≡ x → PartOf (roll-Part x)
+  part_step x y is h =
       rw (← is, rolled_part p (plain_part y), rolled_part q (plain_part y))
-      (part_meets y)
+      (part_meets y (λ s. sym (part_texts_rolled (plain_part y)) ∙ ap (λ z. is_sound_part (roll-Part z)) is ∙ h s))
 
   pub whole_meets : (e : Expr) → ExprMeets e
   whole_meets = ind-Expr ClauseOf ExprMeets NameOf PartOf ArmOf BindOf AttrOf FlworMeets OrderOf

@@ -1,18 +1,23 @@
 -- What is asked of a relation between outcomes, and of two programs, so that each form of
 -- expressions is carried where its parts are.
-use Rattle.std.specs.Prelude.{◌≡◌, ℕ, ℤ, List, [], ◌∷◌, Bool, Option, Some, Result, Ok, Err}
+use Rattle.std.specs.Prelude.{◌≡◌, ℕ, ℤ, List, [], ◌∷◌, Bool, true, false, not, ◌&&◌, Option, Some}
+use Rattle.std.specs.Prelude.{Result, Ok, Err}
 use Rattle.xt_names.specs.declared.codes.Code.{Code}
 use Rattle.xt_names.specs.declared.kinds.ArithOp.{ArithOp}
 use Rattle.xt_names.specs.declared.kinds.AtomType.{AtomType}
 use Rattle.xt_names.specs.declared.kinds.CompareOp.{CompareOp}
+use Rattle.xt_names.specs.Classes.{is_ncname_text, is_xml_text}
 use Rattle.xt_names.specs.declared.names.ExprName.{ExprName}
+use Rattle.xt_names.specs.declared.names.Name.{Name}
 use Rattle.xt_types.specs.declared.axes.Axis.{Axis}
 use Rattle.xt_types.specs.declared.node_tests.Test.{Test}
 use Rattle.xt_types.specs.declared.types.SeqType.{SeqType}
 use Rattle.xt_tree.specs.Place.{Place}
+use Rattle.xt_tree.specs.Sound.{is_sound_name, is_named_xmlns, is_xml_in_any_case}
 use Rattle.xt_atoms.specs.declared.atoms.Atom.{Atom as AtomValue}
 use Rattle.xdm_items.specs.declared.items.Item.{Item}
-use Rattle.xdm_items.specs.declared.items.Item.TheVariants.{Atom}
+use Rattle.xdm_items.specs.declared.items.Item.TheVariants.{Node, Atom}
+use Rattle.xt_atoms.specs.declared.atoms.Atom.TheVariants as atom
 use Rattle.function_arguments.specs.Answers.{of_integer, of_truth}
 use Rattle.function_table.specs.declared.builtins.Builtin.{Builtin}
 use Rattle.lazy_seq.specs.Orders.{in_document_order}
@@ -22,8 +27,10 @@ use Rattle.operator_values.specs.Nodes.{intersect_value, except_value}
 use Rattle.operator_values.specs.Numbers.{arithmetic_value, range_value, negated_value}
 use Rattle.operator_values.specs.Numbers.{signed_value}
 use Rattle.operator_values.specs.Types.{instance_value, treated_value, cast_value, castable_value}
-use Rattle.node_builder.specs.Made.{Made}
-use Rattle.xt_tree.specs.declared.trees.Tree.{Tree}
+use Rattle.node_builder.specs.Made.{Gives}
+use Rattle.node_builder.specs.Trees.{element_of, document_of, comment_of, pi_of}
+use Rattle.node_builder.specs.declared.kinds.Duplicates.TheVariants.{Refuse}
+use Rattle.xt_tree.specs.declared.trees.Tree.TheVariants as tree
 use Rattle.outcomes.specs.Outcome.{OnEnds, Every}
 use Rattle.outcomes.specs.Follow.{Relation, IsCarrying}
 use Rattle.sort_meaning.specs.Sorted.{Placed}
@@ -32,7 +39,8 @@ use Rattle.expr_meaning.specs.Env.{variable_value}
 use Rattle.expr_meaning.specs.Paths.{document_root, step_items}
 use Rattle.expr_meaning.specs.Calls.{library_value, document_value, current_value, members_of}
 use Rattle.expr_meaning.specs.Calls.{key_of}
-use Rattle.expr_meaning.specs.Making.{made, literal_node, joined_atoms}
+use Rattle.expr_meaning.specs.Names.{name_of_items}
+use Rattle.expr_meaning.specs.Making.{made, literal_node, joined_atoms, spaced_text}
 
 -- what holds of the value, where there is one
 abbrev pub OnValue : {A : Type 0} → (A → Type 0) → Result A Code → Type 0
@@ -75,7 +83,8 @@ pub record IsKept (good : Item → Type 0) : Type 0 where
   pub step : (axis : Axis) (test : Test) (x : Item) → good x →
       OnValue (Every good) (step_items axis test x)
   pub ordered : (xs : List Item) → Every good xs → Every good (in_document_order xs)
-  pub library : (f : Builtin) (focus : Option (Placed Item)) (args : List (List Item)) →
+  pub library : (f : Builtin) (focus : Option (Placed Item)) →
+      ((p : Placed Item) → focus ≡ Some p → good p.value) → (args : List (List Item)) →
       Every (Every good) args → OnValue (Every good) (library_value f focus args)
 
 -- two places in a run at which expressions are looked at
@@ -91,8 +100,10 @@ pub record AreAlike (good : Item → Type 0) (at : Env → Env → Type 0) : Typ
   pub members : (e f : Env) → at e f → Every good (members_of e.state.group)
   pub key : (e f : Env) → at e f → Every good (key_of e.state.group)
 
--- a relation with all that is known of it
+-- A relation with all that is known of it. Where it is strict, names and texts are those that XML
+-- allows.
 pub record Carrier : Type 1 where
+  pub strict : Type 0
   pub like : Code → Code → Type 0
   pub alike : (code : Code) → like code code
   pub rel : Relation
@@ -101,6 +112,19 @@ pub record Carrier : Type 1 where
   pub kept : IsKept good
   pub at : Env → Env → Type 0
   pub places : AreAlike good at
+
+-- what is known of names of elements and of attributes, of targets and of texts
+abbrev pub IsName : Carrier → Name → Type 0
+IsName c name = c.strict → is_sound_name name ≡ true
+
+abbrev pub IsAttributeName : Carrier → Name → Type 0
+IsAttributeName c name = c.strict → (is_sound_name name && not (is_named_xmlns name)) ≡ true
+
+abbrev pub IsTarget : List ℕ → Type 0
+IsTarget text = (is_ncname_text text ≡ true) × (is_xml_in_any_case text ≡ false)
+
+abbrev pub IsText : Carrier → List ℕ → Type 0
+IsText c text = c.strict → is_xml_text text ≡ true
 
 -- two meanings are related wherever they are looked at
 abbrev pub Meet : Carrier → Meaning → Meaning → Type 0
@@ -116,20 +140,40 @@ AllMeet c (m ∷ ms) (n ∷ ns) = Meet c m n × AllMeet c ms ns
 pub record ProgramsMeet (c : Carrier) (p q : Program) : Type 0 where
   pub calls : (name : ExprName) (args : List (List Item)) → Every (Every c.good) args → (k : ℕ) →
       c.rel (List Item) (Every c.good) (p.calls name args k) (q.calls name args k)
-  pub keys : (name : List ℕ) (values : List AtomValue) (root : Place) (k : ℕ) →
+  pub keys : (name : List ℕ) (values : List AtomValue) (root : Place) → c.good (Node root) →
+      (k : ℕ) →
       c.rel (List Item) (Every c.good) (p.keys name values root k) (q.keys name values root k)
   pub document : (xs : List Item) → document_value p xs ≡ document_value q xs
   pub documents : (xs : List Item) → OnValue (Every c.good) (document_value p xs)
   pub namespaces : p.namespaces ≡ q.namespaces
   pub element_default : p.element_default ≡ q.element_default
+  pub element_names : (xs : List Item) → Every c.good xs →
+      OnValue (IsName c) (name_of_items p.namespaces p.element_default xs)
+  pub attribute_names : (xs : List Item) → Every c.good xs →
+      OnValue (IsName c) (name_of_items p.namespaces [] xs)
   pub variables : (e f : Env) → c.at e f → (name : ExprName) →
       variable_value p e name ≡ variable_value q f name
   pub variable : (e f : Env) → c.at e f → (name : ExprName) →
       OnValue (Every c.good) (variable_value p e name)
 
--- what constructors make has the property
+-- literals, and what constructors make, have the property where their names and texts are allowed
 pub record IsMade (c : Carrier) : Type 0 where
-  pub any : (t : Made Tree) (k : ℕ) → OnEnds (Every c.good) (made t k)
-  pub atom : (a : AtomValue) → c.good (Atom a)
-  pub literal : (t : Tree) → c.good (literal_node t)
+  pub integer : (n : ℤ) → c.good (Atom (atom.Int n))
+  pub string : (t : List ℕ) → IsText c t → c.good (Atom (atom.Str t))
+  pub spaced : (xs : List Item) → Every c.good xs → IsText c (spaced_text xs)
   pub joined : (xs : List Item) → Every c.good xs → Every c.good (joined_atoms xs)
+  pub literal_text : (t : List ℕ) → IsText c t → c.good (literal_node (tree.Text t))
+  pub literal_attribute : (n : Name) (t : List ℕ) → IsAttributeName c n → IsText c t →
+      c.good (literal_node (tree.Attr n t))
+  pub element : (n : Name) (xs : List Item) → IsName c n → Every c.good xs → (k : ℕ) →
+      OnEnds (Every c.good) (made (element_of Refuse n xs) k)
+  pub document : (xs : List Item) → Every c.good xs → (k : ℕ) →
+      OnEnds (Every c.good) (made (document_of Refuse xs) k)
+  pub attribute : (n : Name) (t : List ℕ) → IsAttributeName c n → IsText c t → (k : ℕ) →
+      OnEnds (Every c.good) (made (Gives (tree.Attr n t)) k)
+  pub text : (t : List ℕ) → IsText c t → (k : ℕ) →
+      OnEnds (Every c.good) (made (Gives (tree.Text t)) k)
+  pub comment : (t : List ℕ) → IsText c t → (k : ℕ) →
+      OnEnds (Every c.good) (made (comment_of t) k)
+  pub pi : (target t : List ℕ) → IsTarget target → IsText c t → (k : ℕ) →
+      OnEnds (Every c.good) (made (pi_of target t) k)
