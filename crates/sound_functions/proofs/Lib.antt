@@ -1,0 +1,4 @@
+pub mod Operators
+pub mod Functions
+pub mod Sequences
+pub mod Kept
