@@ -75,12 +75,9 @@ truth_listed (Ok t) = (refl, tt)
 truth_listed (Err code) = tt
 
 -- how many items
-counts_known : (a : List Item) → IsGood (count_of a)
-unfolding count_of
-counts_known a = number_listed (counted a)
-
 pub count_known : (a : List Item) → IsGood (count_of a)
-count_known a = counts_known a
+unfolding count_of
+count_known a = number_listed (counted a)
 
 pub empty_known : (a : List Item) → IsGood (empty_of a)
 unfolding empty_of

@@ -24,7 +24,7 @@ use Rattle.function_arguments.specs.Arguments.{and_then, atomic, text_of_item}
 use Rattle.function_arguments.specs.Arguments.{name_of_item, atom_of_item, node_of_item, of_only}
 use Rattle.function_arguments.specs.Arguments.{as_some, of_at_most_one, text_argument}
 use Rattle.function_arguments.specs.Arguments.{optional_text_argument, or_empty}
-use Rattle.function_arguments.specs.Arguments.{text_or_empty_argument, atom_argument}
+use Rattle.function_arguments.specs.Arguments.{text_or_empty_argument}
 use Rattle.function_arguments.specs.Arguments.{optional_atom_argument, optional_name_argument}
 use Rattle.function_arguments.specs.Arguments.{optional_node_argument, text_arguments}
 use Rattle.function_arguments.specs.Arguments.{atom_arguments}
@@ -206,12 +206,6 @@ unfolding text_or_empty_argument
 text_or_empty_given xs h =
     then_known (OnSome IsXml) IsXml (optional_text_argument xs) or_empty
     (optional_text_given xs h) or_empty_known
-
-pub atom_given : (xs : List Item) → AllSound xs → OnValue IsSoundAtom (atom_argument xs)
-unfolding atom_argument
-atom_given xs h =
-    then_known AllSound IsSoundAtom (converted (atomic kind.Any One) xs) (of_only atom_of_item)
-    (converted_known (atomic kind.Any One) xs h) (only_known IsSoundAtom atom_of_item atom_read)
 
 pub optional_atom_given : (xs : List Item) → AllSound xs →
     OnValue (OnSome IsSoundAtom) (optional_atom_argument xs)
