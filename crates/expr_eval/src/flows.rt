@@ -22,6 +22,7 @@ use eval_steps::{
     push_variable, truth_of, tuple_key,
 };
 use eval_values::append;
+use flow_streams::is_streamed;
 use order_group::KeyRow;
 use xdm_items::{Item, ItemList};
 use xt_names::{ExprName, List, Shared};
@@ -32,11 +33,33 @@ impl<'a, G: Callee, F: Fn(&ExprName, &[ItemList], &mut u64) -> Result<ItemList, 
     G,
     F,
 > {
+    /// A FLWOR expression (XQuery 1.0, 3.8).
+    #[cycle(eval)]
+    #[inline(never)]
+    pub(crate) fn eval_flwor(
+        &self,
+        env: &Env,
+        next: &mut u64,
+        parts: &Flwor,
+    ) -> Result<ItemList, EvalFault>
+        requires callable { F.IsAlwaysCallable self.now.calls }
+        requires serves { Serves (F.post self.now.calls) (G.calls self.now.given) }
+        ensures { let p = program_of self.now.fixed (G.calls self.now.given)
+            (G.keys self.now.given) in
+            Answers result next.new (flwor_outcome p parts.now (env_of env.now) next.old) }
+    {
+        if is_streamed(parts) {
+            let clauses = parts.clauses.get().as_slice();
+            return self.eval_stream(env, next, clauses, parts.body.get());
+        }
+        self.eval_tuples(env, next, parts)
+    }
+
     /// A FLWOR expression: all tuples with their keys, then their order, and then the bodies
     /// (XQuery 1.0, 3.8).
     #[cycle(eval)]
     #[inline(never)]
-    pub(crate) fn eval_flwor(
+    pub(crate) fn eval_tuples(
         &self,
         env: &Env,
         next: &mut u64,

@@ -19,5 +19,6 @@ mod making;
 mod naming;
 mod paths;
 mod rows;
+mod streams;
 
 pub use hosts::{Callee, Host};

@@ -100,6 +100,48 @@ fn variables(rt: HostRuntime) {
     }
 }
 
+// All tuples come before the first body, also where no one can tell.
+#[test]
+fn tuples_and_bodies(rt: HostRuntime) {
+    let cases = [
+        (
+            "for $x in (1, 0) let $y := 1 idiv $x return $x + 'a'",
+            "FOAR0001",
+        ),
+        (
+            "for $x in (1, 0) return if ($x = 1) then $x + 'a' else 1 idiv $x",
+            "XPTY0004",
+        ),
+        (
+            "for $x as xs:integer in (1, 'a') return error()",
+            "XPTY0004",
+        ),
+        ("for $x in (1, 'a') return error()", "FOER0000"),
+        (
+            "for $x in 1 to 2, $y in 1 to 3 return $x * $y",
+            "1 2 3 2 4 6",
+        ),
+        ("for $x in 1 to 2, $x in 3 to 4 return $x", "3 4 3 4"),
+        (
+            "for $x in ('c', 'a'), $y in 1 to 2 return concat($x, $y)",
+            "c1 c2 a1 a2",
+        ),
+        ("for $x in (1, 2) let $y := 5 return $x + $y", "6 7"),
+        (
+            "for $x at $p in ('c', 'a') let $y := 7 return $p + $y",
+            "8 9",
+        ),
+        ("let $n := 3 for $x in 1 to $n return $x", "1 2 3"),
+        ("let $n := 1 idiv 0 for $x in () return $x", "FOAR0001"),
+        ("let $a := 1 for $x in () return error()", ""),
+    ];
+    for (text, wanted) in cases {
+        let found = told(&rt, text, "<a/>", 0);
+        assert_eq!(rt; found.as_str(), wanted);
+        drop(found);
+    }
+}
+
 #[test]
 fn paths(rt: HostRuntime) {
     let cases = [

@@ -47,6 +47,11 @@ use Rattle.xt_syntax.specs.declared.exprs.Part.{Part}
 use Rattle.xt_syntax.specs.declared.exprs.Clause.TheViews.{out-Arm, out-Order, out-DirectAttr}
 use Rattle.expr_eval.specs.Rows.{rows_of}
 use Rattle.eval_steps.specs.Sizes.{total}
+use Rattle.flow_streams.specs.Streams.{stream_of, binder_of}
+use Rattle.flow_streams.proofs.Clauses.{for_binds, let_binds}
+use Rattle.flow_streams.proofs.Turns.{item_streams, item_fails, place_streams, place_fails}
+use Rattle.flow_streams.proofs.Turns.{let_streams, let_value_fails, let_fails, for_fails}
+use Rattle.flow_streams.proofs.Turns.{for_turns as stream_turns_of, for_places as stream_places_of}
 use Rattle.expr_eval.proofs.hosts.Host.+eval.Goals as goal
 
 pub eval_comma-eval-requires : goal.eval_comma-eval-requires
@@ -936,8 +941,8 @@ eval_behind-returns g t c =
     (g.G.Callee.keys c.args.self.now.given) in
     rw (← tuple_within (bindings c.args.env.now.locals.now) c.args.bound.now) c.eval.ensures
 
-pub eval_flwor-returns-in_err-eval_clauses : goal.eval_flwor-returns-in_err-eval_clauses
-eval_flwor-returns-in_err-eval_clauses g t c =
+pub eval_tuples-returns-in_err-eval_clauses : goal.eval_tuples-returns-in_err-eval_clauses
+eval_tuples-returns-in_err-eval_clauses g t c =
     let p = program_of c.args.self.now.fixed (g.G.Callee.calls c.args.self.now.given)
     (g.G.Callee.keys c.args.self.now.given) in
     let q = err_from_is_err_and c.from_residual.result c.from_residual.ensures.1 in
@@ -945,8 +950,8 @@ eval_flwor-returns-in_err-eval_clauses g t c =
     (rw (c.as_slice.ensures, c.get.ensures, c.new-bound.ensures.items) at
     c.in_err-eval_clauses.ensures.rows))
 
-pub eval_flwor-returns-in_err-places : goal.eval_flwor-returns-in_err-places
-eval_flwor-returns-in_err-places g t c =
+pub eval_tuples-returns-in_err-places : goal.eval_tuples-returns-in_err-places
+eval_tuples-returns-in_err-places g t c =
     let p = program_of c.args.self.now.fixed (g.G.Callee.calls c.args.self.now.given)
     (g.G.Callee.keys c.args.self.now.given) in
     let q = err_from_is_err_and c.from_residual-in_err-places.result
@@ -959,8 +964,8 @@ eval_flwor-returns-in_err-places g t c =
     made.0 _ made.1 (rw (same, c.as_slice-2.ensures, c.get-2.ensures) at
     (c.in_err-places.ensures c.eval_clauses.new.next)))
 
-pub eval_flwor-returns : goal.eval_flwor-returns
-eval_flwor-returns g t c =
+pub eval_tuples-returns : goal.eval_tuples-returns
+eval_tuples-returns g t c =
     let p = program_of c.args.self.now.fixed (g.G.Callee.calls c.args.self.now.given)
     (g.G.Callee.keys c.args.self.now.given) in
     let made = rw (c.as_slice.ensures, c.get.ensures, c.new-bound.ensures.items) at
@@ -1103,3 +1108,247 @@ eval-returns-in-Call g t c =
       ←
           c.as_slice-in-Call.ensures,
     ) c.eval_call.ensures
+
+pub eval_flwor-returns-then : goal.eval_flwor-returns-then
+eval_flwor-returns-then g t c =
+    let p = program_of c.args.self.now.fixed (g.G.Callee.calls c.args.self.now.given)
+    (g.G.Callee.keys c.args.self.now.given) in
+    rw (c.is_streamed.ensures c.if-is_streamed.true p (env_of c.args.env.now) c.args.next.now)
+    (rw (c.as_slice-clauses.ensures, c.get.ensures, c.get-2.ensures) at c.eval_stream.ensures)
+
+pub eval_stream-returns-in-For : goal.eval_stream-returns-in-For
+eval_stream-returns-in-For g t c =
+    let p = program_of c.args.self.now.fixed (g.G.Callee.calls c.args.self.now.given)
+    (g.G.Callee.keys c.args.self.now.given) in
+    rw (
+      first_and_rest c.args.clauses.now c.first-item.result _ c.in-len1-up.len_at_least
+          c.first-item.is,
+      c.in-For.is,
+      for_binds p c.in-For.bind c.in-For.place,
+    ) c.stream_for.ensures
+
+pub eval_stream-returns-in-Let : goal.eval_stream-returns-in-Let
+eval_stream-returns-in-Let g t c =
+    let p = program_of c.args.self.now.fixed (g.G.Callee.calls c.args.self.now.given)
+    (g.G.Callee.keys c.args.self.now.given) in
+    rw (
+      first_and_rest c.args.clauses.now c.first-item.result _ c.in-len1-up.len_at_least
+          c.first-item.is,
+      c.in-Let.is,
+      let_binds p c.in-Let.bind,
+    ) c.stream_let.ensures
+
+pub stream_let-returns-in_err-items : goal.stream_let-returns-in_err-items
+stream_let-returns-in_err-items g t c =
+    let p = program_of c.args.self.now.fixed (g.G.Callee.calls c.args.self.now.given)
+    (g.G.Callee.keys c.args.self.now.given) in
+    let q = err_from_is_err_and c.from_residual.result c.from_residual.ensures.1 in
+    rw (q.1, q.2) (let_fails p c.args.bind.now (stream_of (map (binder_of p) c.args.rest.now)
+    (outcome p c.args.body.now)) (env_of c.args.env.now) c.args.next.now _
+    (rw c.get.ensures at c.in_err-items.ensures))
+
+pub stream_let-returns-in_err-bound_list : goal.stream_let-returns-in_err-bound_list
+stream_let-returns-in_err-bound_list g t c =
+    let p = program_of c.args.self.now.fixed (g.G.Callee.calls c.args.self.now.given)
+    (g.G.Callee.keys c.args.self.now.given) in
+    let q = err_from_is_err_and c.from_residual-in_err-bound_list.result
+    c.from_residual-in_err-bound_list.ensures.1 in
+    rw (q.1, q.2) (let_value_fails p c.args.bind.now (stream_of (map (binder_of p) c.args.rest.now)
+    (outcome p c.args.body.now)) (env_of c.args.env.now) c.args.next.now _ _ _
+    (rw c.get.ensures at c.in_ok-items.ensures) (c.in_err-bound_list.ensures _))
+
+pub stream_let-returns : goal.stream_let-returns
+stream_let-returns g t c =
+    let p = program_of c.args.self.now.fixed (g.G.Callee.calls c.args.self.now.given)
+    (g.G.Callee.keys c.args.self.now.given) in
+    rw (let_streams p c.args.bind.now (stream_of (map (binder_of p) c.args.rest.now)
+    (outcome p c.args.body.now)) (env_of c.args.env.now) c.args.next.now _ _ _
+    (rw c.get.ensures at c.in_ok-items.ensures) (c.in_ok-bound_list.ensures _))
+    c.eval_stream.ensures
+
+pub stream_for-returns-in_err-items : goal.stream_for-returns-in_err-items
+stream_for-returns-in_err-items g t c =
+    let p = program_of c.args.self.now.fixed (g.G.Callee.calls c.args.self.now.given)
+    (g.G.Callee.keys c.args.self.now.given) in
+    let q = err_from_is_err_and c.from_residual.result c.from_residual.ensures.1 in
+    rw (q.1, q.2) (for_fails p c.args.bind.now (stream_of (map (binder_of p) c.args.rest.now)
+    (outcome p c.args.body.now)) (env_of c.args.env.now) c.args.next.now c.args.place.now _
+    (rw c.get.ensures at c.in_err-items.ensures))
+
+pub stream_for-returns-in-None : goal.stream_for-returns-in-None
+stream_for-returns-in-None g t c =
+    let p = program_of c.args.self.now.fixed (g.G.Callee.calls c.args.self.now.given)
+    (g.G.Callee.keys c.args.self.now.given) in
+    rw (
+      c.in-None.is,
+      stream_turns_of p c.args.bind.now (stream_of (map (binder_of p) c.args.rest.now)
+          (outcome p c.args.body.now)) (env_of c.args.env.now) c.args.next.now _ _
+          (rw c.get.ensures at c.in_ok-items.ensures),
+    )
+    (rw c.as_slice.ensures at c.stream_turns.ensures)
+
+pub stream_for-returns-in-Some : goal.stream_for-returns-in-Some
+stream_for-returns-in-Some g t c =
+    let p = program_of c.args.self.now.fixed (g.G.Callee.calls c.args.self.now.given)
+    (g.G.Callee.keys c.args.self.now.given) in
+    rw (
+      c.in-Some.is,
+      stream_places_of p c.args.bind.now (stream_of (map (binder_of p) c.args.rest.now)
+          (outcome p c.args.body.now)) (env_of c.args.env.now) c.args.next.now _ _ c.in-Some.at
+          (rw c.get.ensures at c.in_ok-items.ensures),
+    )
+    (rw c.as_slice-in-Some.ensures at c.stream_places.ensures)
+
+pub stream_turns-loop-item-init : goal.stream_turns-loop-item-init
+stream_turns-loop-item-init g t c =
+    gathers_first _ _ _ _ c.new-list.ensures
+
+pub stream_turns-returns-in_err-bound_item : goal.stream_turns-returns-in_err-bound_item
+stream_turns-returns-in_err-bound_item g t c =
+    let p = program_of c.args.self.now.fixed (g.G.Callee.calls c.args.self.now.given)
+    (g.G.Callee.keys c.args.self.now.given) in
+    let lt : c.loop-item.item-index < length c.args.items.now = omega arith in
+    let q = err_from_is_err_and c.from_residual.result c.from_residual.ensures.1 in
+    rw (q.1, q.2) (gathers_exit _ _ _ _ _ _ _ _ _ c.loop-item.invariant lt c.item-item.is
+    (item_fails p c.args.bind.now (stream_of (map (binder_of p) c.args.rest.now)
+    (outcome p c.args.body.now)) (env_of c.args.env.now) c.item-item.result c.loop-item.next _
+    (c.in_err-bound_item.ensures c.loop-item.next)))
+
+pub stream_turns-returns-in_err-more : goal.stream_turns-returns-in_err-more
+stream_turns-returns-in_err-more g t c =
+    let p = program_of c.args.self.now.fixed (g.G.Callee.calls c.args.self.now.given)
+    (g.G.Callee.keys c.args.self.now.given) in
+    let lt : c.loop-item.item-index < length c.args.items.now = omega arith in
+    let q = err_from_is_err_and c.from_residual-in_err-more.result
+    c.from_residual-in_err-more.ensures.1 in
+    rw (q.1, q.2) (gathers_exit _ _ _ _ _ _ _ _ _ c.loop-item.invariant lt c.item-item.is
+    (rw (item_streams p c.args.bind.now (stream_of (map (binder_of p) c.args.rest.now)
+    (outcome p c.args.body.now)) (env_of c.args.env.now) c.item-item.result c.loop-item.next _
+    (c.in_ok-bound_item.ensures c.loop-item.next)) c.in_err-more.ensures))
+
+pub stream_turns-loop-item-preserved : goal.stream_turns-loop-item-preserved
+stream_turns-loop-item-preserved g t c =
+    let p = program_of c.args.self.now.fixed (g.G.Callee.calls c.args.self.now.given)
+    (g.G.Callee.keys c.args.self.now.given) in
+    let lt : c.loop-item.item-index < length c.args.items.now = omega arith in
+    gathers_step _ _ _ _ _ _ _ _ _ _ _ c.loop-item.invariant lt c.item-item.is
+    (rw (item_streams p c.args.bind.now (stream_of (map (binder_of p) c.args.rest.now)
+    (outcome p c.args.body.now)) (env_of c.args.env.now) c.item-item.result c.loop-item.next _
+    (c.in_ok-bound_item.ensures c.loop-item.next)) c.in_ok-more.ensures) c.in_ok-list.ensures
+
+pub stream_turns-returns : goal.stream_turns-returns
+stream_turns-returns g t c =
+    let le : length c.args.items.now ≤ c.loop-item.item-index = omega arith in
+    gathers_end _ _ _ _ _ _ c.loop-item.invariant le
+
+pub stream_places-loop-item-init : goal.stream_places-loop-item-init
+stream_places-loop-item-init g t c =
+    (refl, gathers_first _ _ _ _ c.new-list.ensures)
+
+pub stream_places-returns-in_err-size : goal.stream_places-returns-in_err-size
+stream_places-returns-in_err-size g t c =
+    let q = err_from_is_err_and c.from_residual.result c.from_residual.ensures.1 in
+    rw (q.1, q.2, places_by_count c.args.items.now c.args.next.now)
+    (fault_first _ _ _ (fault_first _ _ _ (c.in_err-size.ensures c.args.next.now)))
+
+pub stream_places-returns-in_err-variable : goal.stream_places-returns-in_err-variable
+stream_places-returns-in_err-variable g t c =
+    let p = program_of c.args.self.now.fixed (g.G.Callee.calls c.args.self.now.given)
+    (g.G.Callee.keys c.args.self.now.given) in
+    let lt : c.loop-item.item-index < length c.args.items.now = omega arith in
+    let size : c.in_ok-size.size ≡ length c.args.items.now = count_is c.args.items.now _ _ _
+    (c.in_ok-size.ensures 0) in
+    let lt2 : c.loop-item.item-index < length (placed_from 1 c.in_ok-size.size c.args.items.now)
+    = rw (placed_length 1 c.in_ok-size.size c.args.items.now) lt in
+    let here = placed_item 1 c.in_ok-size.size c.args.items.now c.loop-item.item-index
+    c.item-item.result _ (record { value = c.item-item.result; place = 0; size = 0 }) lt
+    c.item-item.is in
+    let q = err_from_is_err_and c.from_residual-in_err-variable.result
+    c.from_residual-in_err-variable.ensures.1 in
+    rw (
+      q.1,
+      q.2,
+      places_by_count c.args.items.now c.args.next.now,
+      c.in_ok-size.ensures c.args.next.now,
+    )
+    (gathers_exit _ _ _ _ _ _ _ _ _ c.loop-item.invariant.1 lt2 here
+    (place_fails p c.args.bind.now c.args.at.now (stream_of (map (binder_of p) c.args.rest.now) (outcome p c.args.body.now))
+    (env_of c.args.env.now)
+    (record {
+      value = c.item-item.result;
+      place = 1 + c.loop-item.item-index;
+      size = c.in_ok-size.size;
+    }) c.loop-item.next _ (c.in_err-variable.ensures c.loop-item.next)))
+
+pub stream_places-returns-in_err-more : goal.stream_places-returns-in_err-more
+stream_places-returns-in_err-more g t c =
+    let p = program_of c.args.self.now.fixed (g.G.Callee.calls c.args.self.now.given)
+    (g.G.Callee.keys c.args.self.now.given) in
+    let lt : c.loop-item.item-index < length c.args.items.now = omega arith in
+    let size : c.in_ok-size.size ≡ length c.args.items.now = count_is c.args.items.now _ _ _
+    (c.in_ok-size.ensures 0) in
+    let lt2 : c.loop-item.item-index < length (placed_from 1 c.in_ok-size.size c.args.items.now)
+    = rw (placed_length 1 c.in_ok-size.size c.args.items.now) lt in
+    let here = placed_item 1 c.in_ok-size.size c.args.items.now c.loop-item.item-index
+    c.item-item.result _ (record { value = c.item-item.result; place = 0; size = 0 }) lt
+    c.item-item.is in
+    let there : c.place_in.result ≡ 1 + c.loop-item.item-index = omega (
+      arith,
+      c.loop-item.invariant.0,
+      c.place_in.ensures
+          (omega (arith, size, lt, c.loop-item.invariant.0)),
+    ) in
+    let q = err_from_is_err_and c.from_residual-in_err-more.result
+    c.from_residual-in_err-more.ensures.1 in
+    rw (
+      q.1,
+      q.2,
+      places_by_count c.args.items.now c.args.next.now,
+      c.in_ok-size.ensures c.args.next.now,
+    )
+    (gathers_exit _ _ _ _ _ _ _ _ _ c.loop-item.invariant.1 lt2 here
+    (rw (place_streams p c.args.bind.now c.args.at.now (stream_of (map (binder_of p) c.args.rest.now) (outcome p c.args.body.now))
+    (env_of c.args.env.now)
+    (record {
+      value = c.item-item.result;
+      place = 1 + c.loop-item.item-index;
+      size = c.in_ok-size.size;
+    }) c.loop-item.next _ (c.in_ok-variable.ensures c.loop-item.next))
+    (rw (c.in_ok-place.ensures, there) at c.in_err-more.ensures)))
+
+pub stream_places-loop-item-preserved : goal.stream_places-loop-item-preserved
+stream_places-loop-item-preserved g t c =
+    let p = program_of c.args.self.now.fixed (g.G.Callee.calls c.args.self.now.given)
+    (g.G.Callee.keys c.args.self.now.given) in
+    let lt : c.loop-item.item-index < length c.args.items.now = omega arith in
+    let size : c.in_ok-size.size ≡ length c.args.items.now = count_is c.args.items.now _ _ _
+    (c.in_ok-size.ensures 0) in
+    let lt2 : c.loop-item.item-index < length (placed_from 1 c.in_ok-size.size c.args.items.now)
+    = rw (placed_length 1 c.in_ok-size.size c.args.items.now) lt in
+    let here = placed_item 1 c.in_ok-size.size c.args.items.now c.loop-item.item-index
+    c.item-item.result _ (record { value = c.item-item.result; place = 0; size = 0 }) lt
+    c.item-item.is in
+    let there : c.place_in.result ≡ 1 + c.loop-item.item-index = omega (
+      arith,
+      c.loop-item.invariant.0,
+      c.place_in.ensures
+          (omega (arith, size, lt, c.loop-item.invariant.0)),
+    ) in (
+      omega (arith, c.loop-item.invariant.0),
+      gathers_step _ _ _ _ _ _ _ _ _ _ _ c.loop-item.invariant.1 lt2 here
+          (rw (place_streams p c.args.bind.now c.args.at.now (stream_of (map (binder_of p) c.args.rest.now) (outcome p c.args.body.now))
+          (env_of c.args.env.now)
+          (record {
+            value = c.item-item.result;
+            place = 1 + c.loop-item.item-index;
+            size = c.in_ok-size.size;
+          }) c.loop-item.next _ (c.in_ok-variable.ensures c.loop-item.next))
+          (rw (c.in_ok-place.ensures, there) at c.in_ok-more.ensures)) c.in_ok-list.ensures,
+    )
+
+pub stream_places-returns : goal.stream_places-returns
+stream_places-returns g t c =
+    let le : length c.args.items.now ≤ c.loop-item.item-index = omega arith in
+    rw (places_by_count c.args.items.now c.args.next.now, c.in_ok-size.ensures c.args.next.now)
+    (gathers_end _ _ _ _ _ _ c.loop-item.invariant.1 (rw
+    (placed_length 1 c.in_ok-size.size c.args.items.now) le))

@@ -26,6 +26,7 @@ use Rattle.expr_eval.proofs.Tuples.{Turns}
 use Rattle.eval_steps.specs.Sizes.{or_0}
 use Rattle.eval_steps.specs.Sizes.{total, nodes, arm_nodes, bind_nodes, clause_nodes, order_nodes}
 use Rattle.eval_steps.specs.Sizes.{name_nodes, attr_nodes, part_nodes, flwor_nodes, row_nodes}
+use Rattle.flow_streams.specs.Streams.{stream_of, stream_item, stream_place, binder_of}
 use Rattle.expr_eval.proofs.hosts.Host.+eval.Given as goal
 
 abbrev pub decreases-eval : goal.decreases-eval
@@ -140,7 +141,27 @@ abbrev pub decreases-eval_part : goal.decreases-eval_part
 decreases-eval_part g l = 8 * part_nodes l.part.now
 
 abbrev pub decreases-eval_flwor : goal.decreases-eval_flwor
-decreases-eval_flwor g l = 8 * flwor_nodes l.parts.now
+decreases-eval_flwor g l = 8 * flwor_nodes l.parts.now + 1
+
+abbrev pub decreases-eval_tuples : goal.decreases-eval_tuples
+decreases-eval_tuples g l = 8 * flwor_nodes l.parts.now
+
+abbrev pub decreases-eval_stream : goal.decreases-eval_stream
+decreases-eval_stream g l = 8 * (total (map clause_nodes l.clauses.now) + nodes l.body.now) + 3
+
+abbrev pub decreases-stream_let : goal.decreases-stream_let
+decreases-stream_let g l =
+    8 * (bind_nodes l.bind.now + (total (map clause_nodes l.rest.now) + nodes l.body.now)) + 4
+
+abbrev pub decreases-stream_for : goal.decreases-stream_for
+decreases-stream_for g l =
+    8 * (bind_nodes l.bind.now + (total (map clause_nodes l.rest.now) + nodes l.body.now)) + 5
+
+abbrev pub decreases-stream_turns : goal.decreases-stream_turns
+decreases-stream_turns g l = 8 * (total (map clause_nodes l.rest.now) + nodes l.body.now) + 4
+
+abbrev pub decreases-stream_places : goal.decreases-stream_places
+decreases-stream_places g l = 8 * (total (map clause_nodes l.rest.now) + nodes l.body.now) + 4
 
 abbrev pub decreases-eval_clauses : goal.decreases-eval_clauses
 decreases-eval_clauses g l = 8 * (total (map clause_nodes l.clauses.now) + row_nodes l.parts.now) + 4
@@ -275,3 +296,18 @@ invariant-eval_places-loop-item g l =
     let fs = placed_from 1 l.size l.items in
     (l.position ≡ l.item-index) × (l.bound.items ≡ l.fn.bound.items)
     × Turns f fs (for_each f fs l.fn.next) l.fn.rows l.rows l.item-index l.next
+
+abbrev pub invariant-stream_turns-loop-item : goal.invariant-stream_turns-loop-item
+invariant-stream_turns-loop-item g l =
+    let p = program_of l.self.fixed (g.G.Callee.calls l.self.given) (g.G.Callee.keys l.self.given) in
+    let rest = stream_of (map (binder_of p) l.rest) (outcome p l.body) in
+    let f = stream_item (bind_outcome p l.bind) rest (env_of l.env) in
+    Gathers f l.items (for_each f l.items l.fn.next) l.list l.item-index l.next
+
+abbrev pub invariant-stream_places-loop-item : goal.invariant-stream_places-loop-item
+invariant-stream_places-loop-item g l =
+    let p = program_of l.self.fixed (g.G.Callee.calls l.self.given) (g.G.Callee.keys l.self.given) in
+    let rest = stream_of (map (binder_of p) l.rest) (outcome p l.body) in
+    let f = stream_place (bind_outcome p l.bind) l.at rest (env_of l.env) in
+    let fs = placed_from 1 l.size l.items in
+    (l.position ≡ l.item-index) × Gathers f fs (for_each f fs l.fn.next) l.list l.item-index l.next
