@@ -1109,12 +1109,16 @@ eval-returns-in-Call g t c =
           c.as_slice-in-Call.ensures,
     ) c.eval_call.ensures
 
-pub eval_flwor-returns-then : goal.eval_flwor-returns-then
-eval_flwor-returns-then g t c =
+pub eval_flwor-returns-then-is_streamed : goal.eval_flwor-returns-then-is_streamed
+eval_flwor-returns-then-is_streamed g t c =
     let p = program_of c.args.self.now.fixed (g.G.Callee.calls c.args.self.now.given)
     (g.G.Callee.keys c.args.self.now.given) in
     rw (c.is_streamed.ensures c.if-is_streamed.true p (env_of c.args.env.now) c.args.next.now)
-    (rw (c.as_slice-clauses.ensures, c.get.ensures, c.get-2.ensures) at c.eval_stream.ensures)
+    (rw (c.as_slice-clauses.ensures, c.get.ensures, c.get-then-is_streamed.ensures) at c.eval_stream.ensures)
+
+pub eval_stream-returns-in-empty : goal.eval_stream-returns-in-empty
+eval_stream-returns-in-empty g t c =
+    rw (no_items c.args.clauses.now c.in-empty.len_below) c.eval.ensures
 
 pub eval_stream-returns-in-For : goal.eval_stream-returns-in-For
 eval_stream-returns-in-For g t c =
@@ -1186,18 +1190,6 @@ stream_for-returns-in-None g t c =
           (rw c.get.ensures at c.in_ok-items.ensures),
     )
     (rw c.as_slice.ensures at c.stream_turns.ensures)
-
-pub stream_for-returns-in-Some : goal.stream_for-returns-in-Some
-stream_for-returns-in-Some g t c =
-    let p = program_of c.args.self.now.fixed (g.G.Callee.calls c.args.self.now.given)
-    (g.G.Callee.keys c.args.self.now.given) in
-    rw (
-      c.in-Some.is,
-      stream_places_of p c.args.bind.now (stream_of (map (binder_of p) c.args.rest.now)
-          (outcome p c.args.body.now)) (env_of c.args.env.now) c.args.next.now _ _ c.in-Some.at
-          (rw c.get.ensures at c.in_ok-items.ensures),
-    )
-    (rw c.as_slice-in-Some.ensures at c.stream_places.ensures)
 
 pub stream_turns-loop-item-init : goal.stream_turns-loop-item-init
 stream_turns-loop-item-init g t c =
