@@ -1,0 +1,5 @@
+pub mod Shaped
+pub mod Parts
+pub mod Elements
+pub mod Cans
+pub mod Forms
