@@ -1,0 +1,3 @@
+pub mod Segments
+pub mod Written
+pub mod Shaped
