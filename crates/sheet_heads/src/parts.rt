@@ -1,0 +1,84 @@
+// Rules and parts that several elements have.
+ghost use Rattle.std.specs.Prelude.{◌≡◌, [], IfOk};
+ghost use Rattle.expr_names.specs.Answers.{Answers};
+ghost use Rattle.expr_names.specs.Names.{uri_of};
+ghost use Rattle.sheet_table.specs.Attributes.{attribute};
+ghost use Rattle.sheet_values.specs.Rules.{broken};
+ghost use Rattle.sheet_heads.specs.Attributes.{needed_faults};
+ghost use Rattle.sheet_texts.specs.Templates.{template_faults};
+ghost use Rattle.std.specs.Prelude.{codes};
+ghost use Rattle.sheet_heads.specs.Parts.{both_broken, computed_name};
+
+use crate::attributes::needed_template;
+use expr_names::{ResolveFault, no_text};
+use sheet_table::has;
+use sheet_texts::{Place, Reader};
+use sheet_values::sheet_fault;
+use std::alloc::{AllocError, Global};
+use xt_names::{Binding, SheetStaticCode, Text};
+use xt_sheets::values::AvtName;
+use xt_tree::Attribute;
+
+/// Refuses where the rule is broken (XSLT 2.0, 2.9).
+pub fn refuse_if(code: SheetStaticCode, is_broken: bool) -> Result<(), ResolveFault>
+    ensures { Answers result (broken code is_broken) tt }
+{
+    if is_broken {
+        return Err(sheet_fault(code));
+    }
+    Ok(())
+}
+
+/// Refuses `select` beside content.
+pub(crate) fn check_one(
+    code: SheetStaticCode,
+    attributes: &[Attribute],
+    has_content: bool,
+) -> Result<(), ResolveFault>
+    ensures { Answers result (both_broken code attributes.now has_content) tt }
+{
+    refuse_if(code, has(attributes, "select") && has_content)
+}
+
+/// The uri of the first binding of the prefix; the empty text where there is none.
+fn uri_of(alloc: Global, bound: &[Binding], prefix: &Text) -> Result<Text, AllocError>
+    ensures { IfOk result (λ uri. uri ≡ uri_of bound.now prefix.now) }
+{
+    for binding in bound {
+        if binding.prefix == *prefix {
+            return binding.uri.copy();
+        }
+    }
+    no_text(alloc)
+}
+
+/// The uri of names without prefix, which is the empty text where none is declared (Namespaces in
+/// XML 1.0, 6.2).
+pub fn default_uri(alloc: Global, bound: &[Binding]) -> Result<Text, AllocError>
+    ensures { IfOk result (λ uri. uri ≡ uri_of bound.now []) }
+{
+    let none = no_text(alloc)?;
+    uri_of(alloc, bound, &none)
+}
+
+/// The name in the attribute `name` that is computed when the instruction runs.
+pub(crate) fn computed_name<R: Reader>(
+    alloc: Global,
+    reader: &R,
+    place: &Place,
+    attributes: &[Attribute],
+    default_uri: Text,
+) -> Result<AvtName<R::Expr>, ResolveFault>
+    ensures { Answers result
+        (needed_faults (template_faults (R.reads reader.now) place.now)
+        (attribute attributes.now (codes "name")))
+        (computed_name (R.reads reader.now) place.now attributes.now default_uri) }
+{
+    let text = needed_template(alloc, reader, place, attributes, "name")?;
+    let scope = place.bound.copy()?;
+    Ok(AvtName {
+        text,
+        scope,
+        default_uri,
+    })
+}
