@@ -1,0 +1,6 @@
+-- What a contract sees of a route.
+use Rattle.way_laws.specs.Ways.{Way}
+use Rattle.quiet_steps.specs.declared.routes.Route.{Route}
+
+abbrev pub way_along : Route → Way
+way_along r = record { from = r.from; along = r.axis; wanted = r.test.now; tests = r.tests.now }
