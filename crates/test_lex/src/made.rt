@@ -1,6 +1,7 @@
 // What tests are made of. Each helper ends the test where memory runs out.
 use std::alloc::AllocGlobal;
 use std::process::Abort;
+use text_tokens::lexed;
 use xpath_lex::{LexFault, Token, TokenKind, token_at, tokens};
 
 pub(crate) fn push(rt: &(impl Abort + AllocGlobal), out: &mut String, s: &str) {
@@ -56,6 +57,21 @@ pub(crate) fn listed(rt: &(impl Abort + AllocGlobal), text: &str) -> String {
         }
         Err(LexFault::BadToken(place)) => push_fault(rt, &mut out, place),
         Err(LexFault::Memory(_)) => push(rt, &mut out, "no memory"),
+    }
+    out
+}
+
+// the same by the function of the text, where the place of a fault is not told
+pub(crate) fn listed_once(rt: &(impl Abort + AllocGlobal), text: &str) -> String {
+    let mut out = String::new(rt.alloc());
+    match lexed(rt.alloc(), text).expect(rt, "memory") {
+        Some(list) => {
+            for token in list.as_slice() {
+                push_token(rt, &mut out, token);
+            }
+            drop(list);
+        }
+        None => push(rt, &mut out, "!"),
     }
     out
 }

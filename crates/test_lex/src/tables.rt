@@ -1,5 +1,5 @@
 // The tokens of small texts, worked out by hand from XPath 2.0, A.2.
-use crate::made::{listed, walked};
+use crate::made::{listed, listed_once, walked};
 use std::alloc::AllocGlobal;
 use std::process::Abort;
 
@@ -11,6 +11,14 @@ fn lists_all(rt: &(impl Abort + AllocGlobal), rows: &[(&str, &str)]) {
         let walk = walked(rt, text);
         assert_eq!(rt; walk.as_str(), *expected, "token by token of {text}");
         drop(walk);
+        let once = listed_once(rt, text);
+        let wanted = if expected.starts_with("!") {
+            "!"
+        } else {
+            expected
+        };
+        assert_eq!(rt; once.as_str(), wanted, "at once of {text}");
+        drop(once);
     }
 }
 
