@@ -51,7 +51,7 @@ fn walk(alloc: Global, axis: Axis, test: &Test, from: &Node) -> Result<Seq, Allo
         IfOk result (λ seq. given seq.moves ≡ map a_node nodes) }
 {
     let cursor = Cursor::new(alloc, from, axis, test.copy()?)?;
-    Ok(Seq::of_cursor(cursor))
+    Seq::of_cursor(alloc, cursor)
 }
 
 /// The nodes of the axis that pass the test, in document order; XPTY0020 of an atom.

@@ -24,7 +24,7 @@ pub fn step(alloc: Global, axis: Axis, test: &Test, from: &Item) -> Result<ItemL
         Item::Atom(_) => Err(ValueFault::Error(Code::Dynamic(DynamicCode::XPTY0020))),
         Item::Node(node) => {
             let cursor = Cursor::new(alloc, node, axis, test.copy()?)?;
-            Ok(Seq::of_cursor(cursor).to_list(alloc)?)
+            Ok(Seq::of_cursor(alloc, cursor)?.to_list(alloc)?)
         }
     }
 }

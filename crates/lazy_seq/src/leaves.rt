@@ -10,21 +10,28 @@ use crate::shares::SharedStock;
 use crate::stocks::Stock;
 use node_axes::Steps;
 use node_walks::Walk;
-use std::alloc::AllocError;
+use std::alloc::{AllocError, Global};
 use std::sync::ledger::Ledger;
 use xdm_items::Item;
 use xt_atoms::Atom;
 
-/// Items that are held, integers of a range, or what a walk along an axis gives.
+/// Items that are held, integers of a range, or what a walk along an axis gives. A walk is large, so
+/// that it stands behind a pointer: sequences are handed on by value.
 #[derive(Drop)]
 pub(crate) enum Leaf {
     Stock(Stock),
     Shared(SharedStock),
     Integers(Integers),
-    Walk(Walk),
+    Walk(Box<Walk>),
 }
 
 impl Leaf {
+    pub(crate) fn of_walk(alloc: Global, walk: Walk) -> Result<Leaf, AllocError>
+        ensures { IfOk result (λ leaf. leaf_moves leaf ≡ walk) }
+    {
+        Ok(Leaf::Walk(Box::new(alloc, walk)?))
+    }
+
     /// Whether there is an item; a walk goes to it.
     #[tactic(auto, using(crate::proofs::MoveLemmas::given_all, crate::proofs::MoveLemmas::settled_all))]
     pub(crate) fn settle<L: Ledger>(&mut self, steps: &mut Steps<L>) -> Result<bool, AllocError>
@@ -118,7 +125,7 @@ impl Leaf {
             Leaf::Stock(stock) => Ok(Leaf::Stock(stock.copy()?)),
             Leaf::Shared(stock) => Ok(Leaf::Shared(stock.copy()?)),
             Leaf::Integers(integers) => Ok(Leaf::Integers(integers.copy())),
-            Leaf::Walk(walk) => Ok(Leaf::Walk(walk.copy()?)),
+            Leaf::Walk(walk) => Leaf::of_walk(*Box::allocator(walk), walk.copy()?),
         }
     }
 }

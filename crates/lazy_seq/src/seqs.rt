@@ -99,17 +99,17 @@ impl Seq {
     }
 
     /// The nodes that the cursor has not reached yet and that pass its test, in the order of the
-    /// axis (XPath 2.0, 3.2.1); the node at which it stands is not among them. It takes no memory
-    /// and no step.
-    pub fn of_cursor(cursor: Cursor) -> Seq
-        ensures moves { result.moves ≡ moves_to_come cursor }
-        ensures items { given result.moves ≡ map a_node (hits_ahead cursor) }
-        ensures first { steps_before result.moves ≡ steps_ahead cursor }
-        ensures whole { all_steps result.moves ≡ length (to_come cursor) + 1 }
+    /// axis (XPath 2.0, 3.2.1); the node at which it stands is not among them. It takes no step.
+    #[tactic(auto, using(crate::proofs::CursorLemmas::cursor_items, crate::proofs::CursorLemmas::cursor_first, crate::proofs::CursorLemmas::cursor_whole))]
+    pub fn of_cursor(alloc: Global, cursor: Cursor) -> Result<Seq, AllocError>
+        ensures moves { IfOk result (λ seq. seq.moves ≡ moves_to_come cursor) }
+        ensures items { IfOk result (λ seq. given seq.moves ≡ map a_node (hits_ahead cursor)) }
+        ensures first { IfOk result (λ seq. steps_before seq.moves ≡ steps_ahead cursor) }
+        ensures whole { IfOk result (λ seq. all_steps seq.moves ≡ length (to_come cursor) + 1) }
     {
-        Seq {
-            shape: Shape::Leaf(Leaf::Walk(Walk::of_cursor(cursor))),
-        }
+        Ok(Seq {
+            shape: Shape::Leaf(Leaf::of_walk(alloc, Walk::of_cursor(cursor))?),
+        })
     }
 
     /// Those of the same nodes that the predicates keep in turn, where each of them counts
@@ -131,7 +131,7 @@ impl Seq {
         if are_size_free(quiet.as_slice()) {
             let walk = Walk::of_quiet(alloc, cursor, quiet)?;
             return Ok(Seq {
-                shape: Shape::Leaf(Leaf::Walk(walk)),
+                shape: Shape::Leaf(Leaf::of_walk(alloc, walk)?),
             });
         }
         let items = kept_hits(alloc, cursor, quiet.as_slice())?;

@@ -88,7 +88,7 @@ fn walk_from(alloc: Global, cursor: Cursor, tests: &List<Expr>) -> Result<Seq, A
         IfOk result (λ seq. given seq.moves ≡ map a_node kept) }
 {
     match tests.as_slice() {
-        [] => Ok(Seq::of_cursor(cursor)),
+        [] => Seq::of_cursor(alloc, cursor),
         _ => {
             let tests = copy_list(tests)?;
             Seq::of_quiet(alloc, cursor, tests)

@@ -17,7 +17,7 @@ const MANY: u32 = 300_000;
 // The elements `a` on the axis.
 pub(crate) fn walk(alloc: Global, node: &Node, axis: Axis) -> Result<Seq, AllocError> {
     let test = Test::Named(NameTest::Local(Text::make(alloc, "a")?));
-    Ok(Seq::of_cursor(Cursor::new(alloc, node, axis, test)?))
+    Seq::of_cursor(alloc, Cursor::new(alloc, node, axis, test)?)
 }
 
 fn has_descendant<L: Ledger>(
