@@ -1,0 +1,4 @@
+pub mod HeldLemmas
+pub mod Trees
+pub mod Walks
+pub mod Stops

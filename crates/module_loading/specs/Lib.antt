@@ -1,0 +1,5 @@
+pub mod Held
+pub mod Trees
+pub mod Walk
+pub mod Loads
+pub mod Refusals
