@@ -1,0 +1,5 @@
+pub mod Calls
+pub mod Keys
+pub mod Parts
+pub mod Checked
+pub mod Uses
