@@ -1,0 +1,9 @@
+-- A token that is put onto a page stands before the others.
+use Rattle.std.proofs.Common.{◌≡◌, List, [], ◌∷◌, ◌++◌, map, reverse, refl, ap}
+use Rattle.std.proofs.lemmas.List.{reverse-append}
+use Rattle.expr_terms.specs.declared.tokens.Token.{Token}
+use Rattle.query_pages.specs.declared.placed.Placed.{Placed}
+use Rattle.query_pages.specs.Placed.{tokens_of}
+
+pub pushed : (xs : List Placed) (x : Placed) → tokens_of (xs ++ x ∷ []) ≡ x.token ∷ tokens_of xs
+pushed xs x = ap (λ ys. map (λ y. y.token) ys) (reverse-append xs (x ∷ []))

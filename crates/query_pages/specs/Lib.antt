@@ -1,0 +1,4 @@
+pub mod Gaps
+pub mod Laid
+pub mod Placed
+pub mod Nexts

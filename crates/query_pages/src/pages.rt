@@ -1,0 +1,67 @@
+// Pages.
+ghost use Rattle.std.specs.Prelude.{◌≡◌, ◌∷◌, [], OnOk, IfOk};
+ghost use Rattle.expr_terms.specs.declared.tokens.Token.TheVariants as token_of;
+ghost use Rattle.query_pages.specs.Laid.{IsTextOf};
+
+use crate::gaps::Gap;
+use crate::lines::gaps_of;
+use crate::placed::Placed;
+use crate::texts::written;
+use expr_terms::{Key, Token};
+use std::alloc::{AllocError, Global};
+use std::marker::Model;
+use xt_names::Text;
+
+/// The tokens of a query, or of a part of one that ends with it; contracts see the list of them.
+#[derive(Drop)]
+pub struct Page {
+    /// The last token first.
+    items: Vec<Placed>,
+}
+
+impl Model for Page {
+    ghost use Rattle.std.specs.Prelude.{List};
+    ghost use Rattle.expr_terms.specs.declared.tokens.Token.{Token};
+    ghost use Rattle.query_pages.specs.Placed.{tokens_of};
+
+    ghost Value = { List Token };
+
+    ghost view = { λ p. tokens_of p.items.items };
+}
+
+impl Page {
+    /// No tokens.
+    pub fn new(alloc: Global) -> Page
+        ensures { result ≡ [] }
+    {
+        Page {
+            items: Vec::new(alloc),
+        }
+    }
+
+    /// Puts a token before all others, with what is wanted before it.
+    #[tactic(auto, using(crate::proofs::Pushed::pushed))]
+    pub fn push(&mut self, gap: Gap, token: Token) -> Result<(), AllocError>
+        ensures { OnOk result (self.new ≡ token ∷ self.old) }
+    {
+        self.items.push(Placed { token, gap })?;
+        Ok(())
+    }
+
+    /// Puts a key before all other tokens, with what is wanted before it.
+    pub fn push_key(&mut self, gap: Gap, key: Key) -> Result<(), AllocError>
+        ensures { OnOk result (self.new ≡ token_of.Key key ∷ self.old) }
+    {
+        self.push(gap, Token::Key(key))
+    }
+
+    /// The text of the tokens, with white space between them: where lines are told to end, they do,
+    /// and where they may, they do before they would have more than some hundred columns.
+    /// (XQuery 1.0, A.2)
+    pub fn text(&self, alloc: Global) -> Result<Text, AllocError>
+        ensures { IfOk result (λ text. IsTextOf self.now text) }
+    {
+        let gaps = gaps_of(alloc, self.items.as_slice())?;
+        written(alloc, self.items.as_slice(), gaps.as_slice())
+    }
+}
