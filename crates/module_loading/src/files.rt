@@ -2,7 +2,9 @@
 ghost use Rattle.std.specs.Prelude.{◌≡◌, IfOk, IfErr};
 ghost use Rattle.std.specs.Str.{encode_utf8_all};
 ghost use Rattle.xt_io.specs.Files.{KeepsFiles};
+ghost use Rattle.doc_reader.specs.Fault.{HasReadCause};
 ghost use Rattle.module_loading.specs.Held.{HoldsBytes, HoldsModule, IsUnloadedAs, IsUnreadAs};
+ghost use Rattle.module_loading.specs.Held.{StandsFor};
 
 use crate::faults::SheetFault;
 use doc_reader::{ReadFault, Scoped, read_scoped};
@@ -29,6 +31,17 @@ fn load<F: Files>(alloc: Global, files: &mut F, name: &Text) -> Result<Vec<u8>, 
     }
 }
 
+/// What bytes stand for, with the namespace declarations.
+fn read_bytes(alloc: Global, bytes: &[u8]) -> Result<Scoped, ReadFault>
+    ensures stands { IfOk result (StandsFor bytes.now) }
+    ensures refused { IfErr result (HasReadCause bytes.now) }
+{
+    match read_scoped(alloc, bytes) {
+        Ok(scoped) => Ok(scoped),
+        Err(fault) => Err(fault),
+    }
+}
+
 /// What the text of a file stands for, with its namespace declarations.
 pub(crate) fn read_file<F: Files>(
     alloc: Global,
@@ -40,7 +53,7 @@ pub(crate) fn read_file<F: Files>(
     ensures keeps { KeepsFiles (F.state files.old) (F.state files.new) }
 {
     let bytes = load(alloc, files, name)?;
-    match read_scoped(alloc, &bytes) {
+    match read_bytes(alloc, &bytes) {
         Ok(scoped) => Ok(scoped),
         Err(ReadFault::Bad(spot)) => Err(SheetFault::Malformed(name.copy()?, spot)),
         Err(ReadFault::Memory(e)) => Err(SheetFault::Memory(e)),
