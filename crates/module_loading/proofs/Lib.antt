@@ -2,3 +2,4 @@ pub mod HeldLemmas
 pub mod Trees
 pub mod Walks
 pub mod Stops
+pub mod LevelLaws

@@ -3,3 +3,4 @@ pub mod Trees
 pub mod Walk
 pub mod Loads
 pub mod Refusals
+pub mod Laws

@@ -16,11 +16,13 @@
 
 mod faults;
 mod files;
+mod laws;
 mod loaded;
 mod readers;
 mod walk;
 
 pub use faults::SheetFault;
+pub use laws::levels_are_those_of_precedence;
 pub use loaded::{LoadedModule, LoadedSheet};
 pub use readers::LinkReader;
 pub use walk::load_modules;
