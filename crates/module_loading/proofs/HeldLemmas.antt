@@ -1,5 +1,5 @@
 -- One load after another.
-use Rattle.std.proofs.Common.{◌≡◌, ℕ, List, arith, inl, inr, refl, ◌∙◌, subst, sym}
+use Rattle.std.proofs.Common.{◌≡◌, ℕ, List, arith, inl, inr, refl, ◌∙◌}
 use Rattle.std.specs.Str.{encode_utf8_all}
 use Rattle.xt_io.specs.Files.{FilesState, KeepsFiles}
 use Rattle.doc_grammar.specs.declared.spots.Spot.{Spot}

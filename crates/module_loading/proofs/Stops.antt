@@ -15,8 +15,8 @@ use Rattle.module_loading.specs.declared.loaded.LoadedSheet.{LoadedSheet}
 use Rattle.module_loading.specs.declared.walk.Pieces.{Pieces}
 use Rattle.module_loading.specs.Held.{Holdings, HoldsNoModule, IsUnreadAs, IsLoadFailure, IsTooLong}
 use Rattle.module_loading.specs.Trees.{Modules, none, module_count}
-use Rattle.module_loading.specs.Walk.{Point, target, is_loading, circle_code, most_modules, IsModule, LeadsTo, LeadTo}
-use Rattle.module_loading.specs.Walk.{Comes, here, inside, later, BreaksLinkRule}
+use Rattle.module_loading.specs.Walk.{Point, is_loading, circle_code, most_modules, IsModule, LeadsTo, LeadTo}
+use Rattle.module_loading.specs.Walk.{Comes, here, inside, later}
 use Rattle.module_loading.specs.Loads.{AddsModule, LoadsLink}
 use Rattle.module_loading.specs.Refusals.{Asks, Breaks, AsksFrom, BreaksFrom, IsLinksRefusedAs, IsModuleRefusedAs}
 use Rattle.module_loading.proofs.HeldLemmas.{failed_later, long_later}

@@ -1,7 +1,6 @@
 -- How many modules and levels there are.
-use Rattle.std.proofs.Common.{◌≡◌, ◌≤◌, ℕ, ◌+◌, List, [], ◌∷◌, ◌++◌, Bool, true, false, length, length-append, arith, refl}
+use Rattle.std.proofs.Common.{◌≡◌, ◌≤◌, ℕ, ◌+◌, List, ◌∷◌, ◌++◌, Bool, true, false, length, length-append, arith, refl}
 use Rattle.import_levels.specs.Levels.{Links, level_count}
-use Rattle.sheet_modules.specs.declared.links.Link.{Link}
 use Rattle.sheet_levels.specs.declared.levels.Span.{Span}
 use Rattle.sheet_levels.specs.declared.levels.SheetLevel.{SheetLevel}
 use Rattle.module_loading.specs.declared.loaded.LoadedModule.{LoadedModule}

@@ -1,5 +1,5 @@
 -- How what the links lead to is put together.
-use Rattle.std.proofs.Common.{◌≡◌, ◌≤◌, ◌<◌, ℕ, ◌+◌, List, [], ◌∷◌, ◌++◌, Bool, true, false, length, arith, refl, sym, ap, subst, ◌∙◌, append_assoc, append-nil, drop, get_or, Result, Ok, Err, OnOk, Some, None, Option, unwrap_or}
+use Rattle.std.proofs.Common.{◌≡◌, ◌≤◌, ◌<◌, ℕ, ◌+◌, List, [], ◌∷◌, ◌++◌, Bool, false, length, arith, refl, sym, ap, subst, ◌∙◌, append_assoc, append-nil, drop, get_or, Result, Ok, Err, OnOk, Some, None}
 use Rattle.xt_names.proofs.ListLemmas.{drop_at}
 use Rattle.doc_reader.specs.declared.Scoped.{Scoped}
 use Rattle.import_levels.specs.Levels.{level_count}
@@ -12,8 +12,8 @@ use Rattle.module_loading.specs.declared.loaded.LoadedSheet.{LoadedSheet}
 use Rattle.module_loading.specs.declared.walk.Pieces.{Pieces}
 use Rattle.module_loading.specs.Held.{Holdings, HoldsModule}
 use Rattle.module_loading.specs.Trees.{Modules, none, linked, listed, module_count, links_of, span, included}
-use Rattle.module_loading.specs.Trees.{spans, opened, more_levels, levels, all_levels}
-use Rattle.module_loading.specs.Walk.{IsModule, LeadsTo, LeadTo, most_modules, is_loading}
+use Rattle.module_loading.specs.Trees.{spans, opened, more_levels, levels}
+use Rattle.module_loading.specs.Walk.{LeadTo, most_modules, is_loading}
 use Rattle.module_loading.specs.Loads.{AddsModule, LoadsModule, LoadsLink, LoadsLinks, IsLoadedSheet, Places}
 use Rattle.module_loading.proofs.Trees.{length-with_link, length-with_modules, levels_fit, at_most_one}
 

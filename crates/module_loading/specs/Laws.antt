@@ -1,6 +1,6 @@
 -- The levels of the modules that are loaded, in the words of the Recommendation (XSLT 2.0, 3.10.2
 -- and 3.10.3).
-use Rattle.std.specs.Prelude.{◌≡◌, ℕ, ◌+◌, List, ◌∷◌, ◌++◌, map, Some, false}
+use Rattle.std.specs.Prelude.{◌≡◌, ℕ, ◌+◌, ◌∷◌, ◌++◌, map, Some, false}
 use Rattle.import_levels.specs.Levels.{firsts_of}
 use Rattle.sheet_levels.specs.declared.levels.SheetLevel.{SheetLevel}
 use Rattle.sheet_modules.specs.declared.links.Link.{Link}

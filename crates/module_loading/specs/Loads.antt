@@ -1,5 +1,5 @@
 -- What is loaded, step by step, and of the whole stylesheet.
-use Rattle.std.specs.Prelude.{◌≡◌, ◌≤◌, ℕ, ◌+◌, List, [], ◌∷◌, ◌++◌, Bool, true, false, length}
+use Rattle.std.specs.Prelude.{◌≡◌, ◌≤◌, ℕ, ◌+◌, List, [], ◌∷◌, ◌++◌, Bool, length}
 use Rattle.doc_reader.specs.declared.Scoped.{Scoped}
 use Rattle.module_names.specs.Names.{resolved}
 use Rattle.sheet_modules.specs.declared.links.Link.{Link}

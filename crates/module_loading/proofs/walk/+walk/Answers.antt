@@ -1,5 +1,5 @@
 -- The walk, link by link.
-use Rattle.std.proofs.Common.{◌≡◌, ◌≤◌, ◌<◌, length, arith, rules, drop, refl, ◌∙◌}
+use Rattle.std.proofs.Common.{◌≤◌, ◌<◌, length, arith, rules, drop, refl, ◌∙◌}
 use Rattle.std.proofs.lemmas.Grind.{common_steps}
 use Rattle.std.proofs.lemmas.Result.{err_from_is_err_and, IfErr-weaker}
 use Rattle.module_loading.specs.Walk.{most_modules}

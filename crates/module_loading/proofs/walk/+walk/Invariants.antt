@@ -1,4 +1,4 @@
-use Rattle.std.proofs.Common.{ℕ, ◌+◌, ◌-◌, ◌*◌, length}
+use Rattle.std.proofs.Common.{◌+◌, ◌-◌, ◌*◌, length}
 use Rattle.module_loading.proofs.walk.+walk.Given as goal
 
 abbrev pub decreases-load_module : goal.decreases-load_module
