@@ -1,0 +1,233 @@
+#!/usr/bin/env python3
+"""Builds stubs of the libraries below a crate, so that the crate can be checked before they are proved.
+
+usage: tools/stubs.py NAME..     builds a stub of each library below these crates that is not built
+       tools/stubs.py --clear    removes all stubs
+
+A stub has the types, definitions and contracts of its library, and bodies that cannot be reached: each calls a
+foreign function that is assumed to promise everything. It is built in a fraction of the time of a proof, and `rt
+check NAME` then takes it for the library. What is proved over stubs is as good as what they promise: `rt ci` reads
+none of them, and only its word counts.
+"""
+import importlib.machinery
+import importlib.util
+import os
+import re
+import shutil
+import subprocess
+import sys
+import tempfile
+import time
+
+KIT = "/opt/rattle"
+TOP = os.path.dirname(os.path.dirname(os.path.abspath(__file__)))
+CALL = "{\n    crate::unreached::unreached();\n    unreachable!()\n}"
+UNREACHED = """unsafe extern "C" {{
+    fn {name}_is_a_stub() ensures {{ ⊥ }};
+}}
+
+pub(crate) fn unreached()
+    ensures {{ ⊥ }}
+{{
+    unsafe {{ {name}_is_a_stub() }}
+}}
+"""
+NAME_OF_FN = re.compile(r"\bfn\s+[A-Za-z_]\w*")
+CLAUSE = re.compile(r"(requires|ensures|ghost|decreases)\b\*?")
+TACTIC = r"\[tactic\((?:[^()]|\((?:[^()]|\([^()]*\))*\))*\)\]"
+CYCLE = r"#\[cycle\(\w+\)\]\n(?=\s*(///[^\n]*\n\s*)*(#\[[^\n]*\n\s*)*(pub(\([a-z]+\))? )?(unsafe )?fn )"
+
+
+def kit():
+    """The kit's rt as a module, which remembers what stands below each crate."""
+    sys.path.insert(0, f"{KIT}/bin")
+    loader = importlib.machinery.SourceFileLoader("rt", f"{KIT}/bin/rt")
+    module = importlib.util.module_from_spec(importlib.util.spec_from_loader("rt", loader))
+    sys.modules["rt"] = module
+    loader.exec_module(module)
+
+    def below(crate):
+        if "all_below" not in crate.__dict__:
+            found = {}
+            for dep in crate.deps:
+                found.update({it.name: it for it in [*dep.below(), dep]})
+            crate.all_below = list(found.values())
+        return list(crate.all_below)
+
+    module.rtlib.Crate.below = module.Crate.below = below
+    module.Crate.allowed = module.handles_of(TOP)
+    module.STAMPS.seen = {}
+    return module
+
+
+def behind_text(code, at):
+    """The place behind a literal text that begins here."""
+    at += 1
+    while code[at] != '"':
+        at += 2 if code[at] == "\\" else 1
+    return at + 1
+
+
+def behind_group(code, at, comments=True):
+    """The place behind a bracket that opens here."""
+    close, depth = {"{": "}", "(": ")", "[": "]", "<": ">"}[code[at]], 0
+    opens = code[at]
+    while True:
+        if comments and code.startswith("//", at):
+            at = code.index("\n", at)
+        elif code[at] == '"':
+            at = behind_text(code, at)
+            continue
+        elif char := re.match(r"'(\\.[^']*|[^'\\])'", code[at:]):
+            at += char.end()
+            continue
+        elif code[at] == opens:
+            depth += 1
+        elif code[at] == close and code[at - 1 : at + 1] != "->":
+            depth -= 1
+            if depth == 0:
+                return at + 1
+        at += 1
+
+
+def behind_space(code, at):
+    while code[at].isspace() or code.startswith("//", at):
+        at = code.index("\n", at) if code.startswith("//", at) else at + 1
+    return at
+
+
+def next_fn(code, at):
+    """The next place behind `fn NAME` that is no comment, text or ghost item; None where there is none."""
+    while at < len(code):
+        if code.startswith("//", at):
+            at = code.find("\n", at)
+            if at < 0:
+                return None
+        elif code[at] == '"':
+            at = behind_text(code, at)
+        elif re.match(r"ghost\s+(use|view|Value)", code[at : at + 20]):
+            at = code.index(";", at)
+        elif found := NAME_OF_FN.match(code, at):
+            return found.end()
+        else:
+            at += 1
+    return None
+
+
+def body_of(code, at):
+    """Where the body begins of a function whose name ends here, or its semicolon."""
+    at = behind_space(code, at)
+    if code[at] == "<":
+        at = behind_space(code, behind_group(code, at))
+    at = behind_group(code, at)
+    while True:
+        at = behind_space(code, at)
+        if CLAUSE.match(code, at):
+            at = behind_group(code, code.index("{", at), comments=False)
+        elif code[at] in "{;":
+            return at
+        elif code[at] in "([":
+            at = behind_group(code, at)
+        else:
+            word = re.compile(r"\w+").match(code, at)
+            at = word.end() if word else at + 1
+
+
+def without_bodies(code):
+    made, at = "", 0
+    while (name := next_fn(code, at)) is not None:
+        body = body_of(code, name)
+        made += code[at:body] + (";" if code[body] == ";" else CALL)
+        at = body + 1 if code[body] == ";" else behind_group(code, body)
+    return made + code[at:]
+
+
+def stubbed(code):
+    code = re.sub(r"#\[cfg\(test\)\]\s*mod \w+;\n?", "", code)
+    code = re.sub("#!" + TACTIC, "#![tactic(auto)]", code)
+    code = re.sub("#" + TACTIC + r"\n?", "", code)
+    return without_bodies(re.sub(CYCLE, "", code))
+
+
+def names_proofs_of(name):
+    """Whether another crate names a lemma of this one."""
+    words = ["grep", "-rlE", rf"Rattle\.{name}\.proofs\.|\b{name}::proofs::", f"{TOP}/crates"]
+    found = subprocess.run([*words, "--include=*.antt", "--include=*.rt"], capture_output=True, text=True)
+    return any(f"/crates/{name}/" not in it for it in found.stdout.split())
+
+
+def write_stub(crate, into):
+    """Copies the crate without bodies and, where no other names a lemma of it, without proofs."""
+    if os.path.isdir(f"{crate.folder}/specs"):
+        shutil.copytree(f"{crate.folder}/specs", f"{into}/specs")
+    os.makedirs(f"{into}/proofs")
+    open(f"{into}/proofs/Lib.antt", "w").close()
+    if names_proofs_of(crate.name):
+        for it in os.scandir(f"{crate.folder}/proofs"):
+            if it.is_file():
+                shutil.copy(it.path, f"{into}/proofs/{it.name}")
+    for folder, _, files in os.walk(f"{crate.folder}/src"):
+        to = into + "/src" + folder[len(f"{crate.folder}/src") :]
+        os.makedirs(to, exist_ok=True)
+        for file in files:
+            code = stubbed(open(f"{folder}/{file}").read())
+            if file == "lib.rt" and to == f"{into}/src":
+                at = re.search(r"^(pub )?(mod|use) ", code, re.M).start()
+                code = f"{code[:at]}mod unreached;\n{code[at:]}"
+            with open(f"{to}/{file}", "w") as it:
+                it.write(code)
+    with open(f"{into}/src/unreached.rt", "w") as it:
+        it.write(UNREACHED.format(name=crate.name))
+
+
+def words_for(crate):
+    words = ["--crate-name", crate.name, "src/lib.rt"]
+    for name in dict.fromkeys(["std", *crate.of_kit]):
+        words += ["--extern", f"{name}={KIT}/rlibs/{name}.rlib"]
+    words += ["-L", f"dependency={KIT}/rlibs"]
+    for dep in crate.deps:
+        words += ["--extern", f"{dep.name}={dep.rlib}"]
+    for dep in crate.below():
+        words += ["-L", f"dependency={os.path.dirname(dep.rlib)}"]
+    words += ["--antt-project", f"{KIT}/rattle/logic/antt-project.json"]
+    words += ["--logic-built", f"{KIT}/logic_built", "--links", f"{crate.name}=c"]
+    return [*words, "--jobs", "1", "--statements", "-o", crate.rlib]
+
+
+def build_stub(crate):
+    """Builds the stub, and tells whether that went well."""
+    began, out = time.time(), f"{crate.folder}/out/rlib"
+    with tempfile.TemporaryDirectory(prefix="stub-") as into:
+        write_stub(crate, into)
+        shutil.rmtree(out, ignore_errors=True)
+        os.makedirs(out)
+        words = [f"{KIT}/bin/rattle", "build", *words_for(crate)]
+        ran = subprocess.run(words, cwd=into, capture_output=True, text=True)
+    if not os.path.isdir(crate.rlib):
+        print(f"{crate.name}: no stub\n{(ran.stdout + ran.stderr)[-1500:]}")
+        return False
+    for name, text in (("stamp", crate.stamp()), ("stub", "")):
+        with open(f"{out}/{name}", "w") as it:
+            it.write(text)
+    print(f"{crate.name}: a stub, in {time.time() - began:.0f} s", flush=True)
+    return True
+
+
+def main(names):
+    if names == ["--clear"]:
+        for it in os.listdir(f"{TOP}/crates"):
+            if os.path.exists(f"{TOP}/crates/{it}/out/rlib/stub"):
+                shutil.rmtree(f"{TOP}/crates/{it}/out/rlib")
+        return 0
+    if not names or names[0].startswith("-"):
+        print(__doc__.split("\n\n")[1])
+        return 2
+    os.chdir(TOP)
+    rt = kit()
+    crates = {it.name: it for it in rt.crates_of(TOP)}
+    needed = {it.name: it for name in names for it in crates[name].below()}
+    return 0 if all(it.is_built() or build_stub(it) for it in needed.values()) else 1
+
+
+if __name__ == "__main__":
+    sys.exit(main(sys.argv[1:]))
