@@ -10,8 +10,10 @@ use sheet_values::written_name;
 use std::alloc::{AllocError, Global};
 use xt_names::{Binding, ExprName, Text, TextBuilder};
 
+/// The name of a key as one text: its local part, with its uri in braces before it where it has one
+/// (XSLT 2.0, 16.3).
 #[tactic(auto, unfolding(crate::specs::Keys::braced))]
-fn braced(alloc: Global, name: &ExprName) -> Result<Text, AllocError>
+pub fn braced(alloc: Global, name: &ExprName) -> Result<Text, AllocError>
     ensures { IfOk result (λ text. text ≡ braced name.now) }
 {
     if name.uri.is_empty() {

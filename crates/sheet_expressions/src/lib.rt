@@ -19,6 +19,6 @@ mod uses;
 mod whole;
 
 pub use calls::{SheetCall, sheet_call};
-pub use keys::key_text;
+pub use keys::{braced, key_text};
 pub use uses::is_key_use;
 pub use whole::checked;

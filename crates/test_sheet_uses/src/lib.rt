@@ -1,4 +1,5 @@
-//! Tests of what the parts of stylesheets use of what is declared around them.
+//! Tests of what the parts of stylesheets use of what is declared around them, and of names that are
+//! not declared.
 //!
 //! They stand apart from the crates that they test, so that a change of a test need not prove them
 //! again. A helper ends the test where memory runs out, and what a test makes ends by `drop`.
@@ -6,6 +7,8 @@
 
 #[cfg(test)]
 mod bodies;
+#[cfg(test)]
+mod declared;
 #[cfg(test)]
 mod expressions;
 #[cfg(test)]
