@@ -1,6 +1,6 @@
 -- What texts mean where they stand, and which rules they break there. E is the type of what
 -- expressions are read as, P that of the alternatives of patterns.
-use Rattle.std.specs.Prelude.{ℕ, List}
+use Rattle.std.specs.Prelude.{ℕ, ℤ, List, Bool}
 use Rattle.xt_names.specs.declared.codes.Code.{Code}
 use Rattle.xt_types.specs.declared.types.SeqType.{SeqType}
 use Rattle.sheet_texts.specs.declared.places.Place.{Place}
@@ -14,3 +14,7 @@ pub record Reading (E P : Type 0) : Type 0 where
   pub patterns_value : Place → List ℕ → List P
   pub type_faults : Place → List ℕ → List Code
   pub type_value : Place → List ℕ → SeqType
+  -- an expression that may be the `use` of a key (16.3.1)
+  pub is_key_use : E → Bool
+  -- of one alternative of a pattern, in thousandths (6.4)
+  pub default_priority : P → ℤ

@@ -18,6 +18,6 @@ mod templates;
 
 pub use laws::templates_mean_their_parts;
 pub use names::NameTable;
-pub use places::Place;
+pub use places::{Place, bound_within};
 pub use readers::Reader;
 pub use templates::template;

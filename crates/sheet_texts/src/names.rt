@@ -51,4 +51,11 @@ impl NameTable {
         let place = self.names.get_index_of(name).unwrap_or(self.names.len());
         u32::try_from(place).unwrap_or(u32::MAX)
     }
+
+    /// The names in the order of their numbers.
+    pub fn as_slice(&self) -> &[ExprName]
+        ensures { result.now ≡ self.now }
+    {
+        self.names.as_slice()
+    }
 }

@@ -57,8 +57,9 @@ impl Place {
     }
 }
 
-/// The bindings with these before them; they are shared where there are none.
-fn bound_within(
+/// The bindings within an element with these declarations, which stand before them; where there are
+/// none the bindings are shared (Namespaces in XML 1.0, 6.1).
+pub fn bound_within(
     alloc: Global,
     own: &List<Binding>,
     bound: &Shared<List<Binding>>,

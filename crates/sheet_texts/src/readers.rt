@@ -10,6 +10,7 @@ use xt_types::SeqType;
 /// What reads expressions, patterns and types: each method gives what the text means at the place,
 /// and refuses it exactly where it breaks a rule there, with the code of the first one.
 pub trait Reader {
+    ghost use Rattle.std.specs.Prelude.{◌≡◌};
     ghost use Rattle.expr_names.specs.Answers.{Answers};
     ghost use Rattle.sheet_texts.specs.Readings.{Reading};
 
@@ -49,4 +50,13 @@ pub trait Reader {
     ) -> Result<SeqType, ResolveFault>
         ensures { Answers result ((reads self.now).type_faults place.now text.now)
             ((reads self.now).type_value place.now text.now) };
+
+    /// Whether the expression may be the `use` of a key: it names and binds no variable, and calls
+    /// no key() (XSLT 2.0, 16.3.1).
+    fn is_key_use(&self, expr: &Self::Expr) -> bool
+        ensures { result ≡ (reads self.now).is_key_use expr.now };
+
+    /// The default priority of one alternative of a pattern, in thousandths (XSLT 2.0, 6.4).
+    fn default_priority(&self, pattern: &Self::Pattern) -> i64
+        ensures { result ≡ (reads self.now).default_priority pattern.now };
 }
