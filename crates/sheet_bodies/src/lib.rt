@@ -13,3 +13,4 @@ mod bodies;
 mod parts;
 
 pub use bodies::{read_body, read_bound};
+pub use parts::{is_none, with_item};

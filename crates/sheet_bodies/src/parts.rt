@@ -25,8 +25,8 @@ use std::alloc::{AllocError, Global};
 use xt_names::{List, Name, Shared};
 use xt_sheets::instrs::{Bound, Instr, When};
 
-/// The items with one more.
-pub(crate) fn with_item<A: Drop>(
+/// The items and what was read of one more, which is refused as that was.
+pub fn with_item<A: Drop>(
     made: List<A>,
     item: Result<A, ResolveFault>,
 ) -> Result<List<A>, ResolveFault>
@@ -184,7 +184,8 @@ pub(crate) fn passing<E: Drop, P: Drop>(
     }
 }
 
-pub(crate) fn is_none(nodes: &[Node]) -> bool
+/// Whether there is no node.
+pub fn is_none(nodes: &[Node]) -> bool
     ensures { result ≡ is_none nodes.now }
 {
     match nodes {

@@ -36,8 +36,9 @@ pub struct BoundHead<E> {
     pub tunnel: bool,
 }
 
+/// Whether the attribute stands and is `yes` (XSLT 2.0, 2.2).
 #[tactic(auto, unfolding(crate::specs::Bindings::is_yes))]
-fn is_yes(attributes: &[Attribute], local: &str) -> bool
+pub fn is_yes(attributes: &[Attribute], local: &str) -> bool
     requires { IsTrue (is_ascii local.now) }
     ensures { result ≡ is_yes (attribute attributes.now local.now) }
 {
@@ -47,7 +48,14 @@ fn is_yes(attributes: &[Attribute], local: &str) -> bool
     }
 }
 
-fn name(alloc: Global, place: &Place, attributes: &[Attribute]) -> Result<ExprName, ResolveFault>
+/// The name in the attribute `name` of what is declared (XSLT 2.0, 5.1). XTSE0010 where it does not
+/// stand, XTSE0020 where it is no QName, XTSE0280 where its prefix is not declared, and XTSE0080
+/// where its namespace is reserved.
+pub fn needed_name(
+    alloc: Global,
+    place: &Place,
+    attributes: &[Attribute],
+) -> Result<ExprName, ResolveFault>
     ensures { Answers result
         (needed_faults (declared_faults XTSE0020 place.now.bound)
         (attribute attributes.now (codes "name")))
@@ -86,7 +94,7 @@ pub fn bound_head<R: Reader>(
         SheetStaticCode::XTSE0010,
         required && (has(attributes, "select") || has_content),
     )?;
-    let name = name(alloc, place, attributes)?;
+    let name = needed_name(alloc, place, attributes)?;
     let kind = optional_type(alloc, reader, place, attributes, "as")?;
     let select = optional_expr(alloc, reader, place, attributes, "select")?;
     let tunnel = is_yes(attributes, "tunnel");

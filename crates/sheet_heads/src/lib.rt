@@ -27,7 +27,7 @@ mod texts;
 pub use attributes::{
     needed_expr, needed_template, optional_expr, optional_template, optional_type,
 };
-pub use bindings::{BoundHead, bound_head, with_value};
+pub use bindings::{BoundHead, bound_head, is_yes, needed_name, with_value};
 pub use bodied::{Head, read_head, with_body};
 pub use calls::{CallHead, call_head, with_passed};
 pub use forms::{Form, form_of};
