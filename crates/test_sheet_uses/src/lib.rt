@@ -1,5 +1,5 @@
-//! Tests of what the parts of stylesheets use of what is declared around them, and of names that are
-//! not declared.
+//! Tests of what the parts of stylesheets use of what is declared around them, of names that are not
+//! declared, and of how globals depend on one another.
 //!
 //! They stand apart from the crates that they test, so that a change of a test need not prove them
 //! again. A helper ends the test where memory runs out, and what a test makes ends by `drop`.
@@ -11,5 +11,7 @@ mod bodies;
 mod declared;
 #[cfg(test)]
 mod expressions;
+#[cfg(test)]
+mod globals;
 #[cfg(test)]
 mod told;
