@@ -1,7 +1,8 @@
 #!/usr/bin/env python3
-"""Builds stubs of the libraries below a crate, so that the crate can be checked before they are proved.
+"""Makes libraries stand below a crate, so that the crate can be checked before they are proved here.
 
-usage: tools/stubs.py NAME..     builds a stub of each library below these crates that is not built
+usage: tools/stubs.py NAME..     takes what `rt ci` has kept of the libraries below these crates, and builds
+                                 a stub of each that it has not
        tools/stubs.py --clear    removes all stubs
 
 A stub has the types, definitions and contracts of its library, and bodies that cannot be reached: each calls a
@@ -172,8 +173,7 @@ def write_stub(crate, into):
         for file in files:
             code = stubbed(open(f"{folder}/{file}").read())
             if file == "lib.rt" and to == f"{into}/src":
-                at = re.search(r"^(pub )?(mod|use) ", code, re.M).start()
-                code = f"{code[:at]}mod unreached;\n{code[at:]}"
+                code += "\nmod unreached;\n"
             with open(f"{to}/{file}", "w") as it:
                 it.write(code)
     with open(f"{into}/src/unreached.rt", "w") as it:
@@ -194,6 +194,26 @@ def words_for(crate):
     return [*words, "--jobs", "1", "--statements", "-o", crate.rlib]
 
 
+def text_in(file):
+    try:
+        with open(file) as it:
+            return it.read()
+    except OSError:
+        return None
+
+
+def note(crate, **texts):
+    for name, text in texts.items():
+        with open(f"{crate.folder}/out/rlib/{name}", "w") as it:
+            it.write(text)
+
+
+def built_below(crate):
+    """What tells whether a library below was built anew."""
+    files = [f"{it.rlib}/format" for it in crate.below()]
+    return repr([os.stat(it).st_mtime_ns for it in files if os.path.exists(it)])
+
+
 def build_stub(crate):
     """Builds the stub, and tells whether that went well."""
     began, out = time.time(), f"{crate.folder}/out/rlib"
@@ -206,11 +226,36 @@ def build_stub(crate):
     if not os.path.isdir(crate.rlib):
         print(f"{crate.name}: no stub\n{(ran.stdout + ran.stderr)[-1500:]}")
         return False
-    for name, text in (("stamp", crate.stamp()), ("stub", "")):
-        with open(f"{out}/{name}", "w") as it:
-            it.write(text)
+    note(crate, stamp=crate.stamp(), stub=built_below(crate))
     print(f"{crate.name}: a stub, in {time.time() - began:.0f} s", flush=True)
     return True
+
+
+def take_kept(kept, crate, key):
+    """Takes what a run of rt ci kept of the library, and tells whether there was any."""
+    if not os.path.isdir(kept.place(crate, False, key)):
+        return False
+    shutil.rmtree(f"{crate.folder}/out/rlib", ignore_errors=True)
+    os.makedirs(f"{crate.folder}/out/rlib")
+    if not kept.give(crate, False, key):
+        return False
+    note(crate, stamp=crate.stamp(), kept=key)
+    return True
+
+
+def make_stand(kept, crate, proved):
+    """Makes the library stand, and tells whether it does; `proved` are the names of those that are no stubs."""
+    out = f"{crate.folder}/out/rlib"
+    stub = text_in(f"{out}/stub")
+    if all(it.name in proved for it in crate.below()):
+        stands = stub is None and crate.is_built()
+        if stands or take_kept(kept, crate, kept.key(crate)):
+            kept.is_built(crate)
+            proved.add(crate.name)
+            return True
+    if crate.is_built() and stub == built_below(crate):
+        return True
+    return all(it.is_built() for it in crate.deps) and build_stub(crate)
 
 
 def main(names):
@@ -224,9 +269,12 @@ def main(names):
         return 2
     os.chdir(TOP)
     rt = kit()
-    crates = {it.name: it for it in rt.crates_of(TOP)}
-    needed = {it.name: it for name in names for it in crates[name].below()}
-    return 0 if all(it.is_built() or build_stub(it) for it in needed.values()) else 1
+    crates = rt.crates_of(TOP)
+    by_name, proved = {it.name: it for it in crates}, set()
+    kept = rt.Kept(crates)
+    needed = {it.name: it for name in names for it in by_name[name].below()}
+    stand = [make_stand(kept, it, proved) for it in needed.values()]
+    return 0 if all(stand) else 1
 
 
 if __name__ == "__main__":
