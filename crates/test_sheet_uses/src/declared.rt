@@ -64,6 +64,23 @@ fn broken(rt: &(impl Abort + AllocGlobal), names: &Names, words: &str) -> String
     out
 }
 
+// Which case breaks something else.
+fn wrong_case<'a>(
+    rt: &(impl Abort + AllocGlobal),
+    names: &Names,
+    cases: &[(&'a str, &'a str)],
+) -> &'a str {
+    for (words, wanted) in cases {
+        let found = broken(rt, names, words);
+        let same = found.as_str() == *wanted;
+        drop(found);
+        if !same {
+            return words;
+        }
+    }
+    "none"
+}
+
 #[test]
 fn names_that_are_not_declared(rt: HostRuntime) {
     let names = some_names(&rt);
@@ -92,14 +109,7 @@ fn names_that_are_not_declared(rt: HostRuntime) {
             "XPST0008 XPST0017 XPST0008",
         ),
     ];
-    let mut wrong = "none";
-    for (words, wanted) in &cases {
-        let found = broken(&rt, &names, words);
-        if found.as_str() != *wanted {
-            wrong = words;
-        }
-        drop(found);
-    }
+    let wrong = wrong_case(&rt, &names, &cases);
     assert_eq!(rt; wrong, "none");
     drop(names);
 }
