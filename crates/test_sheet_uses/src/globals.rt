@@ -76,9 +76,14 @@ fn add_function(rt: &(impl Abort + AllocGlobal), sheet: &mut Sheet, local: &str,
     sheet.functions.push(function).expect(rt, "memory");
 }
 
-// A template, with a rule in each of the modes.
-fn add_template(rt: &(impl Abort + AllocGlobal), sheet: &mut Sheet, instr: Instr, modes: &[u32]) {
-    let place = sheet.templates.len() as u32;
+// The template with this number, with a rule in each of the modes.
+fn add_template(
+    rt: &(impl Abort + AllocGlobal),
+    sheet: &mut Sheet,
+    place: u32,
+    instr: Instr,
+    modes: &[u32],
+) {
     let template = Template {
         name: None,
         params: List::new(rt.alloc()),
@@ -134,8 +139,8 @@ fn what_a_global_reaches(rt: HostRuntime) {
     add_global(&rt, &mut sheet, "y", "$z");
     add_global(&rt, &mut sheet, "z", "1");
     add_function(&rt, &mut sheet, "f", apply(&rt, ModeUse::Current));
-    add_template(&rt, &mut sheet, Instr::Sequence(shared(&rt, "$y")), &[0]);
-    add_template(&rt, &mut sheet, Instr::Sequence(shared(&rt, "$z")), &[1]);
+    add_template(&rt, &mut sheet, 0, Instr::Sequence(shared(&rt, "$y")), &[0]);
+    add_template(&rt, &mut sheet, 1, Instr::Sequence(shared(&rt, "$z")), &[1]);
     assert!(rt;
         depend(&rt, sheet, &[&[1], &[2], &[]]),
         "by a function and a rule"
@@ -152,9 +157,9 @@ fn the_current_mode(rt: HostRuntime) {
     add_global(&rt, &mut sheet, "z", "1");
     add_function(&rt, &mut sheet, "f", apply(&rt, ModeUse::Number(1)));
     add_function(&rt, &mut sheet, "g", call(&rt, 1));
-    add_template(&rt, &mut sheet, call(&rt, 1), &[1]);
-    add_template(&rt, &mut sheet, apply(&rt, ModeUse::Current), &[]);
-    add_template(&rt, &mut sheet, Instr::Sequence(shared(&rt, "$z")), &[0]);
+    add_template(&rt, &mut sheet, 0, call(&rt, 1), &[1]);
+    add_template(&rt, &mut sheet, 1, apply(&rt, ModeUse::Current), &[]);
+    add_template(&rt, &mut sheet, 2, Instr::Sequence(shared(&rt, "$z")), &[0]);
     assert!(rt;
         depend(&rt, sheet, &[&[], &[2], &[]]),
         "in a rule, and in a function"
