@@ -19,6 +19,7 @@ import subprocess
 import sys
 import tempfile
 import time
+from concurrent.futures import ThreadPoolExecutor
 
 KIT = "/opt/rattle"
 TOP = os.path.dirname(os.path.dirname(os.path.abspath(__file__)))
@@ -273,8 +274,16 @@ def main(names):
     by_name, proved = {it.name: it for it in crates}, set()
     kept = rt.Kept(crates)
     needed = {it.name: it for name in names for it in by_name[name].below()}
-    stand = [make_stand(kept, it, proved) for it in needed.values()]
-    return 0 if all(stand) else 1
+    runs = {}
+
+    def stand(crate):
+        # (each library is begun after those below it, so none waits for one that has no turn)
+        return all(runs[it.name].result() for it in crate.below()) and make_stand(kept, crate, proved)
+
+    with ThreadPoolExecutor(os.cpu_count()) as pool:
+        for it in needed.values():
+            runs[it.name] = pool.submit(stand, it)
+    return 0 if all(it.result() for it in runs.values()) else 1
 
 
 if __name__ == "__main__":
