@@ -8,8 +8,10 @@ usage: tools/stubs.py NAME..     takes what `rt ci` has kept of the libraries be
 A stub has the types, definitions and contracts of its library, and bodies that cannot be reached: each calls a
 foreign function that is assumed to promise everything. It is built in a fraction of the time of a proof, and `rt
 check NAME` then takes it for the library. What is proved over stubs is as good as what they promise: `rt ci` reads
-none of them, and only its word counts.
+none of them, and only its word counts. The checkouts on a machine share their stubs, in a folder for temporary files.
 """
+import fcntl
+import hashlib
 import importlib.machinery
 import importlib.util
 import os
@@ -22,6 +24,7 @@ import time
 from concurrent.futures import ThreadPoolExecutor
 
 KIT = "/opt/rattle"
+STORE = f"{tempfile.gettempdir()}/stubs-of-libraries"
 TOP = os.path.dirname(os.path.dirname(os.path.abspath(__file__)))
 CALL = "{\n    crate::unreached::unreached();\n    unreachable!()\n}"
 UNREACHED = """unsafe extern "C" {{
@@ -215,20 +218,48 @@ def built_below(crate):
     return repr([os.stat(it).st_mtime_ns for it in files if os.path.exists(it)])
 
 
+def identity(crate):
+    """What tells this library's build from others, in every checkout."""
+    out = f"{crate.folder}/out/rlib"
+    return text_in(f"{out}/stub_key") or text_in(f"{out}/kept") or repr(crate.stamp())
+
+
+def stub_key(kept, crate):
+    below = [(it.name, identity(it)) for it in crate.below()]
+    read = (kept.key(crate), names_proofs_of(crate.name), below)
+    return hashlib.sha256(repr(read).encode()).hexdigest()
+
+
 def build_stub(crate):
     """Builds the stub, and tells whether that went well."""
-    began, out = time.time(), f"{crate.folder}/out/rlib"
+    began = time.time()
     with tempfile.TemporaryDirectory(prefix="stub-") as into:
         write_stub(crate, into)
-        shutil.rmtree(out, ignore_errors=True)
-        os.makedirs(out)
         words = [f"{KIT}/bin/rattle", "build", *words_for(crate)]
         ran = subprocess.run(words, cwd=into, capture_output=True, text=True)
     if not os.path.isdir(crate.rlib):
         print(f"{crate.name}: no stub\n{(ran.stdout + ran.stderr)[-1500:]}")
         return False
-    note(crate, stamp=crate.stamp(), stub=built_below(crate))
     print(f"{crate.name}: a stub, in {time.time() - began:.0f} s", flush=True)
+    return True
+
+
+def make_stub(kept, crate):
+    """Takes the stub that a checkout on this machine has built, or builds it, and tells whether that went well."""
+    out, key = f"{crate.folder}/out/rlib", stub_key(kept, crate)
+    shutil.rmtree(out, ignore_errors=True)
+    os.makedirs(STORE, exist_ok=True)
+    with open(f"{STORE}/{key}.lock", "w") as lock:
+        fcntl.flock(lock, fcntl.LOCK_EX)
+        if os.path.isdir(f"{STORE}/{key}"):
+            shutil.copytree(f"{STORE}/{key}", out)
+        else:
+            os.makedirs(out)
+            if not build_stub(crate):
+                return False
+            shutil.copytree(out, f"{STORE}/{key}.part", dirs_exist_ok=True)
+            os.rename(f"{STORE}/{key}.part", f"{STORE}/{key}")
+    note(crate, stamp=crate.stamp(), stub=built_below(crate), stub_key=key)
     return True
 
 
@@ -256,7 +287,7 @@ def make_stand(kept, crate, proved):
             return True
     if crate.is_built() and stub == built_below(crate):
         return True
-    return all(it.is_built() for it in crate.deps) and build_stub(crate)
+    return all(it.is_built() for it in crate.deps) and make_stub(kept, crate)
 
 
 def main(names):

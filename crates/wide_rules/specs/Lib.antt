@@ -1,0 +1,4 @@
+pub mod Doubles
+pub mod Outputs
+pub mod Passing
+pub mod First
