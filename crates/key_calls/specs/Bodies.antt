@@ -80,3 +80,7 @@ when_keys = when_gives keys key_steps
 -- what the grouping keys within the instructions use
 abbrev pub body_keys : List (Instr Expr Pattern) → Finds
 body_keys all = all_in (map instr_keys all)
+
+-- .. and what those within the defaults of parameters and in the content use
+abbrev pub callee_keys : List (Bound Expr Pattern) → List (Instr Expr Pattern) → Finds
+callee_keys params body = two (all_in (map bound_keys params)) (body_keys body)

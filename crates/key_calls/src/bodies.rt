@@ -1,6 +1,7 @@
 // Grouping keys within sequence constructors.
 ghost use Rattle.std.specs.Prelude.{◌≡◌, OnOk, map};
 ghost use Rattle.key_calls.specs.Bodies.{instr_keys, value_keys, bound_keys, when_keys, body_keys};
+ghost use Rattle.key_calls.specs.Bodies.{callee_keys};
 ghost use Rattle.key_calls.specs.Bodies.{grouping_keys};
 ghost use Rattle.sheet_uses.specs.Exprs.{all_in};
 
@@ -117,4 +118,18 @@ fn push_value(value: &Value, scope: &Scope, found: &mut List<Use>) -> Result<(),
         Value::Body(body) => push_body_keys(body.get().as_slice(), scope, found),
         Value::Select(_) | Value::EmptyText | Value::EmptyList | Value::Required => Ok(()),
     }
+}
+
+/// Puts what the grouping keys within a template or a function with these parameters and this
+/// content use behind the others (XSLT 2.0, 10.1 and 10.3).
+pub fn push_callee_keys(
+    params: &[Bound],
+    body: &[Instr],
+    scope: &Scope,
+    found: &mut List<Use>,
+) -> Result<(), AllocError>
+    ensures { OnOk result (found.new ≡ callee_keys params.now body.now scope.now found.old) }
+{
+    push_bounds(params, scope, found)?;
+    push_body_keys(body, scope, found)
 }

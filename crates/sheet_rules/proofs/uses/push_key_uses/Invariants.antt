@@ -1,0 +1,8 @@
+use Rattle.std.proofs.Common.{◌≡◌, drop}
+use Rattle.sheet_rules.specs.Uses.{declared_keys}
+use Rattle.sheet_rules.proofs.uses.push_key_uses.Given as goal
+
+abbrev pub invariant-loop-one : goal.invariant-loop-one
+invariant-loop-one l =
+    declared_keys (drop l.one-index l.declarations) l.scope l.found
+    ≡ declared_keys l.declarations l.scope l.fn.found
