@@ -1,4 +1,4 @@
-use Rattle.std.proofs.Common.{◌≡◌, ◌++◌, drop, []}
+use Rattle.std.proofs.Common.{◌≡◌, ◌++◌, drop}
 use Rattle.sheet_rules.specs.Names.{missing_codes}
 use Rattle.sheet_rules.proofs.names.push_missing_of.Given as goal
 
