@@ -1,0 +1,12 @@
+//! Tests of the static rules on names that a whole stylesheet breaks.
+//!
+//! They stand apart from the crates that they test, so that a change of a test need not prove them
+//! again. A helper ends the test where memory runs out, and what a test makes ends by `drop`.
+#![tactic(auto)]
+
+#[cfg(test)]
+mod declared;
+#[cfg(test)]
+mod made;
+#[cfg(test)]
+mod passed;
