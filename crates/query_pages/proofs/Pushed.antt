@@ -1,7 +1,6 @@
 -- A token that is put onto a page stands before the others.
-use Rattle.std.proofs.Common.{◌≡◌, List, [], ◌∷◌, ◌++◌, map, reverse, refl, ap}
+use Rattle.std.proofs.Common.{◌≡◌, List, [], ◌∷◌, ◌++◌, map, ap}
 use Rattle.std.proofs.lemmas.List.{reverse-append}
-use Rattle.expr_terms.specs.declared.tokens.Token.{Token}
 use Rattle.query_pages.specs.declared.placed.Placed.{Placed}
 use Rattle.query_pages.specs.Placed.{tokens_of}
 

@@ -1,6 +1,7 @@
 // Pages.
 ghost use Rattle.std.specs.Prelude.{◌≡◌, ◌∷◌, [], OnOk, IfOk};
 ghost use Rattle.expr_terms.specs.declared.tokens.Token.TheVariants as token_of;
+ghost use Rattle.query_pages.specs.Inner.{inner, with_inner};
 ghost use Rattle.query_pages.specs.Laid.{IsTextOf};
 
 use crate::gaps::Gap;
@@ -29,6 +30,16 @@ impl Model for Page {
     ghost view = { λ p. tokens_of p.items.items };
 }
 
+/// The front of an element as one within the content of another; every other token as it is.
+fn inner(token: Token) -> Token
+    ensures { result ≡ inner token }
+{
+    match token {
+        Token::Outer(prefix, local) => Token::Inner(prefix, local),
+        other => other,
+    }
+}
+
 impl Page {
     /// No tokens.
     pub fn new(alloc: Global) -> Page
@@ -53,6 +64,18 @@ impl Page {
         ensures { OnOk result (self.new ≡ token_of.Key key ∷ self.old) }
     {
         self.push(gap, Token::Key(key))
+    }
+
+    /// Makes the first token, where it is the front of an element, one within the content of
+    /// another (XQuery 1.0, 3.7.1.3).
+    #[tactic(auto, using(crate::proofs::Pushed::pushed))]
+    pub fn make_inner(&mut self) -> Result<(), AllocError>
+        ensures { OnOk result (self.new ≡ with_inner self.old) }
+    {
+        match self.items.pop() {
+            None => Ok(()),
+            Some(placed) => self.push(placed.gap, inner(placed.token)),
+        }
     }
 
     /// The text of the tokens, with white space between them: where lines are told to end, they do,
