@@ -1,0 +1,186 @@
+// Name tests.
+ghost use Rattle.std.specs.Prelude.{◌≡◌, ◌∷◌, [], IfOk};
+ghost use Rattle.expr_paths.specs.Steps.{defaulted};
+ghost use Rattle.path_raws.specs.Names.{first_that, fitting, tests, same_test, test_token};
+ghost use Rattle.path_raws.specs.Names.{any_locals, qualified};
+
+use crate::words::word_term;
+use expr_meant::written_test_in;
+use expr_names::{ResolveFault, default_in, name_test};
+use expr_terms::{Class, Key, Token, fits};
+use std::alloc::{AllocError, Global};
+use xt_names::{Binding, Text};
+use xt_types::{Axis, NameTest};
+
+fn same_test(a: &NameTest, b: &NameTest) -> bool
+    ensures { result ≡ same_test a.now b.now }
+{
+    match a {
+        NameTest::Any => matches!(b, NameTest::Any),
+        NameTest::Uri(u) => match b {
+            NameTest::Uri(v) => *u == *v,
+            _ => false,
+        },
+        NameTest::Local(m) => match b {
+            NameTest::Local(n) => *m == *n,
+            _ => false,
+        },
+        NameTest::Exact(m) => match b {
+            NameTest::Exact(n) => *m == *n,
+            _ => false,
+        },
+    }
+}
+
+#[tactic(auto, unfolding(expr_paths::specs::Steps::defaulted))]
+fn defaulted(default: &Text, axis: Axis, test: NameTest) -> Result<NameTest, AllocError>
+    ensures { IfOk result (λ made. made ≡ defaulted default.now axis test) }
+{
+    match axis {
+        Axis::Attribute => Ok(test),
+        _ => default_in(default, &test),
+    }
+}
+
+/// Whether the token means the name test on the axis, and its prefix is declared.
+#[tactic(auto, using(crate::proofs::Faults::faults))]
+fn tests(
+    alloc: Global,
+    bound: &[Binding],
+    default: &Text,
+    axis: Axis,
+    test: &NameTest,
+    token: &Token,
+) -> Result<bool, AllocError>
+    ensures { IfOk result (λ means. means
+        ≡ tests bound.now default.now axis test.now token.now) }
+{
+    let written = written_test_in(alloc, token)?;
+    match name_test(alloc, bound, &written) {
+        Ok(found) => {
+            let found = defaulted(default, axis, found)?;
+            Ok(same_test(&found, test))
+        }
+        Err(ResolveFault::Static(_)) => Ok(false),
+        Err(ResolveFault::Memory(e)) => Err(e),
+    }
+}
+
+fn is_fitting(
+    alloc: Global,
+    class: Class,
+    bound: &[Binding],
+    default: &Text,
+    axis: Axis,
+    test: &NameTest,
+    token: &Token,
+) -> Result<bool, AllocError>
+    ensures { IfOk result (λ fit. fit
+        ≡ fitting class (tests bound.now default.now axis test.now) token.now) }
+{
+    if !fits(class, token) {
+        return Ok(false);
+    }
+    tests(alloc, bound, default, axis, test, token)
+}
+
+fn token_where_fitting(
+    alloc: Global,
+    class: Class,
+    bound: &[Binding],
+    default: &Text,
+    axis: Axis,
+    test: &NameTest,
+    token: Token,
+) -> Result<Option<Token>, AllocError>
+    ensures { IfOk result (λ found. found
+        ≡ first_that (fitting class (tests bound.now default.now axis test.now)) (token ∷ [])) }
+{
+    if is_fitting(alloc, class, bound, default, axis, test, &token)? {
+        return Ok(Some(token));
+    }
+    Ok(None)
+}
+
+/// The first of `p:*` that means the test.
+fn any_local_token(
+    alloc: Global,
+    class: Class,
+    bound: &[Binding],
+    default: &Text,
+    axis: Axis,
+    test: &NameTest,
+) -> Result<Option<Token>, AllocError>
+    ensures { IfOk result (λ token. token
+        ≡ first_that (fitting class (tests bound.now default.now axis test.now))
+        (any_locals bound.now)) }
+{
+    for binding in bound {
+        if !binding.prefix.is_empty() {
+            let token = Token::AnyLocal(binding.prefix.copy()?);
+            if is_fitting(alloc, class, bound, default, axis, test, &token)? {
+                return Ok(Some(token));
+            }
+        }
+    }
+    Ok(None)
+}
+
+/// The first of `p:n` that means the test.
+fn qualified_token(
+    alloc: Global,
+    class: Class,
+    bound: &[Binding],
+    default: &Text,
+    axis: Axis,
+    test: &NameTest,
+    local: &Text,
+) -> Result<Option<Token>, AllocError>
+    ensures { IfOk result (λ token. token
+        ≡ first_that (fitting class (tests bound.now default.now axis test.now))
+        (qualified bound.now local.now)) }
+{
+    for binding in bound {
+        if !binding.prefix.is_empty() {
+            let token = Token::Qname(binding.prefix.copy()?, local.copy()?);
+            if is_fitting(alloc, class, bound, default, axis, test, &token)? {
+                return Ok(Some(token));
+            }
+        }
+    }
+    Ok(None)
+}
+
+/// The token of the class that means the name test on the axis, where names of elements without a
+/// prefix have the default uri; None where no token means it.
+/// (XPath 2.0, 3.2.1.2)
+pub fn test_token(
+    alloc: Global,
+    class: Class,
+    bound: &[Binding],
+    default: &Text,
+    axis: Axis,
+    test: &NameTest,
+) -> Result<Option<Token>, AllocError>
+    ensures { IfOk result (λ token. token
+        ≡ test_token class bound.now default.now axis test.now) }
+{
+    match test {
+        NameTest::Any => {
+            let token = Token::Key(Key::Star);
+            token_where_fitting(alloc, class, bound, default, axis, test, token)
+        }
+        NameTest::Uri(_) => any_local_token(alloc, class, bound, default, axis, test),
+        NameTest::Local(local) => {
+            let token = Token::AnyPrefix(local.copy()?);
+            token_where_fitting(alloc, class, bound, default, axis, test, token)
+        }
+        NameTest::Exact(name) => {
+            let token = word_term(&name.local)?;
+            if is_fitting(alloc, class, bound, default, axis, test, &token)? {
+                return Ok(Some(token));
+            }
+            qualified_token(alloc, class, bound, default, axis, test, &name.local)
+        }
+    }
+}
