@@ -1,0 +1,66 @@
+// Names on a page.
+ghost use Rattle.std.specs.Prelude.{◌≡◌, ◌∷◌, OnOk};
+ghost use Rattle.expr_terms.specs.declared.keys.Key.TheVariants as key_of;
+ghost use Rattle.expr_terms.specs.declared.tokens.Token.TheVariants as token;
+ghost use Rattle.path_raws.specs.Paths.{variable};
+ghost use Rattle.control_raws.specs.Bindings.{variable_name};
+
+use expr_terms::Key;
+use name_tokens::name_token;
+use query_pages::{Gap, Page};
+use std::alloc::{AllocError, Global};
+use xt_names::ExprName;
+use xt_syntax::Prefixes;
+
+/// Puts the name of a variable, without the dollar.
+/// (XPath 2.0, 3.1.2)
+pub fn push_name(
+    alloc: Global,
+    page: &mut Page,
+    prefixes: &Prefixes,
+    name: &ExprName,
+) -> Result<(), AllocError>
+    ensures { OnOk result (page.new
+        ≡ (variable_name prefixes.now name.now).tokens page.old) }
+{
+    match name_token(alloc, prefixes.bound.as_slice(), name)? {
+        None => Ok(()),
+        Some(token) => page.push(Gap::Space, token),
+    }
+}
+
+/// Puts `$v`; nothing where the name has no token.
+/// (XPath 2.0, 3.1.2)
+pub fn push_var(
+    alloc: Global,
+    page: &mut Page,
+    prefixes: &Prefixes,
+    first: Gap,
+    name: &ExprName,
+) -> Result<(), AllocError>
+    ensures { OnOk result (page.new ≡ (variable prefixes.now name.now).tokens page.old) }
+{
+    match name_token(alloc, prefixes.bound.as_slice(), name)? {
+        None => Ok(()),
+        Some(token) => {
+            page.push(Gap::Space, token)?;
+            page.push_key(first, Key::Dollar)
+        }
+    }
+}
+
+/// Puts a dollar, and the name of a variable where it has a token.
+/// (XPath 2.0, 3.1.2)
+pub fn push_variable(
+    alloc: Global,
+    page: &mut Page,
+    prefixes: &Prefixes,
+    first: Gap,
+    name: &ExprName,
+) -> Result<(), AllocError>
+    ensures { OnOk result (page.new ≡ token.Key key_of.Dollar
+        ∷ (variable_name prefixes.now name.now).tokens page.old) }
+{
+    push_name(alloc, page, prefixes, name)?;
+    page.push_key(first, Key::Dollar)
+}
