@@ -2,7 +2,7 @@
 """Makes libraries stand below a crate, so that the crate can be checked before they are proved here.
 
 usage: tools/stubs.py NAME..     takes what `rt ci` has kept of the libraries below these crates, and builds
-                                 a stub of each that it has not
+                                 a stub of each that it has not; a stub that stands is left
        tools/stubs.py --clear    removes all stubs
 
 A stub has the types, definitions and contracts of its library, and bodies that cannot be reached: each calls a
@@ -161,6 +161,12 @@ def names_proofs_of(name):
     return any(f"/crates/{name}/" not in it for it in found.stdout.split())
 
 
+def tests_in(folder, files):
+    """The files of a folder that hold tests alone, which a stub has not."""
+    codes = [open(f"{folder}/{it}").read() for it in files]
+    return {f"{it}.rt" for code in codes for it in re.findall(r"#\[cfg\(test\)\]\s*mod (\w+);", code)}
+
+
 def write_stub(crate, into):
     """Copies the crate without bodies and, where no other names a lemma of it, without proofs."""
     if os.path.isdir(f"{crate.folder}/specs"):
@@ -174,7 +180,7 @@ def write_stub(crate, into):
     for folder, _, files in os.walk(f"{crate.folder}/src"):
         to = into + "/src" + folder[len(f"{crate.folder}/src") :]
         os.makedirs(to, exist_ok=True)
-        for file in files:
+        for file in sorted({*files} - tests_in(folder, files)):
             code = stubbed(open(f"{folder}/{file}").read())
             if file == "lib.rt" and to == f"{into}/src":
                 code += "\nmod unreached;\n"
@@ -277,15 +283,18 @@ def take_kept(kept, crate, key):
 
 def make_stand(kept, crate, proved):
     """Makes the library stand, and tells whether it does; `proved` are the names of those that are no stubs."""
-    out = f"{crate.folder}/out/rlib"
-    stub = text_in(f"{out}/stub")
-    if all(it.name in proved for it in crate.below()):
-        stands = stub is None and crate.is_built()
-        if stands or take_kept(kept, crate, kept.key(crate)):
-            kept.is_built(crate)
-            proved.add(crate.name)
-            return True
-    if crate.is_built() and stub == built_below(crate):
+    stub = text_in(f"{crate.folder}/out/rlib/stub")
+    over_proved = all(it.name in proved for it in crate.below())
+    if crate.is_built() and stub is None and over_proved:
+        kept.is_built(crate)
+        proved.add(crate.name)
+        return True
+    # (a stub that stands is not given up for what was kept since: all above it would have to be built again)
+    if crate.is_built() and stub is not None and stub == built_below(crate):
+        return True
+    if over_proved and take_kept(kept, crate, kept.key(crate)):
+        kept.is_built(crate)
+        proved.add(crate.name)
         return True
     return all(it.is_built() for it in crate.deps) and make_stub(kept, crate)
 

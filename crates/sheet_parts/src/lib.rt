@@ -2,8 +2,8 @@
 //! globals, output and white space, each from its element.
 //!
 //! `part` gives what a child of the root declares exactly where it breaks no rule by itself, and
-//! else the code of the first one. Whether declarations go together, in one module or in several, is
-//! not looked at here. Modes and called templates are told by their numbers in the place.
+//! else the code of the first one. Whether declarations go together, in one module or in several,
+//! is not looked at here. Modes and called templates are told by their numbers in the place.
 //!
 //! Example: `<xsl:template match="a|b" priority="1.5">` declares a template with a rule for each
 //! alternative that the reader reads of `a|b`, in the default mode, with the priority of 1,500

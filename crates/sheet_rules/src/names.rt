@@ -87,8 +87,8 @@ fn keys_of<E, P>(alloc: Global, declarations: &[Declaration<E, P>]) -> Result<Sc
     Ok(scope)
 }
 
-/// The global variables and parameters, the functions and the keys that are declared (XSLT 2.0, 9.5,
-/// 10.3 and 16.3); all templates with numbers below this one count as declared.
+/// The global variables and parameters, the functions and the keys that are declared (XSLT 2.0,
+/// 9.5, 10.3 and 16.3); all templates with numbers below this one count as declared.
 pub fn names_of<E, P>(
     alloc: Global,
     declarations: &[Declaration<E, P>],

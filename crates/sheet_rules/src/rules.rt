@@ -14,9 +14,10 @@ use xt_syntax::{Expr, Pattern};
 
 /// Puts the codes of the rules that the declarations break together behind the others: XPST0008,
 /// XPST0017 and XTDE1260 of names that are not declared, XTSE0650 of each name in `called` that no
-/// template has, XTSE0630, XTSE0660 and XTSE0770 of what stands twice at one precedence, XTSE0680 and
-/// XTSE0690 of calls of the templates that have these parameters, by their numbers, XTUN0001 of calls
-/// of functions in grouping keys and in `use` of keys, and XTSE1560 of declarations of the output.
+/// template has, XTSE0630, XTSE0660 and XTSE0770 of what stands twice at one precedence, XTSE0680
+/// and XTSE0690 of calls of the templates that have these parameters, by their numbers, XTUN0001
+/// of calls of functions in grouping keys and in `use` of keys, and XTSE1560 of declarations of
+/// the output.
 pub fn push_broken_rules(
     alloc: Global,
     declarations: &[Declaration<Expr, Pattern>],

@@ -96,8 +96,8 @@ fn push_part_keys(
     }
 }
 
-/// What the grouping keys within the declarations, and `use` of those of keys, use of what is declared
-/// around them, in order (XSLT 2.0, 14.3 and 16.3).
+/// What the grouping keys within the declarations, and `use` of those of keys, use of what is
+/// declared around them, in order (XSLT 2.0, 14.3 and 16.3).
 pub fn key_uses_of(
     alloc: Global,
     declarations: &[Declaration<Expr, Pattern>],

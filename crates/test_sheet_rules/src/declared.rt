@@ -133,8 +133,8 @@ fn called_names(rt: &(impl Abort + AllocGlobal), called: &[&str]) -> List<ExprNa
     names
 }
 
-// The codes of the rules that are broken by these declarations, with their precedences, and by calls
-// of templates of these names.
+// The codes of the rules that are broken by these declarations, with their precedences, and by
+// calls of templates of these names.
 fn broken(rt: &(impl Abort + AllocGlobal), all: &[(u32, Told)], called: &[&str]) -> String {
     let mut declarations = List::new(rt.alloc());
     for (level, told) in all {

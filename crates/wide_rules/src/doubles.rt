@@ -26,9 +26,9 @@ pub(crate) struct Doubles {
     templates: bool,
 }
 
-/// Puts behind the codes XTSE0630, where two global variables or parameters of one name stand at one
-/// import precedence (XSLT 2.0, 9.5), then XTSE0660, where two templates of one name do (10.1), then
-/// XTSE0770, where two functions of one name and one number of parameters do (10.3).
+/// Puts behind the codes XTSE0630, where two global variables or parameters of one name stand at
+/// one import precedence (XSLT 2.0, 9.5), then XTSE0660, where two templates of one name do
+/// (10.1), then XTSE0770, where two functions of one name and one number of parameters do (10.3).
 pub fn push_doubles<E, P>(
     alloc: Global,
     declarations: &[Declaration<E, P>],
@@ -88,7 +88,8 @@ fn see<E, P>(
 ) -> Result<Doubles, AllocError>
     ensures doubles { IfOk result (λ more. more ≡ with_double doubles (declared_by one.now.part)
         (has_declared seen.old (declared_by one.now.part) one.now.level)) }
-    ensures seen { OnOk result (seen.new ≡ with_declared seen.old (declared_by one.now.part) one.now.level) }
+    ensures seen { OnOk result (seen.new
+        ≡ with_declared seen.old (declared_by one.now.part) one.now.level) }
 {
     let level = one.level;
     match &one.part {
@@ -123,7 +124,8 @@ fn see_template<E, P>(
 ) -> Result<Doubles, AllocError>
     ensures doubles { IfOk result (λ more. more ≡ with_double doubles (template_of template.now.name)
         (has_declared seen.old (template_of template.now.name) level)) }
-    ensures seen { OnOk result (seen.new ≡ with_declared seen.old (template_of template.now.name) level) }
+    ensures seen { OnOk result (seen.new
+        ≡ with_declared seen.old (template_of template.now.name) level) }
 {
     match &template.name {
         Some(name) => {

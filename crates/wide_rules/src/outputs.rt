@@ -17,7 +17,8 @@ pub fn push_outputs<E, P>(
     declarations: &[Declaration<E, P>],
     codes: &mut List<Code>,
 ) -> Result<(), AllocError>
-    ensures { OnOk result (codes.new ≡ codes.old ++ code_if (outputs_differ declarations.now) XTSE1560) }
+    ensures { OnOk result (codes.new
+        ≡ codes.old ++ code_if (outputs_differ declarations.now) XTSE1560) }
 {
     let level = highest(declarations);
     let differ = says_at(declarations, level, true) && says_at(declarations, level, false);

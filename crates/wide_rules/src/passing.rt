@@ -48,9 +48,9 @@ fn is_required<E, P>(param: &Bound<E, P>) -> bool
 }
 
 /// Puts behind the codes, for each call of a template with these parameters: XTSE0680, where an
-/// ordinary parameter is passed that the template has not, then XTSE0690, where an ordinary one that
-/// it requires is not passed (XSLT 2.0, 10.1.1). The templates stand by their numbers; a call of one
-/// that is not there breaks neither rule.
+/// ordinary parameter is passed that the template has not, then XTSE0690, where an ordinary one
+/// that it requires is not passed (XSLT 2.0, 10.1.1). The templates stand by their numbers; a call
+/// of one that is not there breaks neither rule.
 pub fn push_broken_passing(
     templates: &[Parameters],
     uses: &[Use],
@@ -84,7 +84,8 @@ fn push_call(
     passed: &List<ExprName>,
     codes: &mut List<Code>,
 ) -> Result<(), AllocError>
-    ensures { OnOk result (codes.new ≡ codes.old ++ passing_codes (slice_get templates.now number) passed.now) }
+    ensures { OnOk result (codes.new
+        ≡ codes.old ++ passing_codes (slice_get templates.now number) passed.now) }
 {
     match templates.get(number as usize) {
         Some(parameters) => push_passing(parameters, passed, codes),
@@ -97,7 +98,8 @@ fn push_passing(
     passed: &List<ExprName>,
     codes: &mut List<Code>,
 ) -> Result<(), AllocError>
-    ensures { OnOk result (codes.new ≡ codes.old ++ passing_codes (Some parameters.now) passed.now) }
+    ensures { OnOk result (codes.new
+        ≡ codes.old ++ passing_codes (Some parameters.now) passed.now) }
 {
     let vain = passes_in_vain(parameters, passed.as_slice());
     push_if(codes, vain, SheetStaticCode::XTSE0680)?;

@@ -47,8 +47,10 @@ impl PlacedSet {
         name: &ExprName,
         arity: usize,
     ) -> Result<bool, AllocError>
-        ensures stood { IfOk result (λ stood. stood ≡ has_placed self.old (placed (signature name.now arity) level)) }
-        ensures ok { OnOk result (self.new ≡ with_placed self.old (placed (signature name.now arity) level)) }
+        ensures stood { IfOk result (λ stood. stood
+            ≡ has_placed self.old (placed (signature name.now arity) level)) }
+        ensures ok { OnOk result (self.new
+            ≡ with_placed self.old (placed (signature name.now arity) level)) }
     {
         let name = name.copy()?;
         let signature = Signature { name, arity };
