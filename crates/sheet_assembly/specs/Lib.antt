@@ -1,0 +1,4 @@
+pub mod Named
+pub mod Templates
+pub mod Spaces
+pub mod Sheets
