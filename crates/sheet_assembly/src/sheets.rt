@@ -14,7 +14,7 @@ use xt_names::{ExprName, List};
 use xt_sheets::{Global, Level, Sheet};
 use xt_syntax::{Expr, Pattern};
 
-/// The stylesheet of these declarations, which stand in the order of precedence (XSLT 2.0, 3.10.3).
+/// The stylesheet of these declarations, which stand in order of precedence (XSLT 2.0, 3.10.3).
 /// `modes` and `called` are the modes, and the templates that are called, whose numbers stand in the
 /// declarations; `order` has the places of the globals that count in the order in which they are
 /// evaluated.

@@ -29,8 +29,8 @@ pub(crate) struct Standing {
     pub(crate) rules: List<RulePart<Pattern>>,
 }
 
-/// The templates that stand, in declaration order: those that count, and those that are replaced and
-/// have rules, without their names (XSLT 2.0, 6.4 and 10.1).
+/// The templates that stand, in declaration order: those that count, and those that are replaced
+/// and have rules, without their names (XSLT 2.0, 6.4 and 10.1).
 pub(crate) fn standing_templates(
     alloc: Global,
     called: &NameTable,
