@@ -3,11 +3,12 @@ ghost use Rattle.std.specs.Prelude.{◌≡◌, [], IfOk};
 ghost use Rattle.expr_rules.specs.Known.{name_of};
 ghost use Rattle.expr_control.specs.Bindings.{kind_in, kind_or, place_in, place_or, bind_of, for_bind, let_bind, quant_bind, placed};
 
+use bound_prefixes::BoundPrefixes;
 use expr_meant::{Meant, expr_in};
 use expr_names::no_text;
 use expr_rules::name_of;
 use std::alloc::{AllocError, Global};
-use xt_names::{Binding, ExprName};
+use xt_names::ExprName;
 use xt_syntax::{Bind, Clause};
 use xt_types::SeqType;
 
@@ -35,7 +36,7 @@ fn place_in(parts: &[Meant]) -> Result<Option<ExprName>, AllocError>
     Ok(None)
 }
 
-fn bare_name(alloc: Global, bound: &[Binding], part: &Meant) -> Result<ExprName, AllocError>
+fn bare_name(alloc: Global, bound: &BoundPrefixes, part: &Meant) -> Result<ExprName, AllocError>
     ensures { IfOk result (λ name. name ≡ name_of bound.now [] part.now) }
 {
     let none = no_text(alloc)?;
@@ -44,7 +45,7 @@ fn bare_name(alloc: Global, bound: &[Binding], part: &Meant) -> Result<ExprName,
 
 fn bind_of(
     alloc: Global,
-    bound: &[Binding],
+    bound: &BoundPrefixes,
     name: &Meant,
     rest: &[Meant],
 ) -> Result<Bind, AllocError>
@@ -58,7 +59,7 @@ fn bind_of(
 }
 
 /// `$v as T at $p in a`.
-pub fn for_bind(alloc: Global, bound: &[Binding], parts: &[Meant]) -> Result<Meant, AllocError>
+pub fn for_bind(alloc: Global, bound: &BoundPrefixes, parts: &[Meant]) -> Result<Meant, AllocError>
     ensures { IfOk result (λ made. made ≡ for_bind bound.now parts.now) }
 {
     match parts {
@@ -72,7 +73,7 @@ pub fn for_bind(alloc: Global, bound: &[Binding], parts: &[Meant]) -> Result<Mea
 }
 
 /// `$v as T := a`.
-pub fn let_bind(alloc: Global, bound: &[Binding], parts: &[Meant]) -> Result<Meant, AllocError>
+pub fn let_bind(alloc: Global, bound: &BoundPrefixes, parts: &[Meant]) -> Result<Meant, AllocError>
     ensures { IfOk result (λ made. made ≡ let_bind bound.now parts.now) }
 {
     match parts {
@@ -85,7 +86,11 @@ pub fn let_bind(alloc: Global, bound: &[Binding], parts: &[Meant]) -> Result<Mea
 }
 
 /// `$v as T in a`, behind `some` or `every`.
-pub fn quant_bind(alloc: Global, bound: &[Binding], parts: &[Meant]) -> Result<Meant, AllocError>
+pub fn quant_bind(
+    alloc: Global,
+    bound: &BoundPrefixes,
+    parts: &[Meant],
+) -> Result<Meant, AllocError>
     ensures { IfOk result (λ made. made ≡ quant_bind bound.now parts.now) }
 {
     match parts {
@@ -98,7 +103,7 @@ pub fn quant_bind(alloc: Global, bound: &[Binding], parts: &[Meant]) -> Result<M
 }
 
 /// `at $p`.
-pub fn placed(alloc: Global, bound: &[Binding], parts: &[Meant]) -> Result<Meant, AllocError>
+pub fn placed(alloc: Global, bound: &BoundPrefixes, parts: &[Meant]) -> Result<Meant, AllocError>
     ensures { IfOk result (λ made. made ≡ placed bound.now parts.now) }
 {
     match parts {

@@ -7,10 +7,11 @@ ghost use Rattle.expr_control.specs.Operators.{operated_by, of_type, joined, cha
 
 use crate::operators::{of_single, of_type, operated_by, signed_by};
 use crate::types::typed;
+use bound_prefixes::BoundPrefixes;
 use expr_meant::{Meant, as_part, expr_in, expr_of, exprs_of, key_of, no_items};
 use expr_terms::{Key, Level};
 use std::alloc::{AllocError, Global};
-use xt_names::{Binding, Shared};
+use xt_names::Shared;
 use xt_syntax::Expr;
 use xt_types::SeqType;
 
@@ -157,7 +158,7 @@ fn single_in(parts: &[Meant]) -> Meant
 #[tactic(auto, unfolding(crate::specs::Operators::operated))]
 pub fn operated(
     alloc: Global,
-    bound: &[Binding],
+    bound: &BoundPrefixes,
     level: Level,
     parts: &[Meant],
 ) -> Result<Meant, AllocError>

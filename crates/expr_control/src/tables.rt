@@ -12,10 +12,10 @@ use crate::flwors::{clauses_in, flwor};
 use crate::lists::{conditional, listed, quantified};
 use crate::orders::{key_spec, orders_in};
 use crate::types::{marked, single, typed};
+use bound_prefixes::BoundPrefixes;
 use expr_meant::{Meant, expr_in};
 use expr_terms::Production;
 use std::alloc::{AllocError, Global};
-use xt_names::Binding;
 use xt_syntax::Prefixes;
 use xt_types::SeqType;
 
@@ -25,13 +25,13 @@ fn clauses(alloc: Global, parts: &[Meant]) -> Result<Meant, AllocError>
     Ok(Meant::Clauses(clauses_in(alloc, parts)?))
 }
 
-fn typed_part(alloc: Global, bound: &[Binding], parts: &[Meant]) -> Result<Meant, AllocError>
+fn typed_part(alloc: Global, bound: &BoundPrefixes, parts: &[Meant]) -> Result<Meant, AllocError>
     ensures { IfOk result (λ made. made ≡ Sequence (typed bound.now parts.now)) }
 {
     Ok(Meant::Sequence(typed(alloc, bound, parts)?))
 }
 
-fn marked_part(alloc: Global, bound: &[Binding], parts: &[Meant]) -> Result<Meant, AllocError>
+fn marked_part(alloc: Global, bound: &BoundPrefixes, parts: &[Meant]) -> Result<Meant, AllocError>
     ensures { IfOk result (λ made. made ≡ Sequence (marked bound.now parts.now)) }
 {
     Ok(Meant::Sequence(marked(alloc, bound, parts)?))
@@ -60,7 +60,7 @@ pub fn control_value(
 ) -> Result<Meant, AllocError>
     ensures { IfOk result (λ made. made ≡ control_value p.now production parts.now) }
 {
-    let bound = p.bound.as_slice();
+    let bound = &p.bound;
     match production {
         Production::Listing => listed(alloc, parts),
         Production::Conditional => conditional(alloc, parts),

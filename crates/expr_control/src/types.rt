@@ -2,15 +2,16 @@
 ghost use Rattle.std.specs.Prelude.{◌≡◌, IfOk};
 ghost use Rattle.expr_control.specs.Types.{item_of, sequence_of, count_in, count_of, marked, typed, single};
 
+use bound_prefixes::BoundPrefixes;
 use expr_meant::{Meant, has_parts, key_of};
 use expr_rules::type_of;
 use expr_terms::Key;
 use std::alloc::{AllocError, Global};
-use xt_names::{AtomType, Binding};
+use xt_names::AtomType;
 use xt_types::{Count, ItemType, SeqType};
 
 #[tactic(auto, unfolding(crate::specs::Types::item_of))]
-fn item_of(alloc: Global, bound: &[Binding], part: &Meant) -> Result<ItemType, AllocError>
+fn item_of(alloc: Global, bound: &BoundPrefixes, part: &Meant) -> Result<ItemType, AllocError>
     ensures { IfOk result (λ made. made ≡ item_of bound.now part.now) }
 {
     match part {
@@ -22,7 +23,11 @@ fn item_of(alloc: Global, bound: &[Binding], part: &Meant) -> Result<ItemType, A
 
 /// The type of a sequence that the part is; without a mark it is of one item.
 #[tactic(auto, unfolding(crate::specs::Types::sequence_of))]
-pub fn sequence_of(alloc: Global, bound: &[Binding], part: &Meant) -> Result<SeqType, AllocError>
+pub fn sequence_of(
+    alloc: Global,
+    bound: &BoundPrefixes,
+    part: &Meant,
+) -> Result<SeqType, AllocError>
     ensures { IfOk result (λ made. made ≡ sequence_of bound.now part.now) }
 {
     match part {
@@ -53,7 +58,7 @@ fn count_of(parts: &[Meant]) -> Count
 }
 
 /// The type of an item with its mark.
-pub fn marked(alloc: Global, bound: &[Binding], parts: &[Meant]) -> Result<SeqType, AllocError>
+pub fn marked(alloc: Global, bound: &BoundPrefixes, parts: &[Meant]) -> Result<SeqType, AllocError>
     ensures { IfOk result (λ made. made ≡ marked bound.now parts.now) }
 {
     match parts {
@@ -63,7 +68,7 @@ pub fn marked(alloc: Global, bound: &[Binding], parts: &[Meant]) -> Result<SeqTy
 }
 
 /// The type that is the first part.
-pub fn typed(alloc: Global, bound: &[Binding], parts: &[Meant]) -> Result<SeqType, AllocError>
+pub fn typed(alloc: Global, bound: &BoundPrefixes, parts: &[Meant]) -> Result<SeqType, AllocError>
     ensures { IfOk result (λ made. made ≡ typed bound.now parts.now) }
 {
     match parts {
@@ -73,7 +78,7 @@ pub fn typed(alloc: Global, bound: &[Binding], parts: &[Meant]) -> Result<SeqTyp
 }
 
 /// The type of a cast, and whether `?` stands behind it.
-pub fn single(alloc: Global, bound: &[Binding], parts: &[Meant]) -> Result<Meant, AllocError>
+pub fn single(alloc: Global, bound: &BoundPrefixes, parts: &[Meant]) -> Result<Meant, AllocError>
     ensures { IfOk result (λ made. made ≡ single bound.now parts.now) }
 {
     match parts {

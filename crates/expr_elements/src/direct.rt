@@ -6,11 +6,12 @@ ghost use Rattle.expr_elements.specs.Space.{parts_of};
 ghost use Rattle.expr_elements.specs.Direct.{attr_and, attrs_in, content_or, content_in, element, child, attribute, enclosed};
 
 use crate::space::parts_of;
+use bound_prefixes::BoundPrefixes;
 use expr_meant::{Meant, expr_in, no_items};
 use expr_names::no_text;
 use expr_rules::node_name_of;
 use std::alloc::{AllocError, Global};
-use xt_names::{Binding, List, Shared, Text};
+use xt_names::{List, Shared, Text};
 use xt_syntax::{DirectAttr, Expr, Part};
 
 #[tactic(auto, unfolding(crate::specs::Direct::attr_and))]
@@ -48,7 +49,7 @@ fn content_in(alloc: Global, parts: &[Meant]) -> Result<Shared<List<Part>>, Allo
 
 fn element_expr(
     alloc: Global,
-    bound: &[Binding],
+    bound: &BoundPrefixes,
     default: &Text,
     parts: &[Meant],
 ) -> Result<Shared<Expr>, AllocError>
@@ -75,7 +76,7 @@ pub(crate) fn nothing(alloc: Global) -> Result<Meant, AllocError>
 /// `<n a="..">..</n>`.
 pub fn element(
     alloc: Global,
-    bound: &[Binding],
+    bound: &BoundPrefixes,
     default: &Text,
     parts: &[Meant],
 ) -> Result<Meant, AllocError>
@@ -87,7 +88,7 @@ pub fn element(
 /// The same within the content of another one.
 pub fn child(
     alloc: Global,
-    bound: &[Binding],
+    bound: &BoundPrefixes,
     default: &Text,
     parts: &[Meant],
 ) -> Result<Meant, AllocError>
@@ -97,7 +98,7 @@ pub fn child(
 }
 
 /// `a=".."`.
-pub fn attribute(alloc: Global, bound: &[Binding], parts: &[Meant]) -> Result<Meant, AllocError>
+pub fn attribute(alloc: Global, bound: &BoundPrefixes, parts: &[Meant]) -> Result<Meant, AllocError>
     ensures { IfOk result (λ made. made ≡ attribute bound.now parts.now) }
 {
     match parts {

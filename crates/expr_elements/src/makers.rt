@@ -5,12 +5,13 @@ ghost use Rattle.expr_meant.specs.declared.meant.Meant.TheVariants.{Expr as as_e
 ghost use Rattle.expr_elements.specs.Computed.{named_by, named_with, computed, fixed_name, fixed_with, constructed, pi_constructed, enclosing_by, enclosing};
 
 use crate::direct::nothing;
+use bound_prefixes::BoundPrefixes;
 use expr_meant::{Meant, as_part, expr_in, expr_of, key_of};
 use expr_names::no_text;
 use expr_rules::node_name_of;
 use expr_terms::Key;
 use std::alloc::{AllocError, Global};
-use xt_names::{Binding, Name, Shared, Text};
+use xt_names::{Name, Shared, Text};
 use xt_syntax::{Expr, NameSource};
 
 #[tactic(auto, unfolding(crate::specs::Computed::named_by))]
@@ -47,7 +48,7 @@ pub fn computed(alloc: Global, parts: &[Meant]) -> Result<Meant, AllocError>
     }
 }
 
-fn bare_name(alloc: Global, bound: &[Binding], part: &Meant) -> Result<Name, AllocError>
+fn bare_name(alloc: Global, bound: &BoundPrefixes, part: &Meant) -> Result<Name, AllocError>
     ensures { IfOk result (λ name. name ≡ node_name_of bound.now [] part.now) }
 {
     let none = no_text(alloc)?;
@@ -57,7 +58,7 @@ fn bare_name(alloc: Global, bound: &[Binding], part: &Meant) -> Result<Name, All
 #[tactic(auto, unfolding(crate::specs::Computed::fixed_name))]
 fn fixed_name(
     alloc: Global,
-    bound: &[Binding],
+    bound: &BoundPrefixes,
     default: &Text,
     key: Key,
     part: &Meant,
@@ -72,7 +73,7 @@ fn fixed_name(
 
 fn fixed_with(
     alloc: Global,
-    bound: &[Binding],
+    bound: &BoundPrefixes,
     default: &Text,
     key: Key,
     parts: &[Meant],
@@ -92,7 +93,7 @@ fn fixed_with(
 /// `element n { a }`, or the same of an attribute.
 pub fn constructed(
     alloc: Global,
-    bound: &[Binding],
+    bound: &BoundPrefixes,
     default: &Text,
     parts: &[Meant],
 ) -> Result<Meant, AllocError>
@@ -107,7 +108,7 @@ pub fn constructed(
 /// `processing-instruction n { a }`.
 pub fn pi_constructed(
     alloc: Global,
-    bound: &[Binding],
+    bound: &BoundPrefixes,
     parts: &[Meant],
 ) -> Result<Meant, AllocError>
     ensures { IfOk result (λ made. made ≡ as_expr (pi_constructed bound.now parts.now)) }

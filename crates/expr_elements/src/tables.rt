@@ -29,7 +29,7 @@ pub fn element_value(
 ) -> Result<Meant, AllocError>
     ensures { IfOk result (λ made. made ≡ element_value p.now strip production parts.now) }
 {
-    let bound = p.bound.as_slice();
+    let bound = &p.bound;
     match production {
         Production::Computed => computed(alloc, parts),
         Production::Constructed => constructed(alloc, bound, &p.element_default, parts),

@@ -5,8 +5,9 @@ ghost use Rattle.expr_names.specs.Names.{uri_of, uri_in, undeclared, undeclared_
 
 use crate::fault::{ResolveFault, static_fault};
 use crate::written::Written;
+use bound_prefixes::BoundPrefixes;
 use std::alloc::{AllocError, Global};
-use xt_names::{Binding, ExprName, Name, QueryStaticCode, Text, TextBuilder};
+use xt_names::{ExprName, Name, QueryStaticCode, Text, TextBuilder};
 
 /// The empty text.
 pub fn no_text(alloc: Global) -> Result<Text, AllocError>
@@ -15,21 +16,24 @@ pub fn no_text(alloc: Global) -> Result<Text, AllocError>
     TextBuilder::new(alloc).finish()
 }
 
-/// The uri of a prefix, which is the empty text where it is bound to none.
-fn uri_of(alloc: Global, bound: &[Binding], prefix: &Text) -> Result<Text, AllocError>
+/// The uri of a prefix, by its first binding; the empty text where it is bound to none (XPath 2.0,
+/// 2.1.1).
+pub fn uri_of(alloc: Global, bound: &BoundPrefixes, prefix: &Text) -> Result<Text, AllocError>
     ensures { IfOk result (λ uri. uri ≡ uri_of bound.now prefix.now) }
 {
-    for binding in bound {
-        if binding.prefix == *prefix {
-            return binding.uri.copy();
-        }
+    match bound.uri_of(prefix) {
+        Some(uri) => uri.copy(),
+        None => no_text(alloc),
     }
-    no_text(alloc)
 }
 
 /// The uri of a prefix; XPST0081 where the prefix is not declared.
 #[tactic(auto, unfolding(crate::specs::Names::undeclared))]
-pub fn declared_uri(alloc: Global, bound: &[Binding], prefix: &Text) -> Result<Text, ResolveFault>
+pub fn declared_uri(
+    alloc: Global,
+    bound: &BoundPrefixes,
+    prefix: &Text,
+) -> Result<Text, ResolveFault>
     ensures { Answers result (undeclared bound.now prefix.now) (uri_of bound.now prefix.now) }
 {
     let uri = uri_of(alloc, bound, prefix)?;
@@ -44,7 +48,7 @@ pub fn declared_uri(alloc: Global, bound: &[Binding], prefix: &Text) -> Result<T
 #[tactic(auto, unfolding(crate::specs::Names::undeclared_in, crate::specs::Names::uri_in))]
 pub fn uri_in(
     alloc: Global,
-    bound: &[Binding],
+    bound: &BoundPrefixes,
     default: &Text,
     written: &Written,
 ) -> Result<Text, ResolveFault>
@@ -60,7 +64,7 @@ pub fn uri_in(
 /// The name of a variable, a function or a type; XPST0081 where its prefix is not declared.
 pub fn expr_name(
     alloc: Global,
-    bound: &[Binding],
+    bound: &BoundPrefixes,
     default: &Text,
     written: &Written,
 ) -> Result<ExprName, ResolveFault>
@@ -74,7 +78,7 @@ pub fn expr_name(
 /// The name that a node is to have; XPST0081 where its prefix is not declared.
 pub fn node_name(
     alloc: Global,
-    bound: &[Binding],
+    bound: &BoundPrefixes,
     default: &Text,
     written: &Written,
 ) -> Result<Name, ResolveFault>

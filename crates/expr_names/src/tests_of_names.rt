@@ -6,8 +6,9 @@ ghost use Rattle.expr_names.specs.Names.{name_test, test_broken, default_in, def
 use crate::fault::ResolveFault;
 use crate::names::{declared_uri, expr_name, no_text};
 use crate::written::WrittenTest;
+use bound_prefixes::BoundPrefixes;
 use std::alloc::{AllocError, Global};
-use xt_names::{Binding, ExprName, Text};
+use xt_names::{ExprName, Text};
 use xt_types::NameTest;
 
 /// The name test, in which a name without a prefix has no uri; XPST0081 where the prefix is not
@@ -15,7 +16,7 @@ use xt_types::NameTest;
 #[tactic(auto, unfolding(crate::specs::Names::name_test, crate::specs::Names::test_broken))]
 pub fn name_test(
     alloc: Global,
-    bound: &[Binding],
+    bound: &BoundPrefixes,
     written: &WrittenTest,
 ) -> Result<NameTest, ResolveFault>
     ensures { Answers result (test_broken bound.now written.now) (name_test bound.now written.now) }

@@ -7,8 +7,9 @@ ghost use Rattle.expr_names.specs.Types.{type_named, call_type, type_or_any, cas
 use crate::fault::{ResolveFault, static_fault};
 use crate::names::{expr_name, no_text};
 use crate::written::Written;
+use bound_prefixes::BoundPrefixes;
 use std::alloc::Global;
-use xt_names::{AtomType, Binding, ExprName, QueryStaticCode, is_ascii_text};
+use xt_names::{AtomType, ExprName, QueryStaticCode, is_ascii_text};
 
 /// The atomic type that the name means.
 #[tactic(auto, unfolding(crate::specs::Types::type_named))]
@@ -70,7 +71,7 @@ pub fn cast_type(kind: Option<AtomType>) -> Result<AtomType, ResolveFault>
 #[tactic(auto, using(crate::proofs::Follow::fault_first, crate::proofs::Follow::fault_next))]
 pub fn single_type(
     alloc: Global,
-    bound: &[Binding],
+    bound: &BoundPrefixes,
     written: &Written,
 ) -> Result<AtomType, ResolveFault>
     ensures { Answers result (undeclared_in bound.now written.now ++ cast_broken (type_named (expr_name bound.now [] written.now)))
@@ -95,7 +96,7 @@ fn known_type(kind: Option<AtomType>) -> Result<AtomType, ResolveFault>
 #[tactic(auto, using(crate::proofs::Follow::fault_first, crate::proofs::Follow::fault_next))]
 pub fn atomic_type(
     alloc: Global,
-    bound: &[Binding],
+    bound: &BoundPrefixes,
     written: &Written,
 ) -> Result<AtomType, ResolveFault>
     ensures { Answers result (undeclared_in bound.now written.now ++ known_broken (type_named (expr_name bound.now [] written.now)))

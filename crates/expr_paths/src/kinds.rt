@@ -2,12 +2,13 @@
 ghost use Rattle.std.specs.Prelude.{◌≡◌, IfOk};
 ghost use Rattle.expr_paths.specs.Steps.{plain_kind_of, plain_kind, target_of, pi_kind, named_kind_of, kind_name, named_kind};
 
+use bound_prefixes::BoundPrefixes;
 use expr_meant::{Meant, key_of, target_in};
 use expr_names::default_in;
 use expr_rules::name_test_of;
 use expr_terms::Key;
 use std::alloc::{AllocError, Global};
-use xt_names::{Binding, Text};
+use xt_names::Text;
 use xt_types::{NameTest, Test};
 
 #[tactic(auto, unfolding(crate::specs::Steps::plain_kind_of))]
@@ -62,7 +63,7 @@ fn named_kind_of(default: &Text, key: Key, name: NameTest) -> Result<Test, Alloc
     }
 }
 
-fn kind_name(alloc: Global, bound: &[Binding], parts: &[Meant]) -> Result<NameTest, AllocError>
+fn kind_name(alloc: Global, bound: &BoundPrefixes, parts: &[Meant]) -> Result<NameTest, AllocError>
     ensures { IfOk result (λ made. made ≡ kind_name bound.now parts.now) }
 {
     match parts {
@@ -74,7 +75,7 @@ fn kind_name(alloc: Global, bound: &[Binding], parts: &[Meant]) -> Result<NameTe
 /// `element()` or `attribute()`, or the same with a name or `*`.
 pub fn named_kind(
     alloc: Global,
-    bound: &[Binding],
+    bound: &BoundPrefixes,
     default: &Text,
     parts: &[Meant],
 ) -> Result<Test, AllocError>

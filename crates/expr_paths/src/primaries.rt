@@ -5,12 +5,13 @@ ghost use Rattle.expr_meant.specs.declared.meant.Meant.TheVariants.{Expr as as_e
 ghost use Rattle.expr_meant.specs.Parts.{expr_in};
 ghost use Rattle.expr_paths.specs.Primaries.{literal_in, literal_of, literal, variable, only_arg, called, call};
 
+use bound_prefixes::BoundPrefixes;
 use expr_meant::{Meant, as_part, expr_in, no_items};
 use expr_names::{call_type, no_text};
 use expr_rules::{args_of, name_of};
 use expr_terms::Token;
 use std::alloc::{AllocError, Global};
-use xt_names::{AtomType, Binding, ExprName, List, Shared, Text};
+use xt_names::{AtomType, ExprName, List, Shared, Text};
 use xt_syntax::Expr;
 
 /// `()`, where a part is missing.
@@ -52,7 +53,7 @@ pub fn literal(alloc: Global, parts: &[Meant]) -> Result<Meant, AllocError>
 }
 
 /// `$v`.
-pub fn variable(alloc: Global, bound: &[Binding], parts: &[Meant]) -> Result<Meant, AllocError>
+pub fn variable(alloc: Global, bound: &BoundPrefixes, parts: &[Meant]) -> Result<Meant, AllocError>
     ensures { IfOk result (λ made. made ≡ as_expr (variable bound.now parts.now)) }
 {
     match parts {
@@ -95,7 +96,7 @@ fn called(
 /// `f(a, b, ..)`, which is a cast where `f` is the name of an atomic type (XPath 2.0, 3.10.4).
 pub fn call(
     alloc: Global,
-    bound: &[Binding],
+    bound: &BoundPrefixes,
     functions: &Text,
     parts: &[Meant],
 ) -> Result<Meant, AllocError>

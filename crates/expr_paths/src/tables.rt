@@ -9,10 +9,11 @@ use crate::kinds::{named_kind, pi_kind, plain_kind};
 use crate::paths::{deep_steps, filtered, root_steps, steps};
 use crate::primaries::{call, literal, only_expr, variable};
 use crate::walks::{attribute_step, axis_step, parent_step, test_step};
+use bound_prefixes::BoundPrefixes;
 use expr_meant::{Meant, as_part, expr_in, exprs_of};
 use expr_terms::Production;
 use std::alloc::{AllocError, Global};
-use xt_names::{Binding, Shared, Text};
+use xt_names::{Shared, Text};
 use xt_syntax::{Expr, Prefixes};
 
 fn deep_after(alloc: Global, parts: &[Meant]) -> Result<Meant, AllocError>
@@ -35,7 +36,7 @@ fn pi_kind_part(alloc: Global, parts: &[Meant]) -> Result<Meant, AllocError>
 
 fn named_kind_part(
     alloc: Global,
-    bound: &[Binding],
+    bound: &BoundPrefixes,
     default: &Text,
     parts: &[Meant],
 ) -> Result<Meant, AllocError>
@@ -54,7 +55,7 @@ pub fn path_value(
 ) -> Result<Meant, AllocError>
     ensures { IfOk result (λ made. made ≡ path_value p.now production parts.now) }
 {
-    let bound = p.bound.as_slice();
+    let bound = &p.bound;
     match production {
         Production::Rooted => as_part(alloc, Expr::Root),
         Production::RootSteps => root_steps(alloc, parts),

@@ -5,12 +5,13 @@ ghost use Rattle.expr_meant.specs.declared.meant.Meant.TheVariants.{Expr as as_e
 ghost use Rattle.expr_meant.specs.Parts.{exprs_of};
 ghost use Rattle.expr_paths.specs.Steps.{axis_of, defaulted, test_on, axis_for_test, axis_for, step_on, axis_step, attribute_step, test_step, parent_step};
 
+use bound_prefixes::BoundPrefixes;
 use expr_meant::{Meant, as_part, exprs_of, key_of};
 use expr_names::{default_in, no_text};
 use expr_rules::name_test_of;
 use expr_terms::Key;
 use std::alloc::{AllocError, Global};
-use xt_names::{Binding, Shared, Text};
+use xt_names::{Shared, Text};
 use xt_syntax::Expr;
 use xt_types::{Axis, NameTest, Test};
 
@@ -47,7 +48,7 @@ fn defaulted(default: &Text, axis: Axis, name: NameTest) -> Result<NameTest, All
 #[tactic(auto, unfolding(crate::specs::Steps::test_on))]
 fn test_on(
     alloc: Global,
-    bound: &[Binding],
+    bound: &BoundPrefixes,
     default: &Text,
     axis: Axis,
     part: &Meant,
@@ -92,7 +93,7 @@ fn step(alloc: Global, axis: Axis, test: Test, parts: &[Meant]) -> Result<Meant,
 
 fn step_on(
     alloc: Global,
-    bound: &[Binding],
+    bound: &BoundPrefixes,
     default: &Text,
     axis: Axis,
     parts: &[Meant],
@@ -111,7 +112,7 @@ fn step_on(
 /// `axis::test[p]..`.
 pub fn axis_step(
     alloc: Global,
-    bound: &[Binding],
+    bound: &BoundPrefixes,
     default: &Text,
     parts: &[Meant],
 ) -> Result<Meant, AllocError>
@@ -126,7 +127,7 @@ pub fn axis_step(
 /// `@test[p]..`.
 pub fn attribute_step(
     alloc: Global,
-    bound: &[Binding],
+    bound: &BoundPrefixes,
     parts: &[Meant],
 ) -> Result<Meant, AllocError>
     ensures { IfOk result (λ made. made ≡ as_expr (attribute_step bound.now parts.now)) }
@@ -138,7 +139,7 @@ pub fn attribute_step(
 /// `test[p]..`, on the axis of attributes where it is a test for them.
 pub fn test_step(
     alloc: Global,
-    bound: &[Binding],
+    bound: &BoundPrefixes,
     default: &Text,
     parts: &[Meant],
 ) -> Result<Meant, AllocError>

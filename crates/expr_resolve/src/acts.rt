@@ -53,7 +53,7 @@ pub(crate) fn own(
 ) -> Result<(), ResolveFault>
     ensures { Answers result (own s.now production first part.now) tt }
 {
-    own_rule(alloc, s.prefixes.bound.as_slice(), production, first, part)
+    own_rule(alloc, &s.prefixes.bound, production, first, part)
 }
 
 /// The rules on all parts.
@@ -65,7 +65,7 @@ pub(crate) fn end(
 ) -> Result<(), ResolveFault>
     ensures { Answers result (end s.now production parts.now) tt }
 {
-    let bound = s.prefixes.bound.as_slice();
+    let bound = &s.prefixes.bound;
     end_rule(
         alloc,
         bound,

@@ -10,13 +10,14 @@ ghost use Rattle.expr_resolve.specs.Folds.{broken_of, expr_meant, type_broken, t
 
 use crate::resolving::part_of;
 use crate::setting::Setting;
+use bound_prefixes::BoundPrefixes;
 use expr_control::sequence_of;
 use expr_meant::{Meant, expr_of};
 use expr_names::ResolveFault;
 use expr_rules::type_rule;
 use expr_terms::Raw;
 use std::alloc::Global;
-use xt_names::{Binding, Shared};
+use xt_names::Shared;
 use xt_syntax::{Expr, SeqType};
 
 fn copied(e: Shared<Expr>) -> Result<Expr, ResolveFault>
@@ -57,7 +58,7 @@ pub fn resolve(alloc: Global, s: &Setting, raw: &Raw) -> Result<Expr, ResolveFau
     as_whole(alloc, part_of(alloc, s, raw))
 }
 
-fn type_in_part(alloc: Global, bound: &[Binding], part: Meant) -> Result<SeqType, ResolveFault>
+fn type_in_part(alloc: Global, bound: &BoundPrefixes, part: Meant) -> Result<SeqType, ResolveFault>
     ensures { Answers result [] (sequence_of bound.now part) }
 {
     let kind = sequence_of(alloc, bound, &part);
@@ -68,7 +69,7 @@ fn type_in_part(alloc: Global, bound: &[Binding], part: Meant) -> Result<SeqType
     }
 }
 
-fn known_type(alloc: Global, bound: &[Binding], part: Meant) -> Result<SeqType, ResolveFault>
+fn known_type(alloc: Global, bound: &BoundPrefixes, part: Meant) -> Result<SeqType, ResolveFault>
     ensures { Answers result (type_broken_of bound.now part) (sequence_of bound.now part) }
 {
     match type_rule(alloc, bound, &part) {
@@ -82,7 +83,7 @@ fn known_type(alloc: Global, bound: &[Binding], part: Meant) -> Result<SeqType, 
 
 fn as_type(
     alloc: Global,
-    bound: &[Binding],
+    bound: &BoundPrefixes,
     part: Result<Meant, ResolveFault>,
 ) -> Result<SeqType, ResolveFault>
     ensures { (codes : Items Code) (m : Meant) → Answers part codes m → Answers result (codes ++ type_broken_of bound.now m) (sequence_of bound.now m) }
@@ -98,5 +99,5 @@ pub fn resolve_type(alloc: Global, s: &Setting, raw: &Raw) -> Result<SeqType, Re
     ensures { Answers result (type_broken s.now raw.now) (type_meant s.now raw.now) }
 {
     let part = part_of(alloc, s, raw);
-    as_type(alloc, s.prefixes.bound.as_slice(), part)
+    as_type(alloc, &s.prefixes.bound, part)
 }

@@ -4,27 +4,17 @@ ghost use Rattle.expr_names.specs.Names.{uri_of, uri_in, name_test, expr_name};
 ghost use Rattle.expr_names.specs.Types.{type_or_any};
 ghost use Rattle.expr_rules.specs.Known.{name_of, node_name_of, name_test_of, named_type, type_of};
 
+use bound_prefixes::BoundPrefixes;
 use expr_meant::{Meant, written_of, written_test_in};
-use expr_names::{Written, WrittenTest, no_text, type_named};
+use expr_names::{Written, WrittenTest, no_text, type_named, uri_of};
 use std::alloc::{AllocError, Global};
-use xt_names::{AtomType, Binding, ExprName, Name, Text};
+use xt_names::{AtomType, ExprName, Name, Text};
 use xt_types::NameTest;
-
-fn uri_of(alloc: Global, bound: &[Binding], prefix: &Text) -> Result<Text, AllocError>
-    ensures { IfOk result (λ uri. uri ≡ uri_of bound.now prefix.now) }
-{
-    for binding in bound {
-        if binding.prefix == *prefix {
-            return binding.uri.copy();
-        }
-    }
-    no_text(alloc)
-}
 
 #[tactic(auto, unfolding(expr_names::specs::Names::uri_in))]
 fn uri_in(
     alloc: Global,
-    bound: &[Binding],
+    bound: &BoundPrefixes,
     default: &Text,
     written: &Written,
 ) -> Result<Text, AllocError>
@@ -38,7 +28,7 @@ fn uri_in(
 
 fn known_name(
     alloc: Global,
-    bound: &[Binding],
+    bound: &BoundPrefixes,
     default: &Text,
     written: Written,
 ) -> Result<ExprName, AllocError>
@@ -54,7 +44,7 @@ fn known_name(
 /// The name of a variable, a function or a type that the part writes.
 pub fn name_of(
     alloc: Global,
-    bound: &[Binding],
+    bound: &BoundPrefixes,
     default: &Text,
     part: &Meant,
 ) -> Result<ExprName, AllocError>
@@ -67,7 +57,7 @@ pub fn name_of(
 /// The name of a node that the part writes.
 pub fn node_name_of(
     alloc: Global,
-    bound: &[Binding],
+    bound: &BoundPrefixes,
     default: &Text,
     part: &Meant,
 ) -> Result<Name, AllocError>
@@ -82,7 +72,7 @@ pub fn node_name_of(
     })
 }
 
-fn bare_name(alloc: Global, bound: &[Binding], written: Written) -> Result<ExprName, AllocError>
+fn bare_name(alloc: Global, bound: &BoundPrefixes, written: Written) -> Result<ExprName, AllocError>
     ensures { IfOk result (λ name. name ≡ expr_name bound.now [] written) }
 {
     let none = no_text(alloc)?;
@@ -92,7 +82,7 @@ fn bare_name(alloc: Global, bound: &[Binding], written: Written) -> Result<ExprN
 #[tactic(auto, unfolding(expr_names::specs::Names::name_test))]
 fn known_test(
     alloc: Global,
-    bound: &[Binding],
+    bound: &BoundPrefixes,
     written: WrittenTest,
 ) -> Result<NameTest, AllocError>
     ensures { IfOk result (λ made. made ≡ name_test bound.now written) }
@@ -107,7 +97,11 @@ fn known_test(
 
 /// The name test that the part writes, in which a name without a prefix has no uri.
 #[tactic(auto, unfolding(crate::specs::Known::name_test_of))]
-pub fn name_test_of(alloc: Global, bound: &[Binding], part: &Meant) -> Result<NameTest, AllocError>
+pub fn name_test_of(
+    alloc: Global,
+    bound: &BoundPrefixes,
+    part: &Meant,
+) -> Result<NameTest, AllocError>
     ensures { IfOk result (λ made. made ≡ name_test_of bound.now part.now) }
 {
     match part {
@@ -122,7 +116,7 @@ pub fn name_test_of(alloc: Global, bound: &[Binding], part: &Meant) -> Result<Na
 /// The atomic type that the part names.
 pub(crate) fn named_type(
     alloc: Global,
-    bound: &[Binding],
+    bound: &BoundPrefixes,
     part: &Meant,
 ) -> Result<Option<AtomType>, AllocError>
     ensures { IfOk result (λ kind. kind ≡ named_type bound.now part.now) }
@@ -143,7 +137,7 @@ fn type_or_any(kind: Option<AtomType>) -> AtomType
 }
 
 /// The atomic type that the part names, and xs:anyAtomicType where it names none.
-pub fn type_of(alloc: Global, bound: &[Binding], part: &Meant) -> Result<AtomType, AllocError>
+pub fn type_of(alloc: Global, bound: &BoundPrefixes, part: &Meant) -> Result<AtomType, AllocError>
     ensures { IfOk result (λ kind. kind ≡ type_of bound.now part.now) }
 {
     Ok(type_or_any(named_type(alloc, bound, part)?))

@@ -4,16 +4,17 @@ ghost use Rattle.expr_names.specs.Answers.{Answers};
 ghost use Rattle.expr_names.specs.Names.{undeclared_in, test_broken};
 ghost use Rattle.expr_rules.specs.Rules.{undeclared_of, test_broken_of, type_broken_of, cast_broken_of, axis_key_broken, axis_broken};
 
+use bound_prefixes::BoundPrefixes;
 use expr_meant::{Meant, key_of, written_of, written_test_in};
 use expr_names::{
     ResolveFault, atomic_type, name_test, no_text, single_type, static_fault, uri_in,
 };
 use expr_terms::Key;
 use std::alloc::Global;
-use xt_names::{Binding, QueryStaticCode};
+use xt_names::QueryStaticCode;
 
 /// XPST0081 where the part writes a name whose prefix is not declared.
-pub fn name_rule(alloc: Global, bound: &[Binding], part: &Meant) -> Result<(), ResolveFault>
+pub fn name_rule(alloc: Global, bound: &BoundPrefixes, part: &Meant) -> Result<(), ResolveFault>
     ensures { Answers result (undeclared_of bound.now part.now) tt }
 {
     let written = written_of(alloc, part)?;
@@ -24,7 +25,7 @@ pub fn name_rule(alloc: Global, bound: &[Binding], part: &Meant) -> Result<(), R
 
 /// XPST0081 where the part writes a name test whose prefix is not declared.
 #[tactic(auto, unfolding(crate::specs::Rules::test_broken_of))]
-pub fn test_rule(alloc: Global, bound: &[Binding], part: &Meant) -> Result<(), ResolveFault>
+pub fn test_rule(alloc: Global, bound: &BoundPrefixes, part: &Meant) -> Result<(), ResolveFault>
     ensures { Answers result (test_broken_of bound.now part.now) tt }
 {
     match part {
@@ -39,7 +40,7 @@ pub fn test_rule(alloc: Global, bound: &[Binding], part: &Meant) -> Result<(), R
 
 /// Where the part is a token: XPST0081 or XPST0051 where it names no atomic type.
 #[tactic(auto, unfolding(crate::specs::Rules::type_broken_of))]
-pub fn type_rule(alloc: Global, bound: &[Binding], part: &Meant) -> Result<(), ResolveFault>
+pub fn type_rule(alloc: Global, bound: &BoundPrefixes, part: &Meant) -> Result<(), ResolveFault>
     ensures { Answers result (type_broken_of bound.now part.now) tt }
 {
     match part {
@@ -54,7 +55,7 @@ pub fn type_rule(alloc: Global, bound: &[Binding], part: &Meant) -> Result<(), R
 
 /// Where the part is a token: XPST0081, XPST0080 or XPST0051 where no cast is to what it names.
 #[tactic(auto, unfolding(crate::specs::Rules::cast_broken_of))]
-pub fn cast_rule(alloc: Global, bound: &[Binding], part: &Meant) -> Result<(), ResolveFault>
+pub fn cast_rule(alloc: Global, bound: &BoundPrefixes, part: &Meant) -> Result<(), ResolveFault>
     ensures { Answers result (cast_broken_of bound.now part.now) tt }
 {
     match part {

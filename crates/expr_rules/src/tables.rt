@@ -4,17 +4,17 @@ ghost use Rattle.expr_names.specs.Answers.{Answers};
 ghost use Rattle.expr_rules.specs.Rules.{operated_broken, own_broken};
 
 use crate::rules::{axis_rule, cast_rule, name_rule, test_rule, type_rule};
+use bound_prefixes::BoundPrefixes;
 use expr_meant::Meant;
 use expr_names::ResolveFault;
 use expr_terms::{Level, Production};
 use std::alloc::Global;
-use xt_names::Binding;
 
 #[tactic(auto, unfolding(crate::specs::Rules::operated_broken))]
 fn operated_rule(
     level: Level,
     alloc: Global,
-    bound: &[Binding],
+    bound: &BoundPrefixes,
     part: &Meant,
 ) -> Result<(), ResolveFault>
     ensures { Answers result (operated_broken level bound.now part.now) tt }
@@ -31,7 +31,7 @@ fn operated_rule(
 #[tactic(auto, unfolding(crate::specs::Rules::own_broken))]
 pub fn own_rule(
     alloc: Global,
-    bound: &[Binding],
+    bound: &BoundPrefixes,
     production: Production,
     first: bool,
     part: &Meant,

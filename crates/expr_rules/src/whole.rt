@@ -8,11 +8,12 @@ ghost use Rattle.expr_rules.specs.Rules.{args_in, args_of, call_broken, end_brok
 ghost use Rattle.std.specs.List.{list_any};
 
 use crate::known::name_of;
+use bound_prefixes::BoundPrefixes;
 use expr_meant::Meant;
 use expr_names::{ResolveFault, call_type, names_differ, no_text, static_fault};
 use expr_terms::Production;
 use std::alloc::{AllocError, Global};
-use xt_names::{AtomType, Binding, ExprName, List, Name, QueryStaticCode, Shared, Text};
+use xt_names::{AtomType, ExprName, List, Name, QueryStaticCode, Shared, Text};
 use xt_syntax::Expr;
 
 #[tactic(auto, unfolding(crate::specs::Rules::args_in))]
@@ -51,7 +52,7 @@ fn arity_rule(kind: Option<AtomType>, args: &[Expr]) -> Result<(), ResolveFault>
 
 fn call_rule(
     alloc: Global,
-    bound: &[Binding],
+    bound: &BoundPrefixes,
     functions: &Text,
     parts: &[Meant],
 ) -> Result<(), ResolveFault>
@@ -83,7 +84,7 @@ fn has_place_of(name: &ExprName, parts: &[Meant]) -> bool
     parts.iter().any(|part| is_place_of(name, part))
 }
 
-fn bind_rule(alloc: Global, bound: &[Binding], parts: &[Meant]) -> Result<(), ResolveFault>
+fn bind_rule(alloc: Global, bound: &BoundPrefixes, parts: &[Meant]) -> Result<(), ResolveFault>
     ensures { Answers result (bind_broken bound.now parts.now) tt }
 {
     match parts {
@@ -104,7 +105,7 @@ fn bind_rule(alloc: Global, bound: &[Binding], parts: &[Meant]) -> Result<(), Re
 #[tactic(auto, unfolding(crate::specs::Rules::end_broken))]
 pub fn end_rule(
     alloc: Global,
-    bound: &[Binding],
+    bound: &BoundPrefixes,
     functions: &Text,
     production: Production,
     parts: &[Meant],

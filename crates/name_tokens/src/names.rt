@@ -4,17 +4,18 @@ ghost use Rattle.path_raws.specs.Names.{first_that, fitting, names, qualified, t
 ghost use Rattle.path_raws.specs.Names.{name_token, function_token};
 
 use crate::words::word_term;
+use bound_prefixes::BoundPrefixes;
 use expr_meant::written_in;
 use expr_names::{ResolveFault, no_text, uri_in};
 use expr_terms::{Class, Token, fits};
 use std::alloc::{AllocError, Global};
-use xt_names::{Binding, ExprName, Text};
+use xt_names::{ExprName, Text};
 
 /// Whether the token means the name, and its prefix is declared.
 #[tactic(auto, using(crate::proofs::Faults::faults))]
 fn names(
     alloc: Global,
-    bound: &[Binding],
+    bound: &BoundPrefixes,
     default: &Text,
     name: &ExprName,
     token: &Token,
@@ -32,7 +33,7 @@ fn names(
 fn is_fitting(
     alloc: Global,
     class: Class,
-    bound: &[Binding],
+    bound: &BoundPrefixes,
     default: &Text,
     name: &ExprName,
     token: &Token,
@@ -50,7 +51,7 @@ fn is_fitting(
 fn qualified_token(
     alloc: Global,
     class: Class,
-    bound: &[Binding],
+    bound: &BoundPrefixes,
     default: &Text,
     name: &ExprName,
 ) -> Result<Option<Token>, AllocError>
@@ -58,7 +59,7 @@ fn qualified_token(
         ≡ first_that (fitting class (names bound.now default.now name.now))
         (qualified bound.now name.now.local)) }
 {
-    for binding in bound {
+    for binding in bound.as_slice() {
         if !binding.prefix.is_empty() {
             let token = Token::Qname(binding.prefix.copy()?, name.local.copy()?);
             if is_fitting(alloc, class, bound, default, name, &token)? {
@@ -72,7 +73,7 @@ fn qualified_token(
 fn token_in(
     alloc: Global,
     class: Class,
-    bound: &[Binding],
+    bound: &BoundPrefixes,
     default: &Text,
     name: &ExprName,
 ) -> Result<Option<Token>, AllocError>
@@ -90,7 +91,7 @@ fn token_in(
 /// (XPath 2.0, 3.1.2)
 pub fn name_token(
     alloc: Global,
-    bound: &[Binding],
+    bound: &BoundPrefixes,
     name: &ExprName,
 ) -> Result<Option<Token>, AllocError>
     ensures { IfOk result (λ token. token ≡ name_token bound.now [] name.now) }
@@ -104,7 +105,7 @@ pub fn name_token(
 /// (XPath 2.0, 3.1.5; XQuery 1.0, A.3)
 pub fn function_token(
     alloc: Global,
-    bound: &[Binding],
+    bound: &BoundPrefixes,
     default: &Text,
     name: &ExprName,
 ) -> Result<Option<Token>, AllocError>

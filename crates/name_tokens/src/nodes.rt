@@ -3,18 +3,19 @@ ghost use Rattle.std.specs.Prelude.{◌≡◌, [], IfOk};
 ghost use Rattle.element_raws.specs.Makers.{gives_name, node_spelling, node_token};
 
 use crate::words::word_term;
+use bound_prefixes::BoundPrefixes;
 use expr_meant::written_in;
 use expr_names::{ResolveFault, no_text, uri_in};
 use expr_terms::{Class, Token, fits};
 use std::alloc::{AllocError, Global};
-use xt_names::{Binding, Name, Text};
+use xt_names::{Name, Text};
 
 /// Whether the token means the name of a node with its prefix, which is declared.
 /// (XQuery 1.0, 3.7.1.2)
 #[tactic(auto, using(crate::proofs::Faults::faults))]
 pub fn gives_name(
     alloc: Global,
-    bound: &[Binding],
+    bound: &BoundPrefixes,
     default: &Text,
     name: &Name,
     token: &Token,
@@ -46,7 +47,7 @@ fn node_spelling(name: &Name) -> Result<Token, AllocError>
 pub fn node_token(
     alloc: Global,
     class: Class,
-    bound: &[Binding],
+    bound: &BoundPrefixes,
     default: &Text,
     name: &Name,
 ) -> Result<Option<Token>, AllocError>
@@ -68,7 +69,7 @@ pub fn node_token(
 pub fn bare_node_token(
     alloc: Global,
     class: Class,
-    bound: &[Binding],
+    bound: &BoundPrefixes,
     name: &Name,
 ) -> Result<Option<Token>, AllocError>
     ensures { IfOk result (λ token. token ≡ node_token class bound.now [] name.now) }

@@ -5,11 +5,12 @@ ghost use Rattle.path_raws.specs.Names.{first_that, fitting, tests, same_test, t
 ghost use Rattle.path_raws.specs.Names.{any_locals, qualified};
 
 use crate::words::word_term;
+use bound_prefixes::BoundPrefixes;
 use expr_meant::written_test_in;
 use expr_names::{ResolveFault, default_in, name_test};
 use expr_terms::{Class, Key, Token, fits};
 use std::alloc::{AllocError, Global};
-use xt_names::{Binding, Text};
+use xt_names::Text;
 use xt_types::{Axis, NameTest};
 
 fn same_test(a: &NameTest, b: &NameTest) -> bool
@@ -46,7 +47,7 @@ fn defaulted(default: &Text, axis: Axis, test: NameTest) -> Result<NameTest, All
 #[tactic(auto, using(crate::proofs::Faults::faults))]
 fn tests(
     alloc: Global,
-    bound: &[Binding],
+    bound: &BoundPrefixes,
     default: &Text,
     axis: Axis,
     test: &NameTest,
@@ -69,7 +70,7 @@ fn tests(
 fn is_fitting(
     alloc: Global,
     class: Class,
-    bound: &[Binding],
+    bound: &BoundPrefixes,
     default: &Text,
     axis: Axis,
     test: &NameTest,
@@ -87,7 +88,7 @@ fn is_fitting(
 fn token_where_fitting(
     alloc: Global,
     class: Class,
-    bound: &[Binding],
+    bound: &BoundPrefixes,
     default: &Text,
     axis: Axis,
     test: &NameTest,
@@ -106,7 +107,7 @@ fn token_where_fitting(
 fn any_local_token(
     alloc: Global,
     class: Class,
-    bound: &[Binding],
+    bound: &BoundPrefixes,
     default: &Text,
     axis: Axis,
     test: &NameTest,
@@ -115,7 +116,7 @@ fn any_local_token(
         ≡ first_that (fitting class (tests bound.now default.now axis test.now))
         (any_locals bound.now)) }
 {
-    for binding in bound {
+    for binding in bound.as_slice() {
         if !binding.prefix.is_empty() {
             let token = Token::AnyLocal(binding.prefix.copy()?);
             if is_fitting(alloc, class, bound, default, axis, test, &token)? {
@@ -130,7 +131,7 @@ fn any_local_token(
 fn qualified_token(
     alloc: Global,
     class: Class,
-    bound: &[Binding],
+    bound: &BoundPrefixes,
     default: &Text,
     axis: Axis,
     test: &NameTest,
@@ -140,7 +141,7 @@ fn qualified_token(
         ≡ first_that (fitting class (tests bound.now default.now axis test.now))
         (qualified bound.now local.now)) }
 {
-    for binding in bound {
+    for binding in bound.as_slice() {
         if !binding.prefix.is_empty() {
             let token = Token::Qname(binding.prefix.copy()?, local.copy()?);
             if is_fitting(alloc, class, bound, default, axis, test, &token)? {
@@ -157,7 +158,7 @@ fn qualified_token(
 pub fn test_token(
     alloc: Global,
     class: Class,
-    bound: &[Binding],
+    bound: &BoundPrefixes,
     default: &Text,
     axis: Axis,
     test: &NameTest,

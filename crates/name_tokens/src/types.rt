@@ -5,11 +5,12 @@ ghost use Rattle.expr_terms.specs.declared.productions.Class.TheVariants as clas
 ghost use Rattle.path_raws.specs.Names.{first_that, fitting, qualified};
 ghost use Rattle.control_raws.specs.Types.{local_name, same_atom, types, type_token};
 
+use bound_prefixes::BoundPrefixes;
 use expr_meant::written_in;
 use expr_names::{ResolveFault, expr_name, no_text, type_named};
 use expr_terms::{Class, Token, fits};
 use std::alloc::{AllocError, Global};
-use xt_names::{AtomType, Binding, Text};
+use xt_names::{AtomType, Text};
 
 #[tactic(auto, using(crate::proofs::Texts::ascii_same))]
 fn ascii_text(alloc: Global, text: &str) -> Result<Text, AllocError>
@@ -49,7 +50,7 @@ fn same_atom(a: AtomType, b: AtomType) -> bool
 #[tactic(auto, using(crate::proofs::Faults::faults), unfolding(expr_meant::specs::Names::written_of))]
 fn types(
     alloc: Global,
-    bound: &[Binding],
+    bound: &BoundPrefixes,
     kind: AtomType,
     token: &Token,
 ) -> Result<bool, AllocError>
@@ -70,14 +71,14 @@ fn types(
 /// The first of the tokens with a prefix that names the type by this local name.
 fn qualified_token(
     alloc: Global,
-    bound: &[Binding],
+    bound: &BoundPrefixes,
     kind: AtomType,
     local: &Text,
 ) -> Result<Option<Token>, AllocError>
     ensures { IfOk result (λ token. token ≡ first_that (fitting class.Name (types bound.now kind))
         (qualified bound.now local.now)) }
 {
-    for binding in bound {
+    for binding in bound.as_slice() {
         if !binding.prefix.is_empty() {
             let token = Token::Qname(binding.prefix.copy()?, local.copy()?);
             if fits(Class::Name, &token) && types(alloc, bound, kind, &token)? {
@@ -92,7 +93,7 @@ fn qualified_token(
 /// (XPath 2.0, 2.5.3)
 pub fn type_token(
     alloc: Global,
-    bound: &[Binding],
+    bound: &BoundPrefixes,
     kind: AtomType,
 ) -> Result<Option<Token>, AllocError>
     ensures { IfOk result (λ token. token ≡ type_token bound.now kind) }

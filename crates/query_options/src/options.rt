@@ -8,11 +8,12 @@ ghost use Rattle.query_options.specs.Options.{with_effect, with_option};
 
 use crate::effects::{Effect, effect_of};
 use crate::rules::{refused, space_rules};
+use bound_prefixes::BoundPrefixes;
 use expr_meant::written_in;
 use expr_names::{ResolveFault, expr_name, no_text};
 use expr_terms::Token;
 use std::alloc::Global;
-use xt_names::{Binding, ExprName, List, Text, is_ascii_text};
+use xt_names::{ExprName, List, Text, is_ascii_text};
 use xt_types::SpaceRule;
 
 /// What the options so far mean.
@@ -57,7 +58,7 @@ fn check_omit(text: &Text) -> Result<(), ResolveFault>
     refused()
 }
 
-fn option_name(alloc: Global, bound: &[Binding], name: &Token) -> Result<ExprName, ResolveFault>
+fn option_name(alloc: Global, bound: &BoundPrefixes, name: &Token) -> Result<ExprName, ResolveFault>
     ensures { Answers result (undeclared_in bound.now (written_in name.now))
         (expr_name bound.now [] (written_in name.now)) }
 {
@@ -69,7 +70,7 @@ fn option_name(alloc: Global, bound: &[Binding], name: &Token) -> Result<ExprNam
 #[tactic(auto, using(expr_names::proofs::Follow::fault_first, expr_names::proofs::Follow::fault_next), unfolding(crate::specs::Options::effect_broken, crate::specs::Options::with_effect))]
 fn with_effect(
     alloc: Global,
-    bound: &[Binding],
+    bound: &BoundPrefixes,
     seen: Options,
     text: &Text,
     effect: Effect,
@@ -102,7 +103,7 @@ fn with_effect(
 #[tactic(auto, using(expr_names::proofs::Follow::fault_first, expr_names::proofs::Follow::fault_next))]
 pub fn with_option(
     alloc: Global,
-    bound: &[Binding],
+    bound: &BoundPrefixes,
     seen: Options,
     name: &Token,
     text: &Text,

@@ -10,9 +10,10 @@ ghost use Rattle.query_options.specs.Spaces.{not_taken};
 
 use crate::tests_of_words::written_test;
 use crate::words::words_of;
+use bound_prefixes::BoundPrefixes;
 use expr_names::{ResolveFault, WrittenTest, name_test, static_fault};
 use std::alloc::Global;
-use xt_names::{Binding, List, QueryStaticCode, Text, is_ascii_text};
+use xt_names::{List, QueryStaticCode, Text, is_ascii_text};
 use xt_types::{NameTest, SpaceRule};
 
 /// XTOP0001, of a text that the option does not take.
@@ -35,7 +36,7 @@ fn check_word(word: &Text) -> Result<(), ResolveFault>
 #[tactic(auto, unfolding(crate::specs::Spaces::test_word_broken, crate::specs::Spaces::test_or_any))]
 fn test_of(
     alloc: Global,
-    bound: &[Binding],
+    bound: &BoundPrefixes,
     written: Option<WrittenTest>,
 ) -> Result<NameTest, ResolveFault>
     ensures { Answers result (test_word_broken bound.now written)
@@ -50,7 +51,7 @@ fn test_of(
 #[tactic(auto, using(expr_names::proofs::Follow::fault_first, expr_names::proofs::Follow::fault_next))]
 fn rule_of(
     alloc: Global,
-    bound: &[Binding],
+    bound: &BoundPrefixes,
     word: &Text,
     text: &Text,
 ) -> Result<SpaceRule, ResolveFault>
@@ -69,7 +70,7 @@ fn rule_of(
 #[tactic(auto, using(expr_names::proofs::Follow::fault_first, expr_names::proofs::Follow::fault_next))]
 fn rules_of(
     alloc: Global,
-    bound: &[Binding],
+    bound: &BoundPrefixes,
     words: &[Text],
 ) -> Result<List<SpaceRule>, ResolveFault>
     ensures { Answers result (pairs_broken bound.now words.now) (pairs_meant bound.now words.now) }
@@ -92,7 +93,7 @@ fn rules_of(
 /// (XQuery 1.0, 4.16; XSLT 2.0, 4.4)
 pub fn space_rules(
     alloc: Global,
-    bound: &[Binding],
+    bound: &BoundPrefixes,
     text: &Text,
 ) -> Result<List<SpaceRule>, ResolveFault>
     ensures { Answers result (space_broken bound.now text.now) (space_meant bound.now text.now) }

@@ -5,6 +5,7 @@ ghost use Rattle.query_prologs.specs.Prefixes.{declared_bindings, predeclared, b
 ghost use Rattle.query_prologs.specs.Prefixes.{element_default, function_default, is_stripped};
 ghost use Rattle.query_prologs.specs.Prefixes.{element_or, function_or, strip_or, prefixes_of};
 
+use bound_prefixes::BoundPrefixes;
 use expr_names::no_text;
 use prolog_rules::Setter;
 use std::alloc::{AllocError, Global};
@@ -110,7 +111,7 @@ pub fn prefixes_of(alloc: Global, setters: &[Setter]) -> Result<Prefixes, AllocE
 {
     let declared = declared_bindings(alloc, setters)?;
     Ok(Prefixes {
-        bound: with_predeclared(alloc, declared)?,
+        bound: BoundPrefixes::new(with_predeclared(alloc, declared)?)?,
         element_default: element_default(alloc, setters)?,
         function_default: function_default(alloc, setters)?,
     })

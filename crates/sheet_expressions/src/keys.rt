@@ -5,10 +5,11 @@ ghost use Rattle.xt_names.specs.declared.names.ExprName.{ExprName as AnyName};
 ghost use Rattle.expr_names.specs.Answers.{Answers};
 ghost use Rattle.sheet_expressions.specs.Keys.{braced, braced_unless, written_key, key_text};
 
+use bound_prefixes::BoundPrefixes;
 use expr_names::{ResolveFault, Written, expr_name, no_text};
 use sheet_values::written_name;
 use std::alloc::{AllocError, Global};
-use xt_names::{Binding, ExprName, Text, TextBuilder};
+use xt_names::{ExprName, Text, TextBuilder};
 
 /// The name of a key as one text: its local part, with its uri in braces before it where it has one
 /// (XSLT 2.0, 16.3).
@@ -42,7 +43,7 @@ fn braced_unless(alloc: Global, found: Result<ExprName, ResolveFault>) -> Result
 #[tactic(auto, unfolding(crate::specs::Keys::written_key))]
 fn written_key(
     alloc: Global,
-    bound: &[Binding],
+    bound: &BoundPrefixes,
     written: &Option<Written>,
 ) -> Result<Text, AllocError>
     ensures { IfOk result (λ text. text ≡ written_key bound.now written.now) }
@@ -60,7 +61,7 @@ fn written_key(
 /// The name of a key that the literal writes, as one text: the local part, and before it the uri in
 /// braces where it has one (XSLT 2.0, 16.3). A name without a prefix has none. A literal that is no
 /// QName, or whose prefix is not declared, gives the text of no characters, which names no key.
-pub fn key_text(alloc: Global, bound: &[Binding], literal: &Text) -> Result<Text, AllocError>
+pub fn key_text(alloc: Global, bound: &BoundPrefixes, literal: &Text) -> Result<Text, AllocError>
     ensures { IfOk result (λ text. text ≡ key_text bound.now literal.now) }
 {
     let written = written_name(alloc, literal.as_str())?;

@@ -14,11 +14,12 @@ ghost use Rattle.sheet_expressions.specs.Parts.{key_arguments, key_call};
 
 use crate::calls::{SheetCall, sheet_call};
 use crate::keys::key_text;
+use bound_prefixes::BoundPrefixes;
 use expr_meant::written_in;
 use expr_names::{ResolveFault, Written, expr_name, no_text};
 use expr_terms::{Production, Raw, Token};
 use std::alloc::{AllocError, Global};
-use xt_names::{Binding, ExprName, List, Text};
+use xt_names::{ExprName, List, Text};
 use xt_syntax::Prefixes;
 
 fn no_name(alloc: Global) -> Result<ExprName, AllocError>
@@ -50,7 +51,7 @@ fn name_written(
 ) -> Result<ExprName, AllocError>
     ensures { IfOk result (λ name. name ≡ name_written prefixes.now written.now) }
 {
-    let bound = prefixes.bound.as_slice();
+    let bound = &prefixes.bound;
     let found = expr_name(alloc, bound, &prefixes.function_default, written);
     name_unless(alloc, found)
 }
@@ -174,7 +175,7 @@ fn as_literal(alloc: Global, text: Text) -> Result<Raw, AllocError>
 }
 
 /// The literal with the name of the key that it writes; None where the part is no literal.
-fn key_literal(alloc: Global, bound: &[Binding], part: &Raw) -> Result<Option<Raw>, AllocError>
+fn key_literal(alloc: Global, bound: &BoundPrefixes, part: &Raw) -> Result<Option<Raw>, AllocError>
     ensures { IfOk result (λ made. made ≡ key_literal bound.now part.now) }
 {
     match literal_in(part)? {
@@ -187,7 +188,7 @@ fn key_literal(alloc: Global, bound: &[Binding], part: &Raw) -> Result<Option<Ra
 }
 
 /// The first part as such a literal.
-fn first_key(alloc: Global, bound: &[Binding], parts: &[Raw]) -> Result<Option<Raw>, AllocError>
+fn first_key(alloc: Global, bound: &BoundPrefixes, parts: &[Raw]) -> Result<Option<Raw>, AllocError>
     ensures { IfOk result (λ made. made ≡ first_key bound.now parts.now) }
 {
     match parts {
@@ -200,7 +201,7 @@ fn first_key(alloc: Global, bound: &[Binding], parts: &[Raw]) -> Result<Option<R
 #[tactic(auto, using(crate::proofs::PartLemmas::firsts))]
 fn with_key(
     alloc: Global,
-    bound: &[Binding],
+    bound: &BoundPrefixes,
     parts: Vec<Raw>,
 ) -> Result<Option<List<Raw>>, AllocError>
     ensures { IfOk result (λ made. made ≡ on_first (key_literal bound.now) parts.items) }
@@ -230,7 +231,7 @@ fn as_node(production: Production, parts: Option<List<Raw>>) -> Option<Raw>
     }
 }
 
-fn key_arguments(alloc: Global, bound: &[Binding], part: Raw) -> Result<Option<Raw>, AllocError>
+fn key_arguments(alloc: Global, bound: &BoundPrefixes, part: Raw) -> Result<Option<Raw>, AllocError>
     ensures { IfOk result (λ made. made ≡ key_arguments bound.now part) }
 {
     match part {
@@ -245,7 +246,7 @@ fn key_arguments(alloc: Global, bound: &[Binding], part: Raw) -> Result<Option<R
 #[tactic(auto, using(crate::proofs::PartLemmas::lasts))]
 fn with_key_arguments(
     alloc: Global,
-    bound: &[Binding],
+    bound: &BoundPrefixes,
     parts: Vec<Raw>,
 ) -> Result<Option<List<Raw>>, AllocError>
     ensures { IfOk result (λ made. made ≡ on_last (key_arguments bound.now) parts.items) }
@@ -267,7 +268,7 @@ fn with_key_arguments(
 /// writes it; None where no literal does.
 pub(crate) fn key_call(
     alloc: Global,
-    bound: &[Binding],
+    bound: &BoundPrefixes,
     parts: List<Raw>,
 ) -> Result<Option<Raw>, AllocError>
     ensures { IfOk result (λ made. made ≡ key_call bound.now parts) }

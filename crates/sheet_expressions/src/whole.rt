@@ -33,7 +33,7 @@ fn allowed_call(
             drop(parts);
             Ok(None)
         }
-        SheetCall::Key => key_call(alloc, prefixes.bound.as_slice(), parts),
+        SheetCall::Key => key_call(alloc, &prefixes.bound, parts),
     }
 }
 

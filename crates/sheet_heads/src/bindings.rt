@@ -63,12 +63,7 @@ pub fn needed_name(
 {
     match attribute(attributes, "name") {
         None => Err(sheet_fault(SheetStaticCode::XTSE0010)),
-        Some(text) => declared_name(
-            alloc,
-            place.bound.get().as_slice(),
-            text,
-            SheetStaticCode::XTSE0020,
-        ),
+        Some(text) => declared_name(alloc, &place.bound, text, SheetStaticCode::XTSE0020),
     }
 }
 

@@ -87,7 +87,7 @@ fn element_head<R: Reader>(
     ensures { Answers result (element_faults (R.reads reader.now) place.now attributes.now)
         (element_value (R.reads reader.now) place.now attributes.now) }
 {
-    let uri = default_uri(alloc, place.bound.get().as_slice())?;
+    let uri = default_uri(alloc, &place.bound)?;
     let name = computed_name(alloc, reader, place, attributes, uri)?;
     Ok(Head::Element(name))
 }

@@ -50,7 +50,7 @@ fn mode(alloc: Global, place: &Place, attributes: &[Attribute]) -> Result<ModeUs
     match attribute(attributes, "mode") {
         None => Ok(ModeUse::Number(0)),
         Some(text) => {
-            let choice = mode_choice(alloc, place.bound.get().as_slice(), text)?;
+            let choice = mode_choice(alloc, &place.bound, text)?;
             Ok(numbered(place, &choice))
         }
     }
@@ -86,7 +86,7 @@ fn template_number(
     match attribute(attributes, "name") {
         None => Err(sheet_fault(SheetStaticCode::XTSE0010)),
         Some(text) => {
-            let name = qname(alloc, place.bound.get().as_slice(), text)?;
+            let name = qname(alloc, &place.bound, text)?;
             Ok(place.called.get().number(&name))
         }
     }

@@ -10,12 +10,13 @@ ghost use Rattle.std.specs.Prelude.{codes};
 ghost use Rattle.sheet_heads.specs.Parts.{both_broken, computed_name};
 
 use crate::attributes::needed_template;
-use expr_names::{ResolveFault, no_text};
+use bound_prefixes::BoundPrefixes;
+use expr_names::{ResolveFault, no_text, uri_of};
 use sheet_table::has;
 use sheet_texts::{Place, Reader};
 use sheet_values::sheet_fault;
 use std::alloc::{AllocError, Global};
-use xt_names::{Binding, SheetStaticCode, Text};
+use xt_names::{SheetStaticCode, Text};
 use xt_sheets::values::AvtName;
 use xt_tree::Attribute;
 
@@ -40,21 +41,9 @@ pub(crate) fn check_one(
     refuse_if(code, has(attributes, "select") && has_content)
 }
 
-/// The uri of the first binding of the prefix; the empty text where there is none.
-fn uri_of(alloc: Global, bound: &[Binding], prefix: &Text) -> Result<Text, AllocError>
-    ensures { IfOk result (λ uri. uri ≡ uri_of bound.now prefix.now) }
-{
-    for binding in bound {
-        if binding.prefix == *prefix {
-            return binding.uri.copy();
-        }
-    }
-    no_text(alloc)
-}
-
 /// The uri of names without prefix, which is the empty text where none is declared (Namespaces in
 /// XML 1.0, 6.2).
-pub fn default_uri(alloc: Global, bound: &[Binding]) -> Result<Text, AllocError>
+pub fn default_uri(alloc: Global, bound: &BoundPrefixes) -> Result<Text, AllocError>
     ensures { IfOk result (λ uri. uri ≡ uri_of bound.now []) }
 {
     let none = no_text(alloc)?;
@@ -75,7 +64,7 @@ pub(crate) fn computed_name<R: Reader>(
         (computed_name (R.reads reader.now) place.now attributes.now default_uri) }
 {
     let text = needed_template(alloc, reader, place, attributes, "name")?;
-    let scope = place.bound.copy()?;
+    let scope = place.bound.bindings()?;
     Ok(AvtName {
         text,
         scope,

@@ -86,6 +86,6 @@ pub(crate) fn expr_at(
     ensures { Answers result (expr_faults place.now text.now) (expr_value place.now text.now) }
 {
     let reading = raw_expression(alloc, text.as_str(), LIMIT)?;
-    let setting = setting_at(alloc, place.bound.get())?;
+    let setting = setting_at(alloc, &place.bound)?;
     read(alloc, &setting, place.in_group, reading)
 }

@@ -35,7 +35,7 @@ pub(crate) fn patterns_at(
     ensures { Answers result (patterns_faults place.now text.now)
         (patterns_value place.now text.now) }
 {
-    let setting = setting_at(alloc, place.bound.get())?;
+    let setting = setting_at(alloc, &place.bound)?;
     let found = parse_text(alloc, text.as_str(), &setting);
     drop(setting);
     resolved(found)

@@ -7,11 +7,12 @@ ghost use Rattle.xt_names.specs.declared.codes.SheetStaticCode.TheVariants.{XTLM
 ghost use Rattle.expr_names.specs.declared.fault.ResolveFault.TheVariants.{Static};
 ghost use Rattle.sheet_language.specs.Settings.{prefixes_at, setting_at};
 
+use bound_prefixes::BoundPrefixes;
 use expr_names::{ResolveFault, no_text, static_fault};
 use expr_resolve::Setting;
 use sheet_values::sheet_fault;
 use std::alloc::{AllocError, Global};
-use xt_names::{Binding, List, QueryStaticCode, SheetStaticCode, Text, copy_binding_list};
+use xt_names::{QueryStaticCode, SheetStaticCode, Text};
 use xt_syntax::Prefixes;
 
 /// How deep expressions, patterns and types may nest.
@@ -25,18 +26,18 @@ fn ascii_text(alloc: Global, text: &str) -> Result<Text, AllocError>
     Text::make(alloc, text)
 }
 
-fn prefixes_at(alloc: Global, bound: &List<Binding>) -> Result<Prefixes, AllocError>
+fn prefixes_at(alloc: Global, bound: &BoundPrefixes) -> Result<Prefixes, AllocError>
     ensures { IfOk result (λ prefixes. prefixes ≡ prefixes_at bound.now) }
 {
     Ok(Prefixes {
-        bound: copy_binding_list(bound)?,
+        bound: bound.copy()?,
         element_default: no_text(alloc)?,
         function_default: ascii_text(alloc, "http://www.w3.org/2005/xpath-functions")?,
     })
 }
 
 /// Where an expression, a pattern or a type stands (XSLT 2.0, 5.4.1).
-pub(crate) fn setting_at(alloc: Global, bound: &List<Binding>) -> Result<Setting, AllocError>
+pub(crate) fn setting_at(alloc: Global, bound: &BoundPrefixes) -> Result<Setting, AllocError>
     ensures { IfOk result (λ setting. setting ≡ setting_at bound.now) }
 {
     Ok(Setting {

@@ -40,6 +40,6 @@ pub(crate) fn type_at(alloc: Global, place: &Place, text: &Text) -> Result<SeqTy
     ensures { Answers result (type_faults place.now text.now) (type_value place.now text.now) }
 {
     let reading = raw_type(alloc, text.as_str(), LIMIT)?;
-    let setting = setting_at(alloc, place.bound.get())?;
+    let setting = setting_at(alloc, &place.bound)?;
     read(alloc, &setting, reading)
 }

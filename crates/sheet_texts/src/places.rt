@@ -3,6 +3,7 @@ ghost use Rattle.std.specs.Prelude.{◌≡◌, ◌++◌, IfOk, OnOk, length};
 ghost use Rattle.sheet_texts.specs.Places.{within, grouped};
 
 use crate::names::NameTable;
+use bound_prefixes::BoundPrefixes;
 use std::alloc::{AllocError, Global};
 use xt_names::{Binding, List, Shared};
 
@@ -10,7 +11,7 @@ use xt_names::{Binding, List, Shared};
 #[derive(Drop)]
 pub struct Place {
     /// The bindings of prefixes in force, of which the first one of a prefix counts.
-    pub bound: Shared<List<Binding>>,
+    pub bound: BoundPrefixes,
     /// Whether it stands in an `xsl:for-each-group` (XSLT 2.0, 14.1).
     pub in_group: bool,
     /// The modes, which instructions name by their numbers (XSLT 2.0, 6.5).
@@ -62,8 +63,8 @@ impl Place {
 pub fn bound_within(
     alloc: Global,
     own: &List<Binding>,
-    bound: &Shared<List<Binding>>,
-) -> Result<Shared<List<Binding>>, AllocError>
+    bound: &BoundPrefixes,
+) -> Result<BoundPrefixes, AllocError>
     ensures { IfOk result (λ all. all ≡ own.now ++ bound.now) }
 {
     if own.is_empty() {
@@ -71,8 +72,8 @@ pub fn bound_within(
     }
     let mut all = List::new(alloc);
     push_all(&mut all, own.as_slice())?;
-    push_all(&mut all, bound.get().as_slice())?;
-    Shared::make(alloc, all)
+    push_all(&mut all, bound.as_slice())?;
+    BoundPrefixes::new(all)
 }
 
 fn push_all(all: &mut List<Binding>, bindings: &[Binding]) -> Result<(), AllocError>

@@ -12,10 +12,11 @@ ghost use Rattle.sheet_values.specs.Modes.{mode_choice_faults, mode_choice_value
 
 use crate::faults::{refuse_if, sheet_fault};
 use crate::names::declared_name;
+use bound_prefixes::BoundPrefixes;
 use expr_names::{ResolveFault, names_differ, no_text};
 use query_options::words_of;
 use std::alloc::{AllocError, Global};
-use xt_names::{Binding, ExprName, List, Name, SheetStaticCode, Text, is_ascii_text};
+use xt_names::{ExprName, List, Name, SheetStaticCode, Text, is_ascii_text};
 
 /// The modes of a template (XSLT 2.0, 6.5).
 #[derive(Drop)]
@@ -46,7 +47,7 @@ pub fn default_mode(alloc: Global) -> Result<ExprName, AllocError>
 
 fn mode_named(
     alloc: Global,
-    bound: &[Binding],
+    bound: &BoundPrefixes,
     word: &Text,
     code: SheetStaticCode,
 ) -> Result<ExprName, ResolveFault>
@@ -62,7 +63,7 @@ fn mode_named(
 
 fn mode_names(
     alloc: Global,
-    bound: &[Binding],
+    bound: &BoundPrefixes,
     words: &[Text],
 ) -> Result<List<ExprName>, ResolveFault>
     ensures { Answers result (each (mode_broken XTSE0550 bound.now) words.now)
@@ -114,7 +115,7 @@ fn check_differ(alloc: Global, names: &[ExprName]) -> Result<(), ResolveFault>
 
 fn named_modes(
     alloc: Global,
-    bound: &[Binding],
+    bound: &BoundPrefixes,
     words: &[Text],
 ) -> Result<List<ExprName>, ResolveFault>
     ensures { Answers result (named_broken bound.now words.now) (modes_in bound.now words.now) }
@@ -133,7 +134,7 @@ fn are_all(words: &[Text]) -> bool
     }
 }
 
-fn modes_of(alloc: Global, bound: &[Binding], words: &[Text]) -> Result<Modes, ResolveFault>
+fn modes_of(alloc: Global, bound: &BoundPrefixes, words: &[Text]) -> Result<Modes, ResolveFault>
     ensures { Answers result (words_broken bound.now words.now)
         (words_meant bound.now words.now) }
 {
@@ -150,7 +151,7 @@ fn modes_of(alloc: Global, bound: &[Binding], words: &[Text]) -> Result<Modes, R
 /// The modes that the text lists (XSLT 2.0, 6.5). XTSE0550 where it lists none, where a word is
 /// neither `#default` nor a QName (`#all` stands alone), or where two words mean one mode;
 /// XTSE0280 where a prefix is not declared, and XTSE0080 where a mode is in a reserved namespace.
-pub fn mode_list(alloc: Global, bound: &[Binding], text: &Text) -> Result<Modes, ResolveFault>
+pub fn mode_list(alloc: Global, bound: &BoundPrefixes, text: &Text) -> Result<Modes, ResolveFault>
     ensures { Answers result (mode_list_faults bound.now text.now)
         (mode_list_value bound.now text.now) }
 {
@@ -158,7 +159,11 @@ pub fn mode_list(alloc: Global, bound: &[Binding], text: &Text) -> Result<Modes,
     modes_of(alloc, bound, words.as_slice())
 }
 
-fn word_choice(alloc: Global, bound: &[Binding], word: &Text) -> Result<ModeChoice, ResolveFault>
+fn word_choice(
+    alloc: Global,
+    bound: &BoundPrefixes,
+    word: &Text,
+) -> Result<ModeChoice, ResolveFault>
     ensures { Answers result (word_broken bound.now word.now) (word_meant bound.now word.now) }
 {
     if is_ascii_text(word.as_str(), "#current") {
@@ -168,7 +173,11 @@ fn word_choice(alloc: Global, bound: &[Binding], word: &Text) -> Result<ModeChoi
     Ok(ModeChoice::Named(name))
 }
 
-fn one_choice(alloc: Global, bound: &[Binding], words: &[Text]) -> Result<ModeChoice, ResolveFault>
+fn one_choice(
+    alloc: Global,
+    bound: &BoundPrefixes,
+    words: &[Text],
+) -> Result<ModeChoice, ResolveFault>
     ensures { Answers result (one_broken bound.now words.now) (one_meant bound.now words.now) }
 {
     match words {
@@ -182,7 +191,7 @@ fn one_choice(alloc: Global, bound: &[Binding], words: &[Text]) -> Result<ModeCh
 /// is not declared, and XTSE0080 where it is in a reserved namespace.
 pub fn mode_choice(
     alloc: Global,
-    bound: &[Binding],
+    bound: &BoundPrefixes,
     text: &Text,
 ) -> Result<ModeChoice, ResolveFault>
     ensures { Answers result (mode_choice_faults bound.now text.now)

@@ -10,10 +10,11 @@ ghost use Rattle.sheet_values.specs.Names.{reserved_broken, declared_broken, dec
 ghost use Rattle.sheet_values.specs.Names.{prefix_broken, function_faults};
 
 use crate::faults::{named_in_scope, refuse_if, sheet_fault};
+use bound_prefixes::BoundPrefixes;
 use expr_names::{ResolveFault, Written, WrittenTest, expr_name, no_text};
 use query_options::written_test;
 use std::alloc::{AllocError, Global};
-use xt_names::{Binding, ExprName, SheetStaticCode, Text, is_ascii_text};
+use xt_names::{ExprName, SheetStaticCode, Text, is_ascii_text};
 
 fn exact_of(test: Option<WrittenTest>) -> Option<Written>
     ensures { result ≡ exact_of test }
@@ -35,7 +36,11 @@ pub fn written_name(alloc: Global, text: &str) -> Result<Option<Written>, AllocE
     Ok(exact_of(test))
 }
 
-fn in_scope(alloc: Global, bound: &[Binding], written: &Written) -> Result<ExprName, ResolveFault>
+fn in_scope(
+    alloc: Global,
+    bound: &BoundPrefixes,
+    written: &Written,
+) -> Result<ExprName, ResolveFault>
     ensures { Answers result (as_prefix (undeclared_in bound.now written.now))
         (expr_name bound.now [] written.now) }
 {
@@ -46,7 +51,7 @@ fn in_scope(alloc: Global, bound: &[Binding], written: &Written) -> Result<ExprN
 #[tactic(auto, unfolding(crate::specs::Names::name_broken, crate::specs::Names::name_meant))]
 fn named(
     alloc: Global,
-    bound: &[Binding],
+    bound: &BoundPrefixes,
     written: &Option<Written>,
     code: SheetStaticCode,
 ) -> Result<ExprName, ResolveFault>
@@ -61,7 +66,7 @@ fn named(
 
 /// The name that the text means, which has no uri where it has no prefix (XSLT 2.0, 5.1). XTSE0020
 /// where the text is no QName, and XTSE0280 where its prefix is not declared.
-pub fn qname(alloc: Global, bound: &[Binding], text: &Text) -> Result<ExprName, ResolveFault>
+pub fn qname(alloc: Global, bound: &BoundPrefixes, text: &Text) -> Result<ExprName, ResolveFault>
     ensures { Answers result (qname_faults bound.now text.now) (qname_value bound.now text.now) }
 {
     let written = written_name(alloc, text.as_str())?;
@@ -89,7 +94,7 @@ fn check_reserved(name: &ExprName) -> Result<(), ResolveFault>
 
 fn declared(
     alloc: Global,
-    bound: &[Binding],
+    bound: &BoundPrefixes,
     written: &Option<Written>,
     code: SheetStaticCode,
 ) -> Result<ExprName, ResolveFault>
@@ -105,7 +110,7 @@ fn declared(
 /// where its prefix is not declared, and XTSE0080 where its namespace is reserved.
 pub fn declared_name(
     alloc: Global,
-    bound: &[Binding],
+    bound: &BoundPrefixes,
     text: &Text,
     code: SheetStaticCode,
 ) -> Result<ExprName, ResolveFault>
@@ -130,7 +135,7 @@ fn check_prefix(written: &Option<Written>) -> Result<(), ResolveFault>
 /// as `declared_name` has them, XTSE0020 where the text is no QName.
 pub fn function_name(
     alloc: Global,
-    bound: &[Binding],
+    bound: &BoundPrefixes,
     text: &Text,
 ) -> Result<ExprName, ResolveFault>
     ensures { Answers result (function_faults bound.now text.now)

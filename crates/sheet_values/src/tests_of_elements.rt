@@ -8,15 +8,16 @@ ghost use Rattle.sheet_values.specs.Elements.{elements_broken, elements_meant};
 ghost use Rattle.sheet_values.specs.Elements.{name_tests_faults, name_tests_value};
 
 use crate::faults::{sheet_fault, tested_in_scope};
+use bound_prefixes::BoundPrefixes;
 use expr_names::{ResolveFault, WrittenTest, name_test};
 use query_options::{words_of, written_test};
 use std::alloc::Global;
-use xt_names::{Binding, List, SheetStaticCode, Text};
+use xt_names::{List, SheetStaticCode, Text};
 use xt_types::NameTest;
 
 fn in_scope(
     alloc: Global,
-    bound: &[Binding],
+    bound: &BoundPrefixes,
     written: &WrittenTest,
 ) -> Result<NameTest, ResolveFault>
     ensures { Answers result (as_prefix (test_broken bound.now written.now))
@@ -28,7 +29,7 @@ fn in_scope(
 #[tactic(auto, unfolding(crate::specs::Elements::written_broken, query_options::specs::Spaces::test_or_any))]
 fn test_of(
     alloc: Global,
-    bound: &[Binding],
+    bound: &BoundPrefixes,
     written: &Option<WrittenTest>,
 ) -> Result<NameTest, ResolveFault>
     ensures { Answers result (written_broken bound.now written.now)
@@ -40,7 +41,7 @@ fn test_of(
     }
 }
 
-fn element(alloc: Global, bound: &[Binding], word: &Text) -> Result<NameTest, ResolveFault>
+fn element(alloc: Global, bound: &BoundPrefixes, word: &Text) -> Result<NameTest, ResolveFault>
     ensures { Answers result (element_broken bound.now word.now)
         (element_meant bound.now word.now) }
 {
@@ -50,7 +51,7 @@ fn element(alloc: Global, bound: &[Binding], word: &Text) -> Result<NameTest, Re
 
 fn elements(
     alloc: Global,
-    bound: &[Binding],
+    bound: &BoundPrefixes,
     words: &[Text],
 ) -> Result<List<NameTest>, ResolveFault>
     ensures { Answers result (elements_broken bound.now words.now)
@@ -70,7 +71,7 @@ fn elements(
 /// may be empty.
 pub fn name_tests(
     alloc: Global,
-    bound: &[Binding],
+    bound: &BoundPrefixes,
     text: &Text,
 ) -> Result<List<NameTest>, ResolveFault>
     ensures { Answers result (name_tests_faults bound.now text.now)

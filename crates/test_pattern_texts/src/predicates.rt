@@ -1,4 +1,5 @@
 // Which expressions may be predicates of patterns.
+use bound_prefixes::BoundPrefixes;
 use expr_resolve::Setting;
 use pattern_forms::is_pattern_predicate;
 use std::alloc::AllocGlobal;
@@ -15,7 +16,7 @@ fn text(rt: &(impl Abort + AllocGlobal), s: &str) -> Text {
 fn setting(rt: &(impl Abort + AllocGlobal)) -> Setting {
     Setting {
         prefixes: Prefixes {
-            bound: List::new(rt.alloc()),
+            bound: BoundPrefixes::new(List::new(rt.alloc())).expect(rt, "memory"),
             element_default: text(rt, ""),
             function_default: text(rt, "http://www.w3.org/2005/xpath-functions"),
         },

@@ -1,4 +1,5 @@
 // Patterns as texts: `^` at the front of a rooted one, and before each step `/` or `//`.
+use bound_prefixes::BoundPrefixes;
 use expr_resolve::Setting;
 use pattern_syntax::parse_pattern;
 use std::alloc::AllocGlobal;
@@ -111,7 +112,7 @@ fn setting(rt: &(impl Abort + AllocGlobal), element_default: &str) -> Setting {
     bind(rt, &mut bound, "xs", "http://www.w3.org/2001/XMLSchema");
     Setting {
         prefixes: Prefixes {
-            bound,
+            bound: BoundPrefixes::new(bound).expect(rt, "memory"),
             element_default: text(rt, element_default),
             function_default: text(rt, "http://www.w3.org/2005/xpath-functions"),
         },

@@ -1,4 +1,5 @@
 // What an expression gives, as text.
+use bound_prefixes::BoundPrefixes;
 use doc_reader::read;
 use doc_set::DocSet;
 use doc_writer::write_items_bare;
@@ -38,7 +39,7 @@ pub fn put(rt: &(impl Abort + AllocGlobal), out: &mut String, text: &str) {
 fn setting(rt: &(impl Abort + AllocGlobal)) -> Setting {
     Setting {
         prefixes: Prefixes {
-            bound: List::new(rt.alloc()),
+            bound: BoundPrefixes::new(List::new(rt.alloc())).expect(rt, "memory"),
             element_default: text(rt, ""),
             function_default: text(rt, "http://www.w3.org/2005/xpath-functions"),
         },

@@ -1,4 +1,5 @@
 // What texts of stylesheets mean where they stand.
+use bound_prefixes::BoundPrefixes;
 use expr_names::ResolveFault;
 use sheet_language::SheetLanguage;
 use sheet_texts::{NameTable, Place, Reader};
@@ -25,7 +26,7 @@ fn place(rt: &(impl Abort + AllocGlobal), in_group: bool) -> Place {
         bound.push(binding).expect(rt, "memory");
     }
     Place {
-        bound: Shared::make(rt.alloc(), bound).expect(rt, "memory"),
+        bound: BoundPrefixes::new(bound).expect(rt, "memory"),
         in_group,
         modes: names(rt),
         called: names(rt),

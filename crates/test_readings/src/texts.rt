@@ -1,4 +1,5 @@
 // Expressions with a limit of nesting.
+use bound_prefixes::BoundPrefixes;
 use expr_readings::parse_text;
 use expr_resolve::Setting;
 use std::alloc::AllocGlobal;
@@ -13,7 +14,7 @@ fn text(rt: &(impl Abort + AllocGlobal), s: &str) -> Text {
 fn setting(rt: &(impl Abort + AllocGlobal)) -> Setting {
     Setting {
         prefixes: Prefixes {
-            bound: List::new(rt.alloc()),
+            bound: BoundPrefixes::new(List::new(rt.alloc())).expect(rt, "memory"),
             element_default: text(rt, ""),
             function_default: text(rt, "http://www.w3.org/2005/xpath-functions"),
         },

@@ -2,6 +2,7 @@
 use crate::kids::kids_of;
 use crate::labels::{put, put_label, put_type};
 use crate::words::tokens_of;
+use bound_prefixes::BoundPrefixes;
 use expr_names::ResolveFault;
 use expr_reader::{Reading, parse, parse_type};
 use expr_resolve::{Setting, resolve, resolve_type};
@@ -61,7 +62,7 @@ fn setting(rt: &(impl Abort + AllocGlobal), strip: bool) -> Setting {
     bind(rt, &mut bound, "xs", "http://www.w3.org/2001/XMLSchema");
     Setting {
         prefixes: Prefixes {
-            bound,
+            bound: BoundPrefixes::new(bound).expect(rt, "memory"),
             element_default: text(rt, "e"),
             function_default: text(rt, "f"),
         },

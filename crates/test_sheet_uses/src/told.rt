@@ -1,5 +1,6 @@
 // What is used, as text: `$a` a variable, `a/2` a call with two arguments, `a/2'b'` one whose first
 // argument is a literal, `call 3(a b)` a call of a template, and `apply 0` or `apply current`.
+use bound_prefixes::BoundPrefixes;
 use expr_resolve::Setting;
 use sheet_uses::Use;
 use std::alloc::AllocGlobal;
@@ -24,7 +25,7 @@ pub fn name(rt: &(impl Abort + AllocGlobal), local: &str) -> ExprName {
 fn setting(rt: &(impl Abort + AllocGlobal)) -> Setting {
     Setting {
         prefixes: Prefixes {
-            bound: List::new(rt.alloc()),
+            bound: BoundPrefixes::new(List::new(rt.alloc())).expect(rt, "memory"),
             element_default: text(rt, ""),
             function_default: text(rt, "http://www.w3.org/2005/xpath-functions"),
         },

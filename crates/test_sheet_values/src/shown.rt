@@ -1,4 +1,5 @@
 // Values as texts: names as `{uri}local`, the default mode as `#`, and a broken rule as its code.
+use bound_prefixes::BoundPrefixes;
 use expr_names::ResolveFault;
 use sheet_values::{ModeChoice, Modes};
 use std::alloc::AllocGlobal;
@@ -20,7 +21,7 @@ pub(crate) fn push(rt: &(impl Abort + AllocGlobal), shown: &mut String, more: &s
 
 /// The prefix `p` is bound twice, first to `urn:p`; there is a default namespace; `x` and `f` are
 /// bound to reserved namespaces.
-pub(crate) fn scope(rt: &(impl Abort + AllocGlobal)) -> List<Binding> {
+pub(crate) fn scope(rt: &(impl Abort + AllocGlobal)) -> BoundPrefixes {
     let bound = [
         ("p", "urn:p"),
         ("p", "urn:outer"),
@@ -35,7 +36,7 @@ pub(crate) fn scope(rt: &(impl Abort + AllocGlobal)) -> List<Binding> {
         let uri = text(rt, uri);
         made.push(Binding { prefix, uri }).expect(rt, "memory");
     }
-    made
+    BoundPrefixes::new(made).expect(rt, "memory")
 }
 
 pub(crate) fn fault(rt: &(impl Abort + AllocGlobal), fault: ResolveFault) -> String {

@@ -18,7 +18,7 @@ fn is_shown(found: String, wanted: &str) -> bool {
 fn name_of(rt: &(impl Abort + AllocGlobal), words: &str) -> String {
     let bound = shown::scope(rt);
     let text = shown::text(rt, words);
-    let found = qname(rt.alloc(), bound.as_slice(), &text);
+    let found = qname(rt.alloc(), &bound, &text);
     drop(text);
     drop(bound);
     match found {
@@ -54,7 +54,7 @@ fn declared_of(rt: &(impl Abort + AllocGlobal), words: &str) -> String {
     let bound = shown::scope(rt);
     let text = shown::text(rt, words);
     let code = SheetStaticCode::XTSE0020;
-    let found = declared_name(rt.alloc(), bound.as_slice(), &text, code);
+    let found = declared_name(rt.alloc(), &bound, &text, code);
     drop(text);
     drop(bound);
     match found {
@@ -66,7 +66,7 @@ fn declared_of(rt: &(impl Abort + AllocGlobal), words: &str) -> String {
 fn function_of(rt: &(impl Abort + AllocGlobal), words: &str) -> String {
     let bound = shown::scope(rt);
     let text = shown::text(rt, words);
-    let found = function_name(rt.alloc(), bound.as_slice(), &text);
+    let found = function_name(rt.alloc(), &bound, &text);
     drop(text);
     drop(bound);
     match found {
@@ -102,7 +102,7 @@ fn declared_names(rt: HostRuntime) {
 fn modes_of(rt: &(impl Abort + AllocGlobal), words: &str) -> String {
     let bound = shown::scope(rt);
     let text = shown::text(rt, words);
-    let found = mode_list(rt.alloc(), bound.as_slice(), &text);
+    let found = mode_list(rt.alloc(), &bound, &text);
     drop(text);
     drop(bound);
     match found {
@@ -114,7 +114,7 @@ fn modes_of(rt: &(impl Abort + AllocGlobal), words: &str) -> String {
 fn choice_of(rt: &(impl Abort + AllocGlobal), words: &str) -> String {
     let bound = shown::scope(rt);
     let text = shown::text(rt, words);
-    let found = mode_choice(rt.alloc(), bound.as_slice(), &text);
+    let found = mode_choice(rt.alloc(), &bound, &text);
     drop(text);
     drop(bound);
     match found {
@@ -209,7 +209,7 @@ fn priorities(rt: HostRuntime) {
 fn tests_of(rt: &(impl Abort + AllocGlobal), words: &str) -> String {
     let bound = shown::scope(rt);
     let text = shown::text(rt, words);
-    let found = name_tests(rt.alloc(), bound.as_slice(), &text);
+    let found = name_tests(rt.alloc(), &bound, &text);
     drop(text);
     drop(bound);
     match found {

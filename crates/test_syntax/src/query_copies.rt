@@ -1,5 +1,6 @@
 // Copies of lists of patterns, queries and their parts.
 use crate::made::{list_of, name, text};
+use bound_prefixes::BoundPrefixes;
 use std::alloc::AllocGlobal;
 use std::process::Abort;
 use xt_names::List;
@@ -138,7 +139,7 @@ fn are_prefixes(prefixes: &Prefixes) -> bool {
 #[test]
 fn prefixes_are_copied(rt: HostRuntime) {
     let prefixes = Prefixes {
-        bound: List::new(rt.alloc()),
+        bound: BoundPrefixes::new(List::new(rt.alloc())).expect(&rt, "memory"),
         element_default: text(&rt, "u"),
         function_default: text(&rt, "f"),
     };

@@ -2,14 +2,16 @@
 ghost use Rattle.std.specs.Prelude.{◌≡◌};
 ghost use Rattle.xt_syntax.specs.declared.prefixes.ParseFault.TheVariants.{Memory};
 
+use bound_prefixes::BoundPrefixes;
 use std::alloc::AllocError;
 use thiserror::Error;
-use xt_names::{Binding, Code, List, Text};
+use xt_names::{Code, Text};
 
 /// How prefixes and names without prefix are resolved (XPath 2.0, 2.1.1).
 #[derive(Drop)]
 pub struct Prefixes {
-    pub bound: List<Binding>,
+    /// The prefixes with their uris.
+    pub bound: BoundPrefixes,
     /// The uri of elements without prefix.
     pub element_default: Text,
     /// The uri of functions without prefix.

@@ -69,7 +69,7 @@ impl Prefixes {
         ensures { IfOk result (λ copy. copy ≡ self.now) }
     {
         Ok(Prefixes {
-            bound: copy_binding_list(&self.bound)?,
+            bound: self.bound.copy()?,
             element_default: self.element_default.copy()?,
             function_default: self.function_default.copy()?,
         })

@@ -1,6 +1,0 @@
-use Rattle.std.proofs.Common.{◌≡◌, drop}
-use Rattle.expr_names.specs.Names.{uri_of}
-use Rattle.expr_names.proofs.names.uri_of.Given as goal
-
-abbrev pub invariant-loop-binding : goal.invariant-loop-binding
-invariant-loop-binding l = uri_of (drop l.binding-index l.bound) l.prefix ≡ uri_of l.bound l.prefix
