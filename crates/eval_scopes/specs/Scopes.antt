@@ -8,8 +8,8 @@ use Rattle.node_walks.specs.Moves.{given}
 use Rattle.lazy_seq.specs.Flow.{Flow}
 use Rattle.sort_meaning.specs.Sorted.{Placed}
 use Rattle.expr_meaning.specs.Env as meaning
-use Rattle.expr_meaning.specs.Env.{Binding, Calls, Keys, Program, with_bound}
-use Rattle.eval_scopes.specs.declared.scopes.Variable.{Variable}
+use Rattle.expr_meaning.specs.Env.{Binding, Calls, Keys, Program}
+pub use Rattle.eval_scopes.specs.Bindings.{binding_of, pushed_on}
 use Rattle.eval_scopes.specs.declared.scopes.Scope.{Scope}
 use Rattle.eval_scopes.specs.declared.scopes.Scope.TheVariants.{Outermost, Inner'}
 use Rattle.eval_scopes.specs.declared.environments.Focus.{Focus}
@@ -18,14 +18,6 @@ use Rattle.eval_scopes.specs.declared.environments.Group.{Group}
 use Rattle.eval_scopes.specs.declared.environments.State.{State}
 use Rattle.eval_scopes.specs.declared.environments.Env.{Env}
 use Rattle.eval_scopes.specs.declared.environments.Fixed.{Fixed}
-
-abbrev pub binding_of : Variable → Binding
-binding_of v = (v.name, given v.value.moves)
-
--- variables bound one after another, so that the last is innermost
-abbrev pub pushed_on : List Binding → List Variable → List Binding
-pushed_on outer [] = outer
-pushed_on outer (v ∷ vs) = pushed_on (binding_of v ∷ outer) vs
 
 abbrev pub bindings : Scope → List Binding
 bindings Outermost = []
@@ -85,7 +77,7 @@ program_of fixed calls keys = record {
   calls = calls;
   keys = keys;
   documents = fixed.documents.now;
-  globals = bindings fixed.globals.now;
+  globals = fixed.globals.now;
   namespaces = fixed.namespaces.now;
   element_default = fixed.element_default.now;
 }

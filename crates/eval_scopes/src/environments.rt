@@ -3,6 +3,7 @@ ghost use Rattle.std.specs.Prelude.{◌≡◌, []};
 ghost use Rattle.expr_meaning.specs.Env.{no_state as without_state};
 ghost use Rattle.eval_scopes.specs.Scopes.{bindings, state_of};
 
+use crate::globals::Globals;
 use crate::scopes::Scope;
 use doc_set::DocSet;
 use eval_values::Place;
@@ -67,7 +68,7 @@ pub struct Env<'a> {
 /// doc() finds, and the namespaces that computed names use.
 #[derive(Clone, Copy)]
 pub struct Fixed<'a> {
-    pub globals: &'a Scope<'a>,
+    pub globals: &'a Globals,
     pub documents: &'a DocSet,
     pub namespaces: &'a [Binding],
     /// The namespace of an element's name without a prefix.

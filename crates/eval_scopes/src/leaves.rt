@@ -38,7 +38,7 @@ pub fn variable<'a>(
 {
     match look_up(env.locals, name) {
         Some(value) => Ok(value),
-        None => match look_up(fixed.globals, name) {
+        None => match fixed.globals.find(name) {
             Some(value) => Ok(value),
             None => Err(NO_VALUE),
         },

@@ -11,11 +11,13 @@
 
 mod environments;
 mod faults;
+mod globals;
 mod leaves;
 mod scopes;
 
 pub use environments::{Env, Fixed, Focus, Group, State, no_state};
 pub use faults::EvalFault;
+pub use globals::Globals;
 pub use leaves::{
     context_item, document_of, document_root, document_value, variable, variable_list,
 };

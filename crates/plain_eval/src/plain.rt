@@ -10,7 +10,7 @@ ghost use Rattle.eval_scopes.specs.Scopes.{focus_of};
 ghost use Rattle.plain_eval.specs.Plain.{AnswersPlain, focus_behind, plain_env, plain_program};
 
 use crate::variables::Vars;
-use eval_scopes::{Env, EvalFault, Fixed, Focus as Placed, Scope, no_state};
+use eval_scopes::{Env, EvalFault, Fixed, Focus as Placed, Globals, Scope, no_state};
 use eval_values::Place;
 use expr_eval::{Callee, Host};
 use lazy_seq::Seq;
@@ -79,6 +79,7 @@ fn evaluated(
     ensures { AnswersLate result next.new (outcome (plain_program vars.now.documents) expr.now
         (plain_env vars.now.locals (focus_of focus.now)) next.old) }
 {
+    let none = Globals::new(alloc);
     let outermost = Scope::Outermost;
     let locals = Scope::Inner {
         variables: vars.variables.as_slice(),
@@ -96,7 +97,7 @@ fn evaluated(
     let host = Host {
         alloc,
         fixed: Fixed {
-            globals: &outermost,
+            globals: &none,
             documents: &vars.documents,
             namespaces: &[],
             element_default: &*default,

@@ -4,7 +4,7 @@ use crate::written::{items_of, printed, put};
 use doc_set::DocSet;
 use eval_calls as calls;
 use eval_nodes as nodes;
-use eval_scopes::{Env, EvalFault, Fixed, Focus, Scope, State, Variable};
+use eval_scopes::{Env, EvalFault, Fixed, Focus, Globals, Scope, State, Variable};
 use eval_values as values;
 use eval_values::{OneOperator, Operator, Place};
 use lazy_seq::Seq;
@@ -317,17 +317,16 @@ fn read(
     }
 }
 
-// where two variables `x` and one `y` are local, another `y` and `g` global, and this item is the
-// focus
+// where two variables `x` and one `y` are local, another `y`, two `w` and `g` global, and this item
+// is the focus
 fn check_names(rt: &(impl Abort + AllocGlobal), item: &Item) {
     let documents = DocSet::new(rt.alloc());
     let default = text(rt, "");
     let outermost = Scope::Outermost;
-    let global = [variable(rt, "y", "i:9"), variable(rt, "g", "i:8")];
-    let globals = Scope::Inner {
-        variables: &global,
-        outer: &outermost,
-    };
+    let mut globals = Globals::new(rt.alloc());
+    for (name, value) in [("w", "i:6"), ("w", "i:5"), ("y", "i:9"), ("g", "i:8")] {
+        globals = globals.with(variable(rt, name, value)).expect(rt, "memory");
+    }
     let local = [
         variable(rt, "x", "i:1"),
         variable(rt, "x", "i:2,i:3"),
@@ -363,6 +362,7 @@ fn check_names(rt: &(impl Abort + AllocGlobal), item: &Item) {
     let cases = [
         ("x", "i:2,i:3"),
         ("y", "i:4"),
+        ("w", "i:5"),
         ("g", "i:8"),
         ("z", "XPDY0002"),
         (".", "n:/03"),

@@ -5,13 +5,13 @@ ghost use Rattle.expr_meaning.specs.Queries.{program_of as query_program};
 ghost use Rattle.expr_meaning.specs.Queries.{calls_at, program_at};
 ghost use Rattle.expr_meaning.specs.Meaning.{outcome};
 ghost use Rattle.eval_scopes.specs.Answers.{Answers};
-ghost use Rattle.eval_scopes.specs.Scopes.{bindings, env_of, program_of};
+ghost use Rattle.eval_scopes.specs.Scopes.{env_of, program_of};
 ghost use Rattle.xquery_eval.specs.Runs.{run_of, no_keys};
 
 use crate::functions::FunctionTable;
 use crate::params::{Param, bound_params, converted_to};
 use doc_set::DocSet;
-use eval_scopes::{Env, EvalFault, Fixed, Focus, Scope, no_state};
+use eval_scopes::{Env, EvalFault, Fixed, Focus, Globals, Scope, no_state};
 use expr_eval::{Callee, Host};
 use std::alloc::Global;
 use xdm_items::ItemList;
@@ -31,9 +31,9 @@ pub(crate) struct QueryRun<'a> {
 
 impl<'a> QueryRun<'a> {
     /// What an expression of the query reads besides its scope (XQuery 1.0, 2.1.1 and 2.1.2).
-    pub(crate) fn fixed(&self, globals: &'a Scope<'a>) -> Fixed<'a>
+    pub(crate) fn fixed(&self, globals: &'a Globals) -> Fixed<'a>
         ensures { (calls : Calls) → program_of result calls no_keys
-            ≡ query_program (run_of self.now) (bindings globals.entry.now) calls }
+            ≡ query_program (run_of self.now) globals.entry.now calls }
     {
         Fixed {
             globals,
@@ -48,16 +48,15 @@ impl<'a> QueryRun<'a> {
 #[derive(Clone, Copy)]
 pub(crate) struct QueryCalls<'a> {
     pub run: QueryRun<'a>,
-    pub globals: &'a Scope<'a>,
+    pub globals: &'a Globals,
     pub left: u32,
 }
 
 impl<'a> Callee for QueryCalls<'a> {
     ghost use Rattle.expr_meaning.specs.Queries.{calls_at};
-    ghost use Rattle.eval_scopes.specs.Scopes.{bindings};
     ghost use Rattle.xquery_eval.specs.Runs.{run_of, no_keys};
 
-    ghost calls = { λ c. calls_at (run_of c.run) (bindings c.globals.now) c.left };
+    ghost calls = { λ c. calls_at (run_of c.run) c.globals.now c.left };
 
     ghost keys = { λ c. no_keys };
 
@@ -77,19 +76,19 @@ impl<'a> Callee for QueryCalls<'a> {
 pub(crate) fn eval_in(
     alloc: Global,
     run: &QueryRun,
-    globals: &Scope,
+    globals: &Globals,
     left: u32,
     env: &Env,
     next: &mut u64,
     e: &Expr,
 ) -> Result<ItemList, EvalFault>
     ensures { Answers result next.new (outcome (program_at (run_of run.now)
-        (bindings globals.now) left)
+        globals.now left)
         e.now (env_of env.now) next.old) }
 {
     let calls = |name: &ExprName, lists: &[ItemList], k: &mut u64| -> Result<ItemList, EvalFault>
         ensures { Answers result k.new (calls_at (run_of run.entry.now)
-            (bindings globals.entry.now) left
+            globals.entry.now left
             name.now lists.now k.old) }
     { call_function(alloc, run, globals, left, name, lists, k) };
     let host = Host {
@@ -110,13 +109,13 @@ pub(crate) fn eval_in(
 fn call_function(
     alloc: Global,
     run: &QueryRun,
-    globals: &Scope,
+    globals: &Globals,
     left: u32,
     name: &ExprName,
     lists: &[ItemList],
     next: &mut u64,
 ) -> Result<ItemList, EvalFault>
-    ensures { Answers result next.new (calls_at (run_of run.now) (bindings globals.now) left
+    ensures { Answers result next.new (calls_at (run_of run.now) globals.now left
         name.now
         lists.now next.old) }
 {
@@ -142,7 +141,7 @@ fn call_function(
         state: &state,
     };
     let calls = |name: &ExprName, lists: &[ItemList], k: &mut u64| -> Result<ItemList, EvalFault>
-        ensures { Answers result k.new (calls_at (run_of run.entry.now) (bindings globals.entry.now)
+        ensures { Answers result k.new (calls_at (run_of run.entry.now) globals.entry.now
             fewer name.now lists.now k.old) }
     { call_function(alloc, run, globals, fewer, name, lists, k) };
     let host = Host {

@@ -1,15 +1,14 @@
 // The global variables of a query.
-ghost use Rattle.std.specs.Prelude.{◌≡◌, [], IfOk};
+ghost use Rattle.std.specs.Prelude.{[]};
 ghost use Rattle.expr_meaning.specs.Queries.{globals_from, program_at, top_env, variable_outcome};
 ghost use Rattle.eval_scopes.specs.Answers.{Answers};
-ghost use Rattle.eval_scopes.specs.Scopes.{bindings, binding_of, pushed_on};
-ghost use Rattle.eval_steps.specs.Lists.{AnswersAs};
+ghost use Rattle.eval_scopes.specs.Scopes.{binding_of};
 ghost use Rattle.expr_meaning.specs.Meaning.{outcome};
 ghost use Rattle.xquery_eval.specs.Runs.{run_of};
 
 use crate::calls::{QueryRun, eval_in};
-use crate::params::{external_value, held, push_bound};
-use eval_scopes::{Env, EvalFault, Focus, Scope, Variable, no_state};
+use crate::params::{external_value, held};
+use eval_scopes::{Env, EvalFault, Focus, Globals, Scope, no_state};
 use eval_values::{Place, typed};
 use std::alloc::Global;
 use xdm_items::{Item, ItemList};
@@ -19,14 +18,14 @@ use xt_syntax::{Expr, QueryVar};
 pub(crate) fn eval_at_top(
     alloc: Global,
     run: &QueryRun,
-    globals: &Scope,
+    globals: &Globals,
     left: u32,
     document: &Item,
     next: &mut u64,
     e: &Expr,
 ) -> Result<ItemList, EvalFault>
     ensures { Answers result next.new (outcome (program_at (run_of run.now)
-        (bindings globals.now) left)
+        globals.now left)
         e.now (top_env document.now) next.old) }
 {
     let outermost = Scope::Outermost;
@@ -49,14 +48,14 @@ pub(crate) fn eval_at_top(
 fn variable_value(
     alloc: Global,
     run: &QueryRun,
-    globals: &Scope,
+    globals: &Globals,
     left: u32,
     document: &Item,
     next: &mut u64,
     variable: &QueryVar,
 ) -> Result<ItemList, EvalFault>
     ensures { Answers result next.new (variable_outcome (run_of run.now)
-        (program_at (run_of run.now) (bindings globals.now) left) document.now variable.now
+        (program_at (run_of run.now) globals.now left) document.now variable.now
         next.old) }
 {
     match &variable.value {
@@ -75,19 +74,14 @@ pub(crate) fn global_variables(
     left: u32,
     document: &Item,
     next: &mut u64,
-) -> Result<Vec<Variable>, EvalFault>
-    ensures { AnswersAs (λ vs. pushed_on [] vs.items) result next.new (globals_from (run_of run.now)
-        document.now left run.now.query.now.variables [] next.old) }
+) -> Result<Globals, EvalFault>
+    ensures { Answers result next.new (globals_from (run_of run.now) document.now left
+        run.now.query.now.variables [] next.old) }
 {
-    let outermost = Scope::Outermost;
-    let mut bound = Vec::new(alloc);
+    let mut globals = Globals::new(alloc);
     for variable in run.query.variables.as_slice() {
-        let globals = Scope::Inner {
-            variables: bound.as_slice(),
-            outer: &outermost,
-        };
         let value = variable_value(alloc, run, &globals, left, document, next, variable)?;
-        push_bound(&mut bound, held(alloc, &variable.name, value)?)?;
+        globals = globals.with(held(alloc, &variable.name, value)?)?;
     }
-    Ok(bound)
+    Ok(globals)
 }

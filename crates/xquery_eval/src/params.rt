@@ -114,7 +114,7 @@ pub(crate) fn external_value(
 }
 
 /// Binds a variable within those that are bound already.
-pub(crate) fn push_bound(bound: &mut Vec<Variable>, variable: Variable) -> Result<(), AllocError>
+fn push_bound(bound: &mut Vec<Variable>, variable: Variable) -> Result<(), AllocError>
     ensures { OnOk result (bound.new.items ≡ bound.old.items ++ variable ∷ []) }
 {
     bound.push(variable)?;

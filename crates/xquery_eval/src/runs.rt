@@ -9,7 +9,7 @@ use crate::functions::FunctionTable;
 use crate::globals::{eval_at_top, global_variables};
 use crate::params::Param;
 use doc_set::DocSet;
-use eval_scopes::{EvalFault, Scope};
+use eval_scopes::EvalFault;
 use std::alloc::{AllocError, Global};
 use xdm_items::{Item, ItemList};
 use xt_names::List;
@@ -45,12 +45,7 @@ pub fn run_query_in(
         Some(next) => next,
         None => return Err(EvalFault::Memory(AllocError)),
     };
-    let variables = global_variables(alloc, &run, depth, &root, &mut next)?;
-    let outermost = Scope::Outermost;
-    let globals = Scope::Inner {
-        variables: variables.as_slice(),
-        outer: &outermost,
-    };
+    let globals = global_variables(alloc, &run, depth, &root, &mut next)?;
     eval_at_top(alloc, &run, &globals, depth, &root, &mut next, &query.body)
 }
 

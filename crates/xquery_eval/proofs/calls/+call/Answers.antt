@@ -4,7 +4,7 @@ use Rattle.std.specs.Option.{option_copied}
 use Rattle.std.proofs.lemmas.Result.{err_from_is_err_and}
 use Rattle.expr_meaning.specs.Queries.{bound_params, calls_at, find_function}
 use Rattle.eval_scopes.specs.Answers.{IsFaultOf}
-use Rattle.eval_scopes.specs.Scopes.{bindings, pushed_on, state_of}
+use Rattle.eval_scopes.specs.Scopes.{pushed_on, state_of}
 use Rattle.expr_eval.specs.Serves.{Serves}
 use Rattle.xquery_eval.specs.Runs.{run_of, AnswersBound}
 use Rattle.xquery_eval.proofs.CallLemmas.{wrong_fault, body_fault, converted_fault}
@@ -20,7 +20,7 @@ returns-in_err-bound t c =
     let is = sym c.in_ok-function.ensures ∙ ap option_copied c.in-Some.is in
     let q = err_from_is_err_and c.from_residual-in_err-bound.result
     c.from_residual-in_err-bound.ensures.1 in
-    rw (q.1, q.2) (wrong_fault (run_of c.args.run.now) (bindings c.args.globals.now)
+    rw (q.1, q.2) (wrong_fault (run_of c.args.run.now) c.args.globals.now
     c.args.name.now c.args.lists.now c.args.next.now c.in-Some.function.now is c.args.left
     c.in_err-bound.field-0.0 (subst (λ ps. AnswersBound (bound_params ps c.args.lists.now)
     (Err c.in_err-bound.field-0.0)) c.as_slice.ensures c.in_err-bound.ensures))
@@ -28,7 +28,7 @@ returns-in_err-bound t c =
 pub returns-in_err-value : goal.returns-in_err-value
 returns-in_err-value t c =
     let run = run_of c.args.run.now in
-    let globals = bindings c.args.globals.now in
+    let globals = c.args.globals.now in
     let f = c.in-Some.function.now in
     let is = sym c.in_ok-function.ensures ∙ ap option_copied c.in-Some.is in
     let fits : bound_params f.params c.args.lists.now ≡ Ok (pushed_on [] c.in_ok-bound.bound.items) =
@@ -47,7 +47,7 @@ returns-in_err-value t c =
 pub returns-in_err-converted_to : goal.returns-in_err-converted_to
 returns-in_err-converted_to t c =
     let run = run_of c.args.run.now in
-    let globals = bindings c.args.globals.now in
+    let globals = c.args.globals.now in
     let f = c.in-Some.function.now in
     let is = sym c.in_ok-function.ensures ∙ ap option_copied c.in-Some.is in
     let fits : bound_params f.params c.args.lists.now ≡ Ok (pushed_on [] c.in_ok-bound.bound.items) =
@@ -67,7 +67,7 @@ returns-in_err-converted_to t c =
 pub returns : goal.returns
 returns t c =
     let run = run_of c.args.run.now in
-    let globals = bindings c.args.globals.now in
+    let globals = c.args.globals.now in
     let f = c.in-Some.function.now in
     let is = sym c.in_ok-function.ensures ∙ ap option_copied c.in-Some.is in
     let fits : bound_params f.params c.args.lists.now ≡ Ok (pushed_on [] c.in_ok-bound.bound.items) =

@@ -1,19 +1,16 @@
-use Rattle.std.proofs.Common.{◌≡◌, ◌+◌, [], subst, ap, ◌∙◌, sym, arith, length}
+use Rattle.std.proofs.Common.{◌≡◌, ◌+◌, [], ap, ◌∙◌, length}
 use Rattle.std.specs.Prelude.{Err, None}
 use Rattle.std.proofs.lemmas.Result.{err_from_is_err_and}
 use Rattle.xt_tree.specs.declared.trees.Tree.{Tree}
 use Rattle.xdm_items.specs.declared.items.Item.{Item}
 use Rattle.xdm_items.specs.declared.items.Item.TheVariants.{Node as a_node}
-use Rattle.expr_meaning.specs.Meaning.{outcome}
-use Rattle.expr_meaning.specs.Queries.{Run, program_at, top_env}
-use Rattle.eval_scopes.specs.Answers.{Answers}
-use Rattle.eval_scopes.specs.Scopes.{pushed_on}
+use Rattle.expr_meaning.specs.Queries.{Run}
 use Rattle.xquery_eval.specs.Runs.{IsResult, given_of, with_functions}
 use Rattle.xquery_eval.proofs.RunLemmas.{run_is, same_query, variables_fault, body_answers}
 use Rattle.xquery_eval.proofs.runs.run_query_in.Goals as goal
 
-pub returns-in_err-variables : goal.returns-in_err-variables
-returns-in_err-variables c =
+pub returns-in_err-globals : goal.returns-in_err-globals
+returns-in_err-globals c =
     let held : Run = record {
       query = with_functions c.args.query.now c.in_ok-functions.functions;
       documents = c.args.set.now;
@@ -26,14 +23,14 @@ returns-in_err-variables c =
     let root : a_node c.in_ok-root_of.field-0 ≡ at c.args.document.now =
     ap a_node c.in_ok-root_of.ensures ∙ ap at c.in_ok-copy.ensures in
     let first = c.in-Some.ensures.1 ∙ ap (λ n. n + 1) c.len.ensures.count in
-    let f = c.in_err-variables.field-0.0 in
-    let q = err_from_is_err_and c.from_residual-in_err-variables.result
-    c.from_residual-in_err-variables.ensures.1 in
+    let f = c.in_err-globals.field-0.0 in
+    let q = err_from_is_err_and c.from_residual-in_err-globals.result
+    c.from_residual-in_err-globals.ensures.1 in
     rw (q.1, q.2)
     (same_query (Err f) held _ _ _ c.args.depth c.in-Some.next (length c.args.set.now + 1) run
     root first
     (variables_fault held (a_node c.in_ok-root_of.field-0) c.args.depth c.in-Some.next f
-    c.in_err-variables.ensures))
+    c.in_err-globals.ensures))
 
 pub returns : goal.returns
 returns c =
@@ -49,12 +46,8 @@ returns c =
     let root : a_node c.in_ok-root_of.field-0 ≡ at c.args.document.now =
     ap a_node c.in_ok-root_of.ensures ∙ ap at c.in_ok-copy.ensures in
     let first = c.in-Some.ensures.1 ∙ ap (λ n. n + 1) c.len.ensures.count in
-    let answers = subst (λ vs. Answers c.eval_at_top.result c.eval_at_top.new.next
-    (outcome (program_at held (pushed_on [] vs) c.args.depth) c.args.query.now.body
-    (top_env (a_node c.in_ok-root_of.field-0)) c.global_variables.new.next))
-    c.as_slice-3.ensures.value c.eval_at_top.ensures in
     same_query c.eval_at_top.result held _ _ _ c.args.depth c.in-Some.next
     (length c.args.set.now + 1) run root first
     (body_answers held (a_node c.in_ok-root_of.field-0) c.args.depth c.in-Some.next
-    c.eval_at_top.result (pushed_on [] c.in_ok-variables.variables.items)
-    c.eval_at_top.new.next c.global_variables.new.next c.in_ok-variables.ensures answers)
+    c.eval_at_top.result c.in_ok-globals.globals c.eval_at_top.new.next
+    c.global_variables.new.next c.in_ok-globals.ensures c.eval_at_top.ensures)
