@@ -1,13 +1,14 @@
-// Names on a page.
+// Names on a draft.
 ghost use Rattle.std.specs.Prelude.{◌≡◌, ◌∷◌, OnOk};
 ghost use Rattle.expr_terms.specs.declared.keys.Key.TheVariants as key_of;
 ghost use Rattle.expr_terms.specs.declared.tokens.Token.TheVariants as token;
 ghost use Rattle.path_raws.specs.Paths.{variable};
 ghost use Rattle.control_raws.specs.Bindings.{variable_name};
 
+use expr_drafts::Draft;
 use expr_terms::Key;
 use name_tokens::name_token;
-use query_pages::{Gap, Page};
+use query_pages::Gap;
 use std::alloc::{AllocError, Global};
 use xt_names::ExprName;
 use xt_syntax::Prefixes;
@@ -16,16 +17,16 @@ use xt_syntax::Prefixes;
 /// (XPath 2.0, 3.1.2)
 pub fn push_name(
     alloc: Global,
-    page: &mut Page,
+    draft: &mut Draft<'_>,
     prefixes: &Prefixes,
     name: &ExprName,
 ) -> Result<(), AllocError>
-    ensures { OnOk result (page.new
-        ≡ (variable_name prefixes.now name.now).tokens page.old) }
+    ensures { OnOk result (draft.new
+        ≡ (variable_name prefixes.now name.now).tokens draft.old) }
 {
-    match name_token(alloc, prefixes.bound.as_slice(), name)? {
+    match name_token(alloc, &prefixes.bound, name)? {
         None => Ok(()),
-        Some(token) => page.push(Gap::Space, token),
+        Some(token) => draft.push(Gap::Space, token),
     }
 }
 
@@ -33,18 +34,18 @@ pub fn push_name(
 /// (XPath 2.0, 3.1.2)
 pub fn push_var(
     alloc: Global,
-    page: &mut Page,
+    draft: &mut Draft<'_>,
     prefixes: &Prefixes,
     first: Gap,
     name: &ExprName,
 ) -> Result<(), AllocError>
-    ensures { OnOk result (page.new ≡ (variable prefixes.now name.now).tokens page.old) }
+    ensures { OnOk result (draft.new ≡ (variable prefixes.now name.now).tokens draft.old) }
 {
-    match name_token(alloc, prefixes.bound.as_slice(), name)? {
+    match name_token(alloc, &prefixes.bound, name)? {
         None => Ok(()),
         Some(token) => {
-            page.push(Gap::Space, token)?;
-            page.push_key(first, Key::Dollar)
+            draft.push(Gap::Space, token)?;
+            draft.push_key(first, Key::Dollar)
         }
     }
 }
@@ -53,14 +54,14 @@ pub fn push_var(
 /// (XPath 2.0, 3.1.2)
 pub fn push_variable(
     alloc: Global,
-    page: &mut Page,
+    draft: &mut Draft<'_>,
     prefixes: &Prefixes,
     first: Gap,
     name: &ExprName,
 ) -> Result<(), AllocError>
-    ensures { OnOk result (page.new ≡ token.Key key_of.Dollar
-        ∷ (variable_name prefixes.now name.now).tokens page.old) }
+    ensures { OnOk result (draft.new ≡ token.Key key_of.Dollar
+        ∷ (variable_name prefixes.now name.now).tokens draft.old) }
 {
-    push_name(alloc, page, prefixes, name)?;
-    page.push_key(first, Key::Dollar)
+    push_name(alloc, draft, prefixes, name)?;
+    draft.push_key(first, Key::Dollar)
 }

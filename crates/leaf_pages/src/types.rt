@@ -1,4 +1,4 @@
-// Node tests and types on a page.
+// Node tests and types on a draft.
 ghost use Rattle.std.specs.Prelude.{◌≡◌, ◌∷◌, [], ◌++◌, OnOk};
 ghost use Rattle.xt_types.specs.declared.node_tests.Test.TheVariants as test_of;
 ghost use Rattle.xt_types.specs.declared.types.ItemType.TheVariants as item;
@@ -8,72 +8,73 @@ ghost use Rattle.path_raws.specs.Paths.{with_token, named_test, test_form, kind_
 ghost use Rattle.control_raws.specs.Types.{item_form, sequence_form, single_form, mark_tokens};
 ghost use Rattle.control_raws.specs.Bindings.{typing, typing_tokens};
 
+use expr_drafts::Draft;
 use expr_terms::{Class, Key, Token};
 use name_tokens::{test_token, type_token};
-use query_pages::{Gap, Page};
+use query_pages::Gap;
 use std::alloc::{AllocError, Global};
 use xt_names::AtomType;
 use xt_syntax::Prefixes;
 use xt_types::{Axis, Count, ItemType, NameTest, SeqType, Test};
 
 /// A word with empty parentheses.
-fn push_kind(page: &mut Page, first: Gap, key: Key) -> Result<(), AllocError>
-    ensures { OnOk result (page.new ≡ kind_tokens key [] ++ page.old) }
+fn push_kind(draft: &mut Draft<'_>, first: Gap, key: Key) -> Result<(), AllocError>
+    ensures { OnOk result (draft.new ≡ kind_tokens key [] ++ draft.old) }
 {
-    page.push_key(Gap::Space, Key::CloseParen)?;
-    page.push_key(Gap::Space, Key::OpenParen)?;
-    page.push_key(first, key)
+    draft.push_key(Gap::Space, Key::CloseParen)?;
+    draft.push_key(Gap::Space, Key::OpenParen)?;
+    draft.push_key(first, key)
 }
 
 /// A word with a token in parentheses.
-fn push_kind_of(page: &mut Page, first: Gap, key: Key, token: Token) -> Result<(), AllocError>
-    ensures { OnOk result (page.new ≡ kind_tokens key (token ∷ []) ++ page.old) }
+fn push_kind_of(draft: &mut Draft<'_>, first: Gap, key: Key, token: Token) -> Result<(), AllocError>
+    ensures { OnOk result (draft.new ≡ kind_tokens key (token ∷ []) ++ draft.old) }
 {
-    page.push_key(Gap::Space, Key::CloseParen)?;
-    page.push(Gap::Space, token)?;
-    page.push_key(Gap::Space, Key::OpenParen)?;
-    page.push_key(first, key)
+    draft.push_key(Gap::Space, Key::CloseParen)?;
+    draft.push(Gap::Space, token)?;
+    draft.push_key(Gap::Space, Key::OpenParen)?;
+    draft.push_key(first, key)
 }
 
 /// A kind test of elements or attributes.
 fn push_named(
     alloc: Global,
-    page: &mut Page,
+    draft: &mut Draft<'_>,
     prefixes: &Prefixes,
     first: Gap,
     axis: Axis,
     key: Key,
     name: &NameTest,
 ) -> Result<(), AllocError>
-    ensures { OnOk result (page.new ≡ (with_token (test_token class.NameOrStar
+    ensures { OnOk result (draft.new ≡ (with_token (test_token class.NameOrStar
         prefixes.now.bound prefixes.now.element_default axis name.now)
-        (named_test key)).tokens page.old) }
+        (named_test key)).tokens draft.old) }
 {
-    let bound = prefixes.bound.as_slice();
+    let bound = &prefixes.bound;
     let default = &prefixes.element_default;
     match test_token(alloc, Class::NameOrStar, bound, default, axis, name)? {
         None => Ok(()),
-        Some(token) => push_kind_of(page, first, key, token),
+        Some(token) => push_kind_of(draft, first, key, token),
     }
 }
 
 /// A name test on the axis.
 fn push_name_test(
     alloc: Global,
-    page: &mut Page,
+    draft: &mut Draft<'_>,
     prefixes: &Prefixes,
     first: Gap,
     axis: Axis,
     name: &NameTest,
 ) -> Result<(), AllocError>
-    ensures { OnOk result (page.new
-        ≡ (test_form prefixes.now axis (test_of.Named name.now)).tokens page.old) }
+    ensures { OnOk result (draft.new
+        ≡ (test_form prefixes.now axis (test_of.Named name.now)).tokens draft.old) }
 {
-    let bound = prefixes.bound.as_slice();
+    let bound = &prefixes.bound;
     let default = &prefixes.element_default;
     match test_token(alloc, Class::NameTest, bound, default, axis, name)? {
         None => Ok(()),
-        Some(token) => page.push(first, token),
+        Some(token) => draft.push(first, token),
     }
 }
 
@@ -81,29 +82,29 @@ fn push_name_test(
 /// (XPath 2.0, 3.2.1.2 and 2.5.3)
 pub fn push_test(
     alloc: Global,
-    page: &mut Page,
+    draft: &mut Draft<'_>,
     prefixes: &Prefixes,
     first: Gap,
     axis: Axis,
     test: &Test,
 ) -> Result<(), AllocError>
-    ensures { OnOk result (page.new ≡ (test_form prefixes.now axis test.now).tokens page.old) }
+    ensures { OnOk result (draft.new ≡ (test_form prefixes.now axis test.now).tokens draft.old) }
 {
     match test {
-        Test::Named(name) => push_name_test(alloc, page, prefixes, first, axis, name),
-        Test::Node => push_kind(page, first, Key::NodeWord),
-        Test::Text => push_kind(page, first, Key::TextWord),
-        Test::Comment => push_kind(page, first, Key::CommentWord),
-        Test::Doc => push_kind(page, first, Key::DocumentNodeWord),
-        Test::Pi(None) => push_kind(page, first, Key::ProcessingInstructionWord),
+        Test::Named(name) => push_name_test(alloc, draft, prefixes, first, axis, name),
+        Test::Node => push_kind(draft, first, Key::NodeWord),
+        Test::Text => push_kind(draft, first, Key::TextWord),
+        Test::Comment => push_kind(draft, first, Key::CommentWord),
+        Test::Doc => push_kind(draft, first, Key::DocumentNodeWord),
+        Test::Pi(None) => push_kind(draft, first, Key::ProcessingInstructionWord),
         Test::Pi(Some(target)) => {
             let token = Token::Quoted(target.copy()?);
-            push_kind_of(page, first, Key::ProcessingInstructionWord, token)
+            push_kind_of(draft, first, Key::ProcessingInstructionWord, token)
         }
         Test::Elem(name) => {
             push_named(
                 alloc,
-                page,
+                draft,
                 prefixes,
                 first,
                 Axis::Child,
@@ -114,7 +115,7 @@ pub fn push_test(
         Test::Attr(name) => {
             push_named(
                 alloc,
-                page,
+                draft,
                 prefixes,
                 first,
                 Axis::Attribute,
@@ -127,59 +128,59 @@ pub fn push_test(
 
 fn push_atomic(
     alloc: Global,
-    page: &mut Page,
+    draft: &mut Draft<'_>,
     prefixes: &Prefixes,
     first: Gap,
     kind: AtomType,
 ) -> Result<(), AllocError>
-    ensures { OnOk result (page.new
-        ≡ (item_form prefixes.now (item.Atomic kind)).tokens page.old) }
+    ensures { OnOk result (draft.new
+        ≡ (item_form prefixes.now (item.Atomic kind)).tokens draft.old) }
 {
-    match type_token(alloc, prefixes.bound.as_slice(), kind)? {
+    match type_token(alloc, &prefixes.bound, kind)? {
         None => Ok(()),
-        Some(token) => page.push(first, token),
+        Some(token) => draft.push(first, token),
     }
 }
 
 fn push_kind_test(
     alloc: Global,
-    page: &mut Page,
+    draft: &mut Draft<'_>,
     prefixes: &Prefixes,
     first: Gap,
     test: &Test,
 ) -> Result<(), AllocError>
-    ensures { OnOk result (page.new ≡ (item_form prefixes.now (item.Kind test.now)).tokens page.old) }
+    ensures { OnOk result (draft.new ≡ (item_form prefixes.now (item.Kind test.now)).tokens draft.old) }
 {
     match test {
         Test::Named(_) => Ok(()),
-        _ => push_test(alloc, page, prefixes, first, Axis::Child, test),
+        _ => push_test(alloc, draft, prefixes, first, Axis::Child, test),
     }
 }
 
 fn push_item(
     alloc: Global,
-    page: &mut Page,
+    draft: &mut Draft<'_>,
     prefixes: &Prefixes,
     first: Gap,
     of: &ItemType,
 ) -> Result<(), AllocError>
-    ensures { OnOk result (page.new ≡ (item_form prefixes.now of.now).tokens page.old) }
+    ensures { OnOk result (draft.new ≡ (item_form prefixes.now of.now).tokens draft.old) }
 {
     match of {
-        ItemType::Any => push_kind(page, first, Key::ItemWord),
-        ItemType::Kind(test) => push_kind_test(alloc, page, prefixes, first, test),
-        ItemType::Atomic(kind) => push_atomic(alloc, page, prefixes, first, *kind),
+        ItemType::Any => push_kind(draft, first, Key::ItemWord),
+        ItemType::Kind(test) => push_kind_test(alloc, draft, prefixes, first, test),
+        ItemType::Atomic(kind) => push_atomic(alloc, draft, prefixes, first, *kind),
     }
 }
 
-fn push_mark(page: &mut Page, count: Count) -> Result<(), AllocError>
-    ensures { OnOk result (page.new ≡ mark_tokens count page.old) }
+fn push_mark(draft: &mut Draft<'_>, count: Count) -> Result<(), AllocError>
+    ensures { OnOk result (draft.new ≡ mark_tokens count draft.old) }
 {
     match count {
         Count::One => Ok(()),
-        Count::Opt => page.push_key(Gap::Space, Key::Question),
-        Count::Many => page.push_key(Gap::Space, Key::Star),
-        Count::More => page.push_key(Gap::Space, Key::Plus),
+        Count::Opt => draft.push_key(Gap::Space, Key::Question),
+        Count::Many => draft.push_key(Gap::Space, Key::Star),
+        Count::More => draft.push_key(Gap::Space, Key::Plus),
     }
 }
 
@@ -187,17 +188,17 @@ fn push_mark(page: &mut Page, count: Count) -> Result<(), AllocError>
 /// (XPath 2.0, 2.5.3)
 pub fn push_type(
     alloc: Global,
-    page: &mut Page,
+    draft: &mut Draft<'_>,
     prefixes: &Prefixes,
     kind: &SeqType,
 ) -> Result<(), AllocError>
-    ensures { OnOk result (page.new ≡ (sequence_form prefixes.now kind.now).tokens page.old) }
+    ensures { OnOk result (draft.new ≡ (sequence_form prefixes.now kind.now).tokens draft.old) }
 {
     match kind {
-        SeqType::Empty => push_kind(page, Gap::Space, Key::EmptySequenceWord),
+        SeqType::Empty => push_kind(draft, Gap::Space, Key::EmptySequenceWord),
         SeqType::Of(of, count) => {
-            push_mark(page, *count)?;
-            push_item(alloc, page, prefixes, Gap::Space, of)
+            push_mark(draft, *count)?;
+            push_item(alloc, draft, prefixes, Gap::Space, of)
         }
     }
 }
@@ -206,20 +207,20 @@ pub fn push_type(
 /// (XPath 2.0, 3.10.2)
 pub fn push_single_type(
     alloc: Global,
-    page: &mut Page,
+    draft: &mut Draft<'_>,
     prefixes: &Prefixes,
     kind: AtomType,
     empty: bool,
 ) -> Result<(), AllocError>
-    ensures { OnOk result (page.new ≡ (single_form prefixes.now kind empty).tokens page.old) }
+    ensures { OnOk result (draft.new ≡ (single_form prefixes.now kind empty).tokens draft.old) }
 {
-    match type_token(alloc, prefixes.bound.as_slice(), kind)? {
+    match type_token(alloc, &prefixes.bound, kind)? {
         None => Ok(()),
         Some(token) => {
             if empty {
-                page.push_key(Gap::Space, Key::Question)?;
+                draft.push_key(Gap::Space, Key::Question)?;
             }
-            page.push(Gap::Space, token)
+            draft.push(Gap::Space, token)
         }
     }
 }
@@ -228,18 +229,18 @@ pub fn push_single_type(
 /// (XPath 2.0, 2.5.3; XQuery 1.0, 4.14 and 4.15)
 pub fn push_typing(
     alloc: Global,
-    page: &mut Page,
+    draft: &mut Draft<'_>,
     prefixes: &Prefixes,
     kind: &Option<SeqType>,
 ) -> Result<(), AllocError>
-    ensures { OnOk result (page.new
-        ≡ typing_tokens (typing prefixes.now kind.now) page.old) }
+    ensures { OnOk result (draft.new
+        ≡ typing_tokens (typing prefixes.now kind.now) draft.old) }
 {
     match kind {
         None => Ok(()),
         Some(kind) => {
-            push_type(alloc, page, prefixes, kind)?;
-            page.push_key(Gap::Space, Key::AsWord)
+            push_type(alloc, draft, prefixes, kind)?;
+            draft.push_key(Gap::Space, Key::AsWord)
         }
     }
 }

@@ -1,0 +1,4 @@
+pub mod Fits
+pub mod Leaves
+pub mod Made
+pub mod Operands

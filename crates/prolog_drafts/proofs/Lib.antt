@@ -1,0 +1,3 @@
+pub mod CanLemmas
+pub mod DeclarationEnds
+pub mod Params
