@@ -6,14 +6,27 @@ use Rattle.xt_io.specs.Files.{FilesState, IsMissing, HoldsAtLeast}
 use Rattle.xt_io.specs.Sink.{SinkState, Puts}
 use Rattle.xt_io.proofs.SinkLemmas.{Puts-none, Puts-whole}
 use Rattle.command_words.specs.Requests.{Asked, Transform, Query, Inputs, request_of}
-use Rattle.run_parts.specs.Inputs.{IsInput, IsLoadedOf, Holdings}
+use Rattle.sheet_runs.specs.Texts.{IsNoSheetTextAs}
 use Rattle.query_runs.specs.Texts.{IsNoQueryTextAs}
-use Rattle.driver.specs.Meaning.{HasText, IsRefusedAs, IsReached, IsNamed}
+use Rattle.driver.specs.Meaning.{HasText, IsRefusedAs}
 use Rattle.run_parts.specs.Status.{Tells, Writes}
 use Rattle.driver.specs.Theorem.{Answers, Completes, IsClean, Notes}
 use Rattle.run_parts.specs.declared.status.Status.{Status}
 use Rattle.run_parts.specs.declared.status.Status.TheVariants.{Done, Usage, Load, TooLong, Malformed}
 use Rattle.run_parts.specs.declared.status.Status.TheVariants.{Static, Dynamic, Deep, Write, Memory}
+
+-- there is no text of a stylesheet, as the request for it is refused
+pub sheet_refused : (sheet : List ℕ) (inputs : Inputs) (old new : FilesState) (status : Status)
+    → IsNoSheetTextAs sheet inputs old new status
+    → IsRefusedAs (Transform sheet inputs) old new status
+sheet_refused sheet inputs old new (Load name) x = x
+sheet_refused sheet inputs old new (TooLong name n) x = x
+sheet_refused sheet inputs old new (Malformed name spot) x = x
+sheet_refused sheet inputs old new (Static code) x = x
+sheet_refused sheet inputs old new (Dynamic code) x = x
+sheet_refused sheet inputs old new (Deep depth) x = x
+sheet_refused sheet inputs old new Memory x = x
+sheet_refused sheet inputs old new _ x = absurd x
 
 -- there is no text of a query, as the request for it is refused
 pub query_refused : (query : List ℕ) (inputs : Inputs) (old new : FilesState) (status : Status)
@@ -76,19 +89,6 @@ notes_told notes notes' _ t = t
 some_same : {A : Type 0} {x y : A} → Some x ≡ Some y → x ≡ y
 some_same e = cc
 
-input_named : (inputs : Inputs) (files : Holdings) (name : List ℕ)
-    → IsLoadedOf inputs files name → IsInput inputs name
-input_named inputs files name (inl first) = inl first
-input_named inputs files name (inr further) = inr further.0
-
--- a file that a request comes to is one that it names
-reached_named : (request : Asked) (files : FilesState) (name : List ℕ)
-    → IsReached request files name → IsNamed request name
-reached_named (Transform sheet inputs) files name x =
-    elim x [ inl first ↦ inl first | inr second ↦ inr (input_named inputs files.held name second.1) ]
-reached_named (Query query inputs) files name x =
-    elim x [ inl first ↦ inl first | inr second ↦ inr (input_named inputs files.held name second.1) ]
-
 held_same : (files : FilesState) (map : List ℕ → Option (List ℕ)) (name bytes : List ℕ)
     → files.held ≡ Some map → map name ≡ Some bytes → IsMissing files.held name → ⊥
 held_same files map name bytes told held missing =
@@ -108,10 +108,10 @@ clean_refused : (request : Asked) (files files' : FilesState) (out out' : SinkSt
     → IsRefusedAs request files files' status → IsClean request files files' out out'
     → status ≡ Memory
 clean_refused request files files' out out' (Load name) x clean =
-    let fits = clean.fits (encode_utf8_all name) (reached_named request files (encode_utf8_all name) x.0) in
+    let fits = clean.fits (encode_utf8_all name) x.0 in
     absurd (elim x.1 [ inl rose ↦ clean.read rose | inr missing ↦ held_same files clean.map _ fits.0 clean.told fits.1 missing ])
 clean_refused request files files' out out' (TooLong name n) x clean =
-    let fits = clean.fits (encode_utf8_all name) (reached_named request files (encode_utf8_all name) x.0) in
+    let fits = clean.fits (encode_utf8_all name) x.0 in
     let long : n ≤ length fits.0 = held_long files clean.map _ fits.0 n clean.told fits.1 x.1.2 in
     absurd (omega (arith, long, fits.2, x.1.0))
 clean_refused request files files' out out' (Malformed name spot) x clean =

@@ -11,7 +11,7 @@ use Rattle.doc_grammar.specs.declared.spots.Spot.{Spot}
 use Rattle.command_words.specs.Requests.{Asked, request_of}
 use Rattle.command_words.specs.Words.{Words}
 use Rattle.run_parts.specs.Inputs.{file_limit}
-use Rattle.driver.specs.Meaning.{Means, IsRefusedAs, IsNamed, IsBroken, IsMalformed, IsFailing}
+use Rattle.driver.specs.Meaning.{Means, IsRefusedAs, IsReached, IsBroken, IsMalformed, IsFailing}
 use Rattle.driver.specs.Meaning.{IsTooDeep}
 use Rattle.run_parts.specs.Status.{note_line, Tells}
 use Rattle.run_parts.specs.declared.status.Status.{Status}
@@ -31,13 +31,13 @@ Answers words files files' out out' status =
     (request : Asked) × (request_of words ≡ Some request)
     × IsRefusedAs request files files' status × Puts out out' []
 
--- Nothing stands against a request: the files tell what they hold, each file that it names is held
--- and not too long, each that it comes to is a document, no rule is broken, the run neither fails
--- nor is too deep, and no load and no write failed.
+-- Nothing stands against a request: the files tell what they hold, each file that it comes to is
+-- held, not too long and a document, no rule is broken, the run neither fails nor is too deep, and
+-- no load and no write failed.
 pub record IsClean (request : Asked) (files files' : FilesState) (out out' : SinkState) : Type 0 where
   pub map : List ℕ → Option (List ℕ)
   pub told : files.held ≡ Some map
-  pub fits : (name : List ℕ) → IsNamed request name
+  pub fits : (name : List ℕ) → IsReached request files name
       → (bytes : List ℕ) × (map name ≡ Some bytes) × (length bytes ≤ file_limit)
   pub parsed : (name : List ℕ) (spot : Spot) → ¬ (IsMalformed request files name spot)
   pub kept : (code : Code) → ¬ (IsBroken request files code)

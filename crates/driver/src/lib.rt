@@ -18,7 +18,6 @@
 #![tactic(auto)]
 
 mod program;
-mod transform;
 
 pub use program::run;
 pub use run_parts::{ProfileRule, Status};

@@ -7,10 +7,10 @@ ghost use Rattle.command_words.specs.Texts.{are_different};
 ghost use Rattle.driver.specs.Meaning.{HasText, IsRefusedAs};
 ghost use Rattle.driver.specs.Theorem.{Answers, Completes, Keeps, Notes};
 
-use crate::transform::transform;
 use command_words::{Request, read_request};
 use query_runs::query_text;
 use run_parts::{Status, tell, write};
+use sheet_runs::sheet_text;
 use std::alloc::{AllocError, Global};
 use xt_io::{Files, Sink};
 
@@ -75,7 +75,7 @@ fn text_of<F: Files>(alloc: Global, request: &Request<'_>, files: &mut F) -> Res
     ensures keeps { KeepsFiles (F.state files.old) (F.state files.new) }
 {
     match request {
-        Request::Transform { sheet, inputs } => transform(alloc, sheet, inputs, files),
+        Request::Transform { sheet, inputs } => sheet_text(alloc, sheet, inputs, files),
         Request::Query { query, inputs } => query_text(alloc, query, inputs, files),
     }
 }

@@ -18,8 +18,7 @@ use Rattle.run_parts.specs.Further.{IsTextOf, AreLoaded, IsLoadRefusedAs, AreTre
 use Rattle.run_parts.specs.Further.{IsFirstUnread, IsOneTextRefusedAs, IsTextRefusedAs}
 use Rattle.run_parts.specs.declared.inputs.Loaded.{Loaded}
 use Rattle.run_parts.specs.declared.status.Status.{Status}
-use Rattle.run_parts.specs.declared.status.Status.TheVariants.{Load, TooLong, Malformed, Static}
-use Rattle.run_parts.specs.declared.status.Status.TheVariants.{Memory}
+use Rattle.run_parts.specs.declared.status.Status.TheVariants.{Load, TooLong, Malformed, Memory}
 use Rattle.run_parts.proofs.Loads.{failed_later, long_later}
 
 -- one more file is loaded
@@ -134,11 +133,10 @@ first_malformed files (n ∷ ns) (f ∷ fs) name spot a (inr (tree, t, x)) =
 
 -- the document is refused
 pub inputs_first : (inputs : Inputs) (old new : FilesState) (status : Status)
-    → IsReadRefusedAs ⊥ inputs.document old new status → IsInputRefusedAs inputs old new status
+    → IsReadRefusedAs inputs.document old new status → IsInputRefusedAs inputs old new status
 inputs_first inputs old new (Load name) x = (inl x.0, rw x.0 x.1)
 inputs_first inputs old new (TooLong name n) x = (inl x.0, rw x.0 x.1)
 inputs_first inputs old new (Malformed name spot) x = inl (x.0, rw x.0 x.1)
-inputs_first inputs old new (Static code) x = absurd x.1
 inputs_first inputs old new Memory x = x
 inputs_first inputs old new _ x = absurd x
 

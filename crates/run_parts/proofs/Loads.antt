@@ -1,21 +1,16 @@
 -- How the refusals of the parts make the refusals of a request.
-use Rattle.std.proofs.Common.{◌≡◌, ℕ, List, arith, inl, inr, refl, ◌∙◌, true, false}
+use Rattle.std.proofs.Common.{◌≡◌, ℕ, List, arith, inl, inr, refl, ◌∙◌}
 use Rattle.xt_io.specs.Files.{FilesState, KeepsFiles}
-use Rattle.xt_names.specs.declared.codes.Code.TheVariants.{SheetStatic}
-use Rattle.xt_names.specs.declared.codes.SheetStaticCode.TheVariants.{XTUN0001}
 use Rattle.xt_tree.specs.declared.trees.Tree.{Tree}
 use Rattle.doc_grammar.specs.Document.{IsDocument}
 use Rattle.doc_reader.specs.Fault.{HasReadCause}
 use Rattle.doc_reader.specs.declared.faults.ReadFault.{ReadFault}
 use Rattle.doc_reader.specs.declared.faults.ReadFault.TheVariants.{Bad}
 use Rattle.doc_grammar.specs.declared.spots.Spot.{Spot}
-use Rattle.sheet_meaning.specs.First.{is_first_sheet}
-use Rattle.run_parts.specs.Inputs.{Holdings, HoldsBytes, HoldsDocument, HoldsNoDocument, HoldsSheet}
-use Rattle.run_parts.specs.Inputs.{HoldsNoSheet, IsLoadFailure, IsTooLong, IsReadRefusedAs}
-use Rattle.run_parts.specs.Inputs.{IsUnloadedAs}
+use Rattle.run_parts.specs.Inputs.{Holdings, HoldsBytes, HoldsNoDocument, IsLoadFailure, IsTooLong}
+use Rattle.run_parts.specs.Inputs.{IsReadRefusedAs, IsUnloadedAs}
 use Rattle.run_parts.specs.declared.status.Status.{Status}
-use Rattle.run_parts.specs.declared.status.Status.TheVariants.{Load, TooLong, Malformed, Static}
-use Rattle.run_parts.specs.declared.status.Status.TheVariants.{Memory}
+use Rattle.run_parts.specs.declared.status.Status.TheVariants.{Load, TooLong, Malformed, Memory}
 
 -- a file whose bytes are not read holds no document
 pub not_read : (files : Holdings) (name items bytes : List ℕ) (fault : ReadFault) (spot : Spot)
@@ -24,27 +19,13 @@ pub not_read : (files : Holdings) (name items bytes : List ℕ) (fault : ReadFau
 not_read files name items bytes fault spot same bad held cause =
     let none : HasReadCause items (Bad spot) = rw (same, bad) at cause in record { bytes = items; held = held; none = none.0; first = none.1 }
 
--- the tree of a stylesheet
-pub sheet_held : (files : Holdings) (name items bytes : List ℕ) (tree sheet : Tree)
-    → bytes ≡ items → HoldsBytes files name items → IsDocument bytes tree
-    → (sheet ≡ tree) × (is_first_sheet tree ≡ true) → HoldsSheet files name sheet
-sheet_held files name items bytes tree sheet same held stands k =
-    rw k.0 (record { document = record { bytes = items; held = held; stands = rw same at stands }; form = k.1 })
-
--- a tree that is none of a stylesheet
-pub other_form : (file : List ℕ) (old new : FilesState) (name items bytes : List ℕ) (tree : Tree) (status : Status) → bytes ≡ items → HoldsBytes old.held name items → IsDocument bytes tree
-    → (status ≡ Static (SheetStatic XTUN0001)) × (is_first_sheet tree ≡ false)
-    → IsReadRefusedAs (HoldsNoSheet old.held name) file old new status
-other_form file old new name items bytes tree status same held stands k =
-    rw k.0 (refl, record { tree = tree; document = record { bytes = items; held = held; stands = rw same at stands }; other = k.1 })
-
 -- a file that is not loaded is not read
-pub unread : (W : Type 0) (file : List ℕ) (old new : FilesState) (status : Status)
-    → IsUnloadedAs file old new status → IsReadRefusedAs W file old new status
-unread W file old new (Load name) x = x
-unread W file old new (TooLong name n) x = x
-unread W file old new Memory x = x
-unread W file old new _ x = absurd x
+pub unread : (file : List ℕ) (old new : FilesState) (status : Status)
+    → IsUnloadedAs file old new status → IsReadRefusedAs file old new status
+unread file old new (Load name) x = x
+unread file old new (TooLong name n) x = x
+unread file old new Memory x = x
+unread file old new _ x = absurd x
 
 -- nothing was loaded
 pub keeps_none : (files : FilesState) → KeepsFiles files files

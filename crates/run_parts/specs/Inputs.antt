@@ -1,19 +1,15 @@
 -- The files that a request reads, and why one is not read.
-use Rattle.std.specs.Prelude.{◌≡◌, ◌≤◌, ℕ, ◌+◌, List, [], ◌∷◌, length, ⊤, ◌⊎◌, Option, true, false}
+use Rattle.std.specs.Prelude.{◌≡◌, ◌≤◌, ℕ, ◌+◌, List, [], ◌∷◌, length, ⊤, ◌⊎◌, Option}
 use Rattle.std.specs.Prelude.{Contains, map}
 use Rattle.std.specs.Str.{encode_utf8_all}
 use Rattle.xt_io.specs.Files.{FilesState, IsHeld, IsMissing, HoldsAtLeast, Rose, RoseBy}
 use Rattle.xt_tree.specs.declared.trees.Tree.{Tree}
-use Rattle.xt_names.specs.declared.codes.Code.TheVariants.{SheetStatic}
-use Rattle.xt_names.specs.declared.codes.SheetStaticCode.TheVariants.{XTUN0001}
 use Rattle.doc_grammar.specs.Document.{IsDocument}
 use Rattle.doc_grammar.specs.Faults.{first_fault}
 use Rattle.doc_grammar.specs.declared.spots.Spot.{Spot}
-use Rattle.sheet_meaning.specs.First.{is_first_sheet}
 use Rattle.command_words.specs.Requests.{Inputs}
 use Rattle.run_parts.specs.declared.status.Status.{Status}
-use Rattle.run_parts.specs.declared.status.Status.TheVariants.{Load, TooLong, Malformed, Static}
-use Rattle.run_parts.specs.declared.status.Status.TheVariants.{Memory}
+use Rattle.run_parts.specs.declared.status.Status.TheVariants.{Load, TooLong, Malformed, Memory}
 
 -- what files hold, where they tell
 abbrev pub Holdings : Type 0
@@ -41,17 +37,6 @@ pub record HoldsNoDocument (files : Holdings) (name : List ℕ) (spot : Spot) : 
   pub none : (tree : Tree) → IsDocument bytes tree → ⊥
   pub first : spot ≡ first_fault bytes
 
--- the bytes under the name stand for this stylesheet
-pub record HoldsSheet (files : Holdings) (name : List ℕ) (tree : Tree) : Type 0 where
-  pub document : HoldsDocument files name tree
-  pub form : is_first_sheet tree ≡ true
-
--- the bytes under the name stand for a tree that is no stylesheet
-pub record HoldsNoSheet (files : Holdings) (name : List ℕ) : Type 0 where
-  pub tree : Tree
-  pub document : HoldsDocument files name tree
-  pub other : is_first_sheet tree ≡ false
-
 -- why a load of the file failed
 abbrev pub IsLoadFailure : FilesState → FilesState → List ℕ → Type 0
 IsLoadFailure old new file = Rose old.faults new.faults ⊎ IsMissing old.held file
@@ -70,17 +55,16 @@ IsUnloadedAs file old new (TooLong name n) =
 IsUnloadedAs file old new Memory = ⊤
 IsUnloadedAs file old new _ = ⊥
 
--- why a file is not loaded and read, where its tree is of a wrong form in this case
-abbrev pub IsReadRefusedAs : Type 0 → List ℕ → FilesState → FilesState → Status → Type 0
-IsReadRefusedAs WrongForm file old new (Load name) =
+-- why a file is not loaded and read
+abbrev pub IsReadRefusedAs : List ℕ → FilesState → FilesState → Status → Type 0
+IsReadRefusedAs file old new (Load name) =
     (encode_utf8_all name ≡ file) × IsLoadFailure old new file
-IsReadRefusedAs WrongForm file old new (TooLong name n) =
+IsReadRefusedAs file old new (TooLong name n) =
     (encode_utf8_all name ≡ file) × IsTooLong old new file n
-IsReadRefusedAs WrongForm file old new (Malformed name spot) =
+IsReadRefusedAs file old new (Malformed name spot) =
     (encode_utf8_all name ≡ file) × HoldsNoDocument old.held file spot
-IsReadRefusedAs WrongForm file old new (Static code) = (code ≡ SheetStatic XTUN0001) × WrongForm
-IsReadRefusedAs WrongForm file old new Memory = ⊤
-IsReadRefusedAs WrongForm file old new _ = ⊥
+IsReadRefusedAs file old new Memory = ⊤
+IsReadRefusedAs file old new _ = ⊥
 
 -- the bytes under the name stand for some tree
 pub record HoldsSomeDocument (files : Holdings) (name : List ℕ) : Type 0 where

@@ -1,27 +1,19 @@
 // Files that are loaded and read.
-ghost use Rattle.std.specs.Prelude.{◌≡◌, true, false, IfOk, IfErr};
+ghost use Rattle.std.specs.Prelude.{◌≡◌, IfOk, IfErr};
 ghost use Rattle.std.specs.Str.{encode_utf8_all};
 ghost use Rattle.xt_io.specs.Files.{KeepsFiles};
-ghost use Rattle.sheet_meaning.specs.First.{is_first_sheet};
-ghost use Rattle.xt_names.specs.declared.codes.Code.TheVariants.{SheetStatic};
-ghost use Rattle.xt_names.specs.declared.codes.SheetStaticCode.TheVariants.{XTUN0001};
-ghost use Rattle.run_parts.specs.Inputs.{HoldsBytes, HoldsDocument, HoldsSheet, HoldsNoSheet};
+ghost use Rattle.run_parts.specs.Inputs.{HoldsBytes, HoldsDocument};
 ghost use Rattle.run_parts.specs.Inputs.{IsUnloadedAs, IsReadRefusedAs};
-ghost use Rattle.run_parts.specs.declared.status.Status.TheVariants.{Static};
 
 use crate::status::Status;
-use doc_reader::{ReadFault, read, read_scoped};
-use sheet_reader::is_first_sheet;
+use doc_reader::{ReadFault, read};
 use std::alloc::Global;
 use xt_io::{Files, LoadFault};
-use xt_names::{Code, SheetStaticCode, Text};
+use xt_names::Text;
 use xt_tree::Tree;
 
 /// The greatest number of bytes of a file that is loaded.
 const FILE_LIMIT: u64 = 67_108_864;
-
-/// What is said of a stylesheet that the program does not run yet.
-const NO_SHEET: Status = Status::Static(Code::SheetStatic(SheetStaticCode::XTUN0001));
 
 /// The bytes of a file.
 pub fn load<F: Files>(alloc: Global, name: &str, files: &mut F) -> Result<Vec<u8>, Status>
@@ -52,7 +44,7 @@ fn file_name(alloc: Global, name: &str) -> Result<Text, Status>
 pub fn load_document<F: Files>(alloc: Global, name: &str, files: &mut F) -> Result<Tree, Status>
     ensures document { IfOk result (λ tree. HoldsDocument (F.state files.old).held name.now tree) }
     ensures refused { IfErr result
-        (IsReadRefusedAs ⊥ name.now (F.state files.old) (F.state files.new)) }
+        (IsReadRefusedAs name.now (F.state files.old) (F.state files.new)) }
     ensures keeps { KeepsFiles (F.state files.old) (F.state files.new) }
 {
     let bytes = load(alloc, name, files)?;
@@ -60,34 +52,5 @@ pub fn load_document<F: Files>(alloc: Global, name: &str, files: &mut F) -> Resu
         Ok(tree) => Ok(tree),
         Err(ReadFault::Bad(spot)) => Err(Status::Malformed(file_name(alloc, name)?, spot)),
         Err(ReadFault::Memory(_)) => Err(Status::Memory),
-    }
-}
-
-/// The tree of the stylesheet in a file.
-pub fn load_sheet<F: Files>(alloc: Global, name: &str, files: &mut F) -> Result<Tree, Status>
-    ensures sheet { IfOk result (λ tree. HoldsSheet (F.state files.old).held name.now tree) }
-    ensures refused { IfErr result
-        (IsReadRefusedAs (HoldsNoSheet (F.state files.old).held name.now) name.now
-        (F.state files.old) (F.state files.new)) }
-    ensures keeps { KeepsFiles (F.state files.old) (F.state files.new) }
-{
-    let bytes = load(alloc, name, files)?;
-    match read_scoped(alloc, &bytes) {
-        Ok(scoped) => sheet_of(scoped.tree),
-        Err(ReadFault::Bad(spot)) => Err(Status::Malformed(file_name(alloc, name)?, spot)),
-        Err(ReadFault::Memory(_)) => Err(Status::Memory),
-    }
-}
-
-// The tree, if it is that of a stylesheet.
-fn sheet_of(tree: Tree) -> Result<Tree, Status>
-    ensures sheet { IfOk result (λ sheet. (sheet ≡ tree) × (is_first_sheet tree ≡ true)) }
-    ensures refused { IfErr result
-        (λ status. (status ≡ Static (SheetStatic XTUN0001)) × (is_first_sheet tree ≡ false)) }
-{
-    if is_first_sheet(&tree) {
-        Ok(tree)
-    } else {
-        Err(NO_SHEET)
     }
 }

@@ -77,8 +77,8 @@ fn push_counted(made: &mut List<Global>, part: &GlobalPart<Expr, Pattern>) -> Re
     })
 }
 
-/// The globals at these places, in this order.
-pub(crate) fn ordered(
+/// The globals at these places, in this order; a place that none has gives none.
+pub fn ordered(
     alloc: Allocator,
     globals: &[Global],
     order: &[usize],

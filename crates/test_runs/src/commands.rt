@@ -232,6 +232,71 @@ fn further_documents(rt: HostRuntime) {
     }
 }
 
+// What stands in s.xsl, what stands as m.xsl, where something does, and how the run ends. Modules come
+// before rules, and both before the document, which is none.
+const MODULES: [(&[u8], Option<&[u8]>, u8, &[u8]); 6] = [
+    (
+        b"<xsl:stylesheet version=\"2.0\" xmlns:xsl=\"http://www.w3.org/1999/XSL/Transform\">\
+        <xsl:import href=\"m.xsl\"/><xsl:template/></xsl:stylesheet>",
+        None,
+        2,
+        b"load m.xsl\n",
+    ),
+    (
+        b"<xsl:stylesheet version=\"2.0\" xmlns:xsl=\"http://www.w3.org/1999/XSL/Transform\">\
+        <xsl:import href=\"m.xsl\"/><xsl:template/></xsl:stylesheet>",
+        Some(b"<a>"),
+        4,
+        b"malformed m.xsl 3\n",
+    ),
+    (
+        b"<xsl:stylesheet version=\"2.0\" xmlns:xsl=\"http://www.w3.org/1999/XSL/Transform\">\
+        <xsl:import href=\"m.xsl\"/><xsl:template/></xsl:stylesheet>",
+        Some(b"<a/>"),
+        5,
+        b"static XTSE0500\n",
+    ),
+    (
+        b"<xsl:stylesheet version=\"2.0\" xmlns:xsl=\"http://www.w3.org/1999/XSL/Transform\">\
+        <xsl:include href=\"s.xsl\"/></xsl:stylesheet>",
+        None,
+        5,
+        b"static XTSE0180\n",
+    ),
+    (
+        b"<xsl:stylesheet version=\"2.0\" xmlns:xsl=\"http://www.w3.org/1999/XSL/Transform\">\
+        <xsl:variable name=\"v\" select=\"$w\"/></xsl:stylesheet>",
+        None,
+        5,
+        b"static XPST0008\n",
+    ),
+    (
+        b"<xsl:stylesheet version=\"2.0\" xmlns:xsl=\"http://www.w3.org/1999/XSL/Transform\">\
+        <xsl:variable name=\"v\" select=\"1\"/></xsl:stylesheet>",
+        None,
+        5,
+        b"static XTUN0001\n",
+    ),
+];
+
+#[test]
+fn modules_and_their_rules(rt: HostRuntime) {
+    for (sheet, other, number, line) in MODULES {
+        let mut files = files_of(&rt, sheet, None);
+        if let Some(bytes) = other {
+            files.add("m.xsl", bytes).expect(&rt, "memory");
+        }
+        let mut out = MemSink::new(rt.alloc());
+        let mut notes = MemSink::new(rt.alloc());
+        let ended = status_of(&rt, TRANSFORM, &mut files, &mut out, &mut notes);
+        assert_eq!(rt; ended, number);
+        assert_eq!(rt; notes.bytes(), line);
+        drop(files);
+        drop(out);
+        drop(notes);
+    }
+}
+
 #[test]
 fn a_write_fails_in_mid_stream(rt: HostRuntime) {
     let mut files = files_of(&rt, ONE_ELEMENT, Some(b"<a/>"));

@@ -19,4 +19,4 @@ mod made;
 #[cfg(test)]
 mod sheet_forms;
 #[cfg(test)]
-mod sheet_runs;
+mod first_runs;

@@ -40,10 +40,10 @@ pub(crate) fn nested(
     text
 }
 
-/// A stylesheet with a template for `a` of 40 literal elements within each other, and
+/// A stylesheet with a template for `a` of 39 literal elements within each other, and
 /// apply-templates in the last.
 pub(crate) fn widening_sheet(rt: &(impl Abort + AllocGlobal)) -> String {
-    let content = nested(rt, "b", 40, "<xsl:apply-templates/>");
+    let content = nested(rt, "b", 39, "<xsl:apply-templates/>");
     let template = format!(in rt.alloc(); "<xsl:template match=\"a\">{content}</xsl:template>");
     sheet(rt, template.expect(rt, "memory").as_str())
 }

@@ -1,0 +1,18 @@
+-- What modules declare, and the rules that each breaks by itself (XSLT 2.0, 2.9).
+use Rattle.std.specs.Prelude.{List, [], ◌∷◌, ◌++◌, map}
+use Rattle.xt_names.specs.declared.names.ExprName.{ExprName}
+use Rattle.xt_names.specs.declared.codes.Code.{Code}
+use Rattle.sheet_texts.specs.Readings.{Reading}
+use Rattle.sheet_modules.specs.declared.modules.Part.{Part}
+use Rattle.module_loading.specs.declared.loaded.LoadedModule.{LoadedModule}
+use Rattle.module_reader.specs.Modules.{parts_faults, parts_value}
+
+module _ {E P : Type 0} (r : Reading E P) (modes called : List ExprName) where
+  -- all rules that the modules break by themselves, module by module
+  abbrev pub modules_faults : List LoadedModule → List Code
+  modules_faults [] = []
+  modules_faults (m ∷ ms) =
+      parts_faults r modes called m.scoped.tree m.scoped.declared ++ modules_faults ms
+
+  abbrev pub modules_value : List LoadedModule → List (List (Part E P))
+  modules_value ms = map (λ m. parts_value r modes called m.scoped.tree m.scoped.declared) ms

@@ -1,0 +1,81 @@
+// Numbers of modes and of templates that are called.
+ghost use Rattle.std.specs.Prelude.{◌≡◌, slice_get, IfOk, OnOk};
+ghost use Rattle.loaded_parts.specs.Names.{AllCanBeRead, names_alone, with_module, with_spans};
+ghost use Rattle.loaded_parts.specs.Names.{with_levels};
+
+use module_loading::LoadedModule;
+use module_reader::collect_names;
+use sheet_levels::{SheetLevel, Span};
+use sheet_texts::NameTable;
+use sheet_values::default_mode;
+use std::alloc::{AllocError, Global};
+
+/// The names that have numbers in a stylesheet: their places from 0.
+#[derive(Drop)]
+pub struct SheetNames {
+    /// The modes (XSLT 2.0, 6.5).
+    pub modes: NameTable,
+    /// The names of the templates that are called (10.1).
+    pub called: NameTable,
+}
+
+fn names_alone(alloc: Global) -> Result<SheetNames, AllocError>
+    ensures { IfOk result (λ names. names ≡ names_alone) }
+{
+    let mut modes = NameTable::new(alloc);
+    let name = default_mode(alloc)?;
+    modes.add(&name)?;
+    let called = NameTable::new(alloc);
+    Ok(SheetNames { modes, called })
+}
+
+fn add_module(
+    alloc: Global,
+    modules: &[LoadedModule],
+    place: usize,
+    names: &mut SheetNames,
+) -> Result<(), AllocError>
+    requires { AllCanBeRead modules.now }
+    ensures { OnOk result (names.new ≡ with_module (slice_get modules.now place) names.old) }
+{
+    match modules.get(place) {
+        Some(module) => collect_names(alloc, &module.scoped, &mut names.modes, &mut names.called),
+        None => Ok(()),
+    }
+}
+
+fn add_spans(
+    alloc: Global,
+    modules: &[LoadedModule],
+    spans: &[Span],
+    names: &mut SheetNames,
+) -> Result<(), AllocError>
+    requires { AllCanBeRead modules.now }
+    ensures { OnOk result (names.new ≡ with_spans modules.now spans.now names.old) }
+{
+    for span in spans {
+        // (the other pieces of a module have no names that its first one has not)
+        if span.from == 0 {
+            add_module(alloc, modules, span.place, names)?;
+        }
+    }
+    Ok(())
+}
+
+/// The modes that the modules name, of which the default mode is the first, and the templates that
+/// they call: each where it first appears, module by module in the order of precedence (XSLT 2.0,
+/// 6.5 and 10.1).
+pub fn collect_all(
+    alloc: Global,
+    levels: &[SheetLevel],
+    modules: &[LoadedModule],
+) -> Result<SheetNames, AllocError>
+    requires { AllCanBeRead modules.now }
+    ensures { IfOk result (λ names. names ≡ with_levels modules.now levels.now names_alone) }
+{
+    let mut names = names_alone(alloc)?;
+    for level in levels {
+        add_spans(alloc, modules, level.spans.as_slice(), &mut names)?;
+    }
+    Ok(names)
+}

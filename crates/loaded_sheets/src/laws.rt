@@ -1,0 +1,15 @@
+// What the definitions say, in the words of the Recommendation.
+ghost use Rattle.loaded_sheets.specs.Laws.{AllGlobalsAreDeclared, GlobalsStandInOrder};
+ghost use Rattle.loaded_sheets.specs.Laws.{ModulesComeFirst};
+
+/// The stylesheet has each global that counts, and each stands behind those on which it depends
+/// (XSLT 2.0, 9.5).
+pub fn globals_stand_in_order()
+    ensures all { AllGlobalsAreDeclared }
+    ensures order { GlobalsStandInOrder }
+{}
+
+/// A rule that one module breaks by itself is told before those that all modules break together.
+pub fn modules_come_first()
+    ensures { ModulesComeFirst }
+{}

@@ -1,0 +1,7 @@
+use Rattle.std.proofs.Common.{◌≡◌, drop}
+use Rattle.module_reader.specs.Mentions.{top_walk}
+use Rattle.module_reader.proofs.mentions.add_tops.Given as goal
+
+abbrev pub invariant-loop-node : goal.invariant-loop-node
+invariant-loop-node l =
+    top_walk l.mention (drop l.node-index l.nodes) l.bound l.table ≡ top_walk l.mention l.nodes l.bound l.initial.table
