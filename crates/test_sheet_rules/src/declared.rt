@@ -11,9 +11,11 @@ use xt_syntax::{Expr, Pattern};
 
 // What a declaration of a test declares.
 #[derive(Clone, Copy)]
-enum Told {
+pub(crate) enum Told {
     // A variable, and its select.
     Variable(&'static str, &'static str),
+    // A variable whose content calls the template with this number.
+    Calls(&'static str, u32),
     // A function without parameters, and what it gives.
     Function(&'static str, &'static str),
     // A function with a parameter.
@@ -45,11 +47,17 @@ fn groups(rt: &(impl Abort + AllocGlobal), words: &str) -> List<Instr> {
     body_of(rt, Instr::ForEachGroup(shared(rt, "a"), key, sorts, body))
 }
 
-fn variable(rt: &(impl Abort + AllocGlobal), local: &str, words: &str) -> Part<Expr, Pattern> {
+fn calls(rt: &(impl Abort + AllocGlobal), number: u32) -> Value {
+    let passed = Shared::make(rt.alloc(), List::new(rt.alloc())).expect(rt, "memory");
+    let body = body_of(rt, Instr::CallTemplate(number, passed));
+    Value::Body(Shared::make(rt.alloc(), body).expect(rt, "memory"))
+}
+
+fn variable(rt: &(impl Abort + AllocGlobal), local: &str, value: Value) -> Part<Expr, Pattern> {
     let bound = Bound {
         name: name(rt, "", local),
         kind: None,
-        value: Value::Select(shared(rt, words)),
+        value,
         tunnel: false,
     };
     Part::Global(GlobalPart {
@@ -115,7 +123,8 @@ fn key(rt: &(impl Abort + AllocGlobal), local: &str, words: &str) -> Part<Expr, 
 
 fn part(rt: &(impl Abort + AllocGlobal), told: &Told) -> Part<Expr, Pattern> {
     match told {
-        Told::Variable(local, words) => variable(rt, local, words),
+        Told::Variable(local, words) => variable(rt, local, Value::Select(shared(rt, words))),
+        Told::Calls(local, number) => variable(rt, local, calls(rt, *number)),
         Told::Function(local, words) => function(rt, local, List::new(rt.alloc()), words),
         Told::Unary(local) => function(rt, local, one_param(rt), "1"),
         Told::Template(local, words) => template(rt, Some(name(rt, "", local)), gives(rt, words)),
@@ -123,6 +132,22 @@ fn part(rt: &(impl Abort + AllocGlobal), told: &Told) -> Part<Expr, Pattern> {
         Told::Key(local, words) => key(rt, local, words),
         Told::Output(omit) => Part::Output(Some(*omit)),
     }
+}
+
+// The declarations, with their precedences.
+pub(crate) fn declarations(
+    rt: &(impl Abort + AllocGlobal),
+    all: &[(u32, Told)],
+) -> List<Declaration<Expr, Pattern>> {
+    let mut declarations = List::new(rt.alloc());
+    for (level, told) in all {
+        let declaration = Declaration {
+            level: *level,
+            part: part(rt, told),
+        };
+        declarations.push(declaration).expect(rt, "memory");
+    }
+    declarations
 }
 
 fn called_names(rt: &(impl Abort + AllocGlobal), called: &[&str]) -> List<ExprName> {
@@ -136,14 +161,7 @@ fn called_names(rt: &(impl Abort + AllocGlobal), called: &[&str]) -> List<ExprNa
 // The codes of the rules that are broken by these declarations, with their precedences, and by
 // calls of templates of these names.
 fn broken(rt: &(impl Abort + AllocGlobal), all: &[(u32, Told)], called: &[&str]) -> String {
-    let mut declarations = List::new(rt.alloc());
-    for (level, told) in all {
-        let declaration = Declaration {
-            level: *level,
-            part: part(rt, told),
-        };
-        declarations.push(declaration).expect(rt, "memory");
-    }
+    let declarations = declarations(rt, all);
     let called = called_names(rt, called);
     let mut codes = List::new(rt.alloc());
     push_broken_rules(

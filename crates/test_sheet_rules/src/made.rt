@@ -1,4 +1,5 @@
 // Texts, names, expressions and codes for a test.
+use bound_prefixes::BoundPrefixes;
 use expr_resolve::Setting;
 use std::alloc::AllocGlobal;
 use std::process::Abort;
@@ -24,7 +25,7 @@ pub(crate) fn name(rt: &(impl Abort + AllocGlobal), uri: &str, local: &str) -> E
 fn setting(rt: &(impl Abort + AllocGlobal)) -> Setting {
     Setting {
         prefixes: Prefixes {
-            bound: List::new(rt.alloc()),
+            bound: BoundPrefixes::new(List::new(rt.alloc())).expect(rt, "memory"),
             element_default: text(rt, ""),
             function_default: text(rt, FUNCTIONS),
         },

@@ -1,0 +1,99 @@
+// Stylesheets of texts, and what is said of them.
+use import_tree::{SheetFault, load_sheet};
+use std::alloc::AllocGlobal;
+use std::process::Abort;
+use xt_io::MemFiles;
+use xt_sheets::Sheet;
+
+const START: &str = "<xsl:stylesheet version='2.0' \
+    xmlns:xsl='http://www.w3.org/1999/XSL/Transform' xmlns:xs='http://www.w3.org/2001/XMLSchema' \
+    xmlns:p='urn:p'>";
+
+const BESIDE: &str =
+    "<xsl:template name='t'><xsl:param name='a'/><xsl:param name='p:a'/></xsl:template>\
+    <xsl:template name='u'/>\
+    <xsl:template name='r'><xsl:param name='a' required='yes'/></xsl:template>\
+    <xsl:function name='p:f'><xsl:param name='x'/></xsl:function>\
+    <xsl:key name='k' match='a' use='@id'/><xsl:variable name='g' select='1'/>";
+
+/// A stylesheet with this content.
+pub(crate) fn sheet(rt: &(impl Abort + AllocGlobal), content: &str) -> String {
+    let made = format!(in rt.alloc(); "{START}{content}</xsl:stylesheet>");
+    made.expect(rt, "memory")
+}
+
+/// A stylesheet with this sequence constructor, beside a template t with the parameters a and p:a, a
+/// template u without, a template r with the required parameter a, a function p:f with one parameter,
+/// a key k, and a variable g.
+pub(crate) fn body(rt: &(impl Abort + AllocGlobal), of: &str) -> String {
+    let content = format!(in rt.alloc(); "<xsl:template match='/'>{of}</xsl:template>{BESIDE}");
+    let content = content.expect(rt, "memory");
+    let made = sheet(rt, content.as_str());
+    drop(content);
+    made
+}
+
+/// What comes of the stylesheet s.xsl of these files.
+pub(crate) fn load(
+    rt: &(impl Abort + AllocGlobal),
+    files: &[(&str, &str)],
+) -> Result<Sheet, SheetFault> {
+    let mut held = MemFiles::new(rt.alloc());
+    for (name, text) in files {
+        held.add(name, text.as_bytes()).expect(rt, "memory");
+    }
+    let made = load_sheet(rt.alloc(), &mut held, "s.xsl");
+    drop(held);
+    made
+}
+
+fn words(rt: &(impl Abort + AllocGlobal), cause: &str, name: &str) -> String {
+    let mut out = String::new(rt.alloc());
+    out.push_str(cause).expect(rt, "memory");
+    out.push_str(name).expect(rt, "memory");
+    out
+}
+
+// The code, or the cause with the name of the file; nothing of a stylesheet.
+fn told(rt: &(impl Abort + AllocGlobal), made: Result<Sheet, SheetFault>) -> String {
+    match made {
+        Ok(sheet) => {
+            drop(sheet);
+            String::new(rt.alloc())
+        }
+        Err(SheetFault::Static(code)) => words(rt, code.text(), ""),
+        Err(SheetFault::Load(name)) => words(rt, "load ", name.as_str()),
+        Err(SheetFault::TooLong(name, _)) => words(rt, "long ", name.as_str()),
+        Err(SheetFault::Malformed(name, _)) => words(rt, "malformed ", name.as_str()),
+        Err(SheetFault::Memory(_)) => panic!(rt; "memory"),
+    }
+}
+
+/// Whether this is said of the stylesheet s.xsl of these files: the code of the rule that is broken,
+/// the cause with the name of a file, or nothing.
+pub(crate) fn is_said(
+    rt: &(impl Abort + AllocGlobal),
+    files: &[(&str, &str)],
+    wanted: &str,
+) -> bool {
+    let found = told(rt, load(rt, files));
+    let same = found.as_str() == wanted;
+    drop(found);
+    same
+}
+
+/// Whether the stylesheet with this content gets the code; an empty one where it is taken.
+pub(crate) fn sheet_gets(rt: &(impl Abort + AllocGlobal), content: &str, code: &str) -> bool {
+    let text = sheet(rt, content);
+    let same = is_said(rt, &[("s.xsl", text.as_str())], code);
+    drop(text);
+    same
+}
+
+/// Whether the stylesheet with this sequence constructor does.
+pub(crate) fn body_gets(rt: &(impl Abort + AllocGlobal), of: &str, code: &str) -> bool {
+    let text = body(rt, of);
+    let same = is_said(rt, &[("s.xsl", text.as_str())], code);
+    drop(text);
+    same
+}
