@@ -27,7 +27,7 @@ fn named(alloc: Global, s: &Setting, default: &Text, name: &Token) -> Result<Exp
         (expr_name s.now.prefixes.bound default.now (written_in name.now)) }
 {
     let written = written_in(alloc, name)?;
-    expr_name(alloc, s.prefixes.bound.as_slice(), default, &written)
+    expr_name(alloc, &s.prefixes.bound, default, &written)
 }
 
 #[tactic(auto, unfolding(crate::specs::Declarations::kind_broken))]

@@ -85,7 +85,7 @@ fn with_setting(
           options = with_option s.now.prefixes.bound late.options name.now text.now;
         }) }
 {
-    let options = with_option(alloc, s.prefixes.bound.as_slice(), late.options, name, text)?;
+    let options = with_option(alloc, &s.prefixes.bound, late.options, name, text)?;
     Ok(Late {
         declarations: late.declarations,
         options,

@@ -44,7 +44,7 @@ fn own_name(
 {
     match attribute(attributes, "name") {
         None => Err(sheet_fault(SheetStaticCode::XTSE0010)),
-        Some(text) => function_name(alloc, place.bound.get().as_slice(), text),
+        Some(text) => function_name(alloc, &place.bound, text),
     }
 }
 

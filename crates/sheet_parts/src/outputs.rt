@@ -58,7 +58,7 @@ fn needed_tests(
 {
     match attribute(attributes, "elements") {
         None => Err(sheet_fault(SheetStaticCode::XTSE0010)),
-        Some(text) => name_tests(alloc, place.bound.get().as_slice(), text),
+        Some(text) => name_tests(alloc, &place.bound, text),
     }
 }
 

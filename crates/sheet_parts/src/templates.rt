@@ -85,7 +85,7 @@ fn modes(alloc: Global, place: &Place, attributes: &[Attribute]) -> Result<ModeS
             Ok(ModeSet::Numbers(numbers))
         }
         Some(text) => {
-            let modes = mode_list(alloc, place.bound.get().as_slice(), text)?;
+            let modes = mode_list(alloc, &place.bound, text)?;
             let set = mode_set(alloc, place.modes.get(), &modes)?;
             Ok(set)
         }
@@ -105,7 +105,7 @@ fn own_name(
     match attribute(attributes, "name") {
         None => Ok(None),
         Some(text) => {
-            let bound = place.bound.get().as_slice();
+            let bound = &place.bound;
             let name = declared_name(alloc, bound, text, SheetStaticCode::XTSE0020)?;
             Ok(Some(name))
         }
