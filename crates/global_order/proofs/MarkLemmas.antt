@@ -1,12 +1,12 @@
 -- Marks on what is done.
-use Rattle.std.proofs.Common.{◌≡◌, ◌∙◌, ap, sym, refl, ℕ, zero, suc, ◌+◌, ◌-◌, ◌<◌, ◌≤◌, List, [], ◌∷◌, ◌++◌, Bool, true, false, not, ◌&&◌, ◌||◌, if◌then◌else◌, Option, Some, None, length, nat_eq, get_or, set, arith}
+use Rattle.std.proofs.Common.{◌≡◌, ◌∙◌, ap, sym, refl, ℕ, zero, suc, ◌+◌, ◌-◌, ◌<◌, ◌≤◌, List, [], ◌∷◌, ◌++◌, Bool, true, false, ◌||◌, Some, None, length, nat_eq, get_or, set, arith}
 use Rattle.std.proofs.Math.Nat.{eq-or-lt_of_le}
 use mathlib.Core.Logic.{⊎_elim}
 use Rattle.std.proofs.lemmas.Bool.{cases_lt}
 use Rattle.std.proofs.lemmas.Bool.Decides.{nat_tests}
 use Rattle.std.specs.List.{list_all}
 use Rattle.std.proofs.lemmas.List.{get_or-set_same, get_or-set_other}
-use Rattle.global_order.specs.Order.{Graph, needs_of, is_in, is_ready, is_next, next_of, next, step, steps as steps_of, order_of}
+use Rattle.global_order.specs.Order.{Graph, needs_of, is_in, is_ready, is_next, next_of, next}
 use Rattle.global_order.specs.Marks.{marked, are_marked, is_next_marked, next_marked_of}
 use Rattle.global_order.proofs.OrderLemmas.{is_in-more, nat_eq-same, no_true}
 
@@ -14,7 +14,7 @@ use Rattle.global_order.proofs.OrderLemmas.{is_in-more, nat_eq-same, no_true}
 abbrev pub Marks : List Bool → List ℕ → Type 0
 Marks marks done = (i : ℕ) → marked marks i ≡ is_in done i
 
-all_same : (f h : ℕ → Bool) (xs : List ℕ) → ((i : ℕ) → f i ≡ h i) → list_all f xs ≡ list_all h xs
+pub all_same : (f h : ℕ → Bool) (xs : List ℕ) → ((i : ℕ) → f i ≡ h i) → list_all f xs ≡ list_all h xs
 all_same f h [] e = refl
 all_same f h (x ∷ xs) e = rw (e x, all_same f h xs e) refl
 
@@ -28,7 +28,7 @@ next_of-marks zero i g marks done m = refl
 next_of-marks (suc k) i g marks done m = rw (is_next-marks g marks done i m, next_of-marks k (suc i) g marks done m) refl
 
 -- what is done is not next
-done-not_next : (g : Graph) (done : List ℕ) (i : ℕ) → is_in done i ≡ true → is_next g done i ≡ false
+pub done-not_next : (g : Graph) (done : List ℕ) (i : ℕ) → is_in done i ≡ true → is_next g done i ≡ false
 unfolding is_next
 done-not_next g done i e = rw e refl
 

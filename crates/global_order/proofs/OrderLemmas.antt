@@ -1,5 +1,5 @@
 -- The order of globals is one of dependence, and it stops short exactly where there is a circle.
-use Rattle.std.proofs.Common.{◌≡◌, ◌∙◌, ap, sym, refl, ℕ, zero, suc, ◌+◌, ◌-◌, ◌<◌, ◌≤◌, List, [], ◌∷◌, ◌++◌, append_assoc, append-nil, Bool, true, false, not, ◌&&◌, ◌||◌, if◌then◌else◌, Option, Some, None, length, nat_eq, arith}
+use Rattle.std.proofs.Common.{◌≡◌, ◌∙◌, sym, refl, ℕ, zero, suc, ◌+◌, ◌-◌, ◌<◌, ◌≤◌, List, [], ◌∷◌, ◌++◌, append_assoc, append-nil, Bool, true, false, not, ◌&&◌, ◌||◌, if◌then◌else◌, Option, Some, None, length, nat_eq, arith}
 use Rattle.std.proofs.Math.Nat.{eq-or-lt_of_le}
 use mathlib.Core.Logic.{⊎_elim}
 use Rattle.std.proofs.lemmas.Bool.Decides.{nat_tests}
@@ -104,7 +104,7 @@ unfolding is_next
 not_in g done i =
     elim (is_in done i) as (λ b. (not b && is_ready done (needs_of g i)) ≡ true → b ≡ false) [ true ↦ λ h. cc | false ↦ λ h. refl ]
 
-some-positive : (g : Graph) (done : List ℕ) (i : ℕ) → next g done ≡ Some i → undone (length g) (done ++ i ∷ []) < undone (length g) done
+pub some-positive : (g : Graph) (done : List ℕ) (i : ℕ) → next g done ≡ Some i → undone (length g) (done ++ i ∷ []) < undone (length g) done
 some-positive g done i e = undone-less (length g) i done (next-inside i g done e) (not_in g done i (next-is (length g) 0 i g done e))
 
 -- after enough steps none is next
@@ -126,7 +126,7 @@ at_most : (b : Bool) → (if b then 0 else 1) ≤ 1
 at_most true = omega arith
 at_most false = omega arith
 
-undone-all : (n : ℕ) (done : List ℕ) → undone n done ≤ n
+pub undone-all : (n : ℕ) (done : List ℕ) → undone n done ≤ n
 undone-all zero done = omega arith
 undone-all (suc n) done = let one = at_most (is_in done n) in omega (arith, undone-all n done, one)
 

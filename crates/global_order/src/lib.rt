@@ -9,5 +9,6 @@
 #![tactic(auto)]
 
 mod orders;
+mod waits;
 
 pub use orders::order;

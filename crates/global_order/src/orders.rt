@@ -3,12 +3,13 @@ ghost use Rattle.std.specs.Prelude.{◌≡◌, ◌<◌, ◌≤◌, ◌-◌, ℕ,
 ghost use Rattle.global_order.specs.Order.{next, order_of, IsInOrder, StopsAtCircles};
 ghost use Rattle.global_order.specs.Marks.{marked, are_marked, is_next_marked, next_marked_of};
 
+use crate::waits::{Waits, all_turns};
 use std::alloc::{AllocError, Global};
 use xt_names::List;
 
 /// Whether the place has a mark.
 #[tactic(auto, unfolding(crate::specs::Marks::marked))]
-fn is_marked(marks: &[bool], place: usize) -> bool
+pub(crate) fn is_marked(marks: &[bool], place: usize) -> bool
     ensures { result ≡ marked marks.now place }
 {
     place < marks.len() && marks[place]
@@ -62,7 +63,7 @@ fn first_open(marks: &[bool], from: usize) -> usize
 }
 
 /// So many places without a mark.
-fn no_marks(alloc: Global, size: usize) -> Result<Vec<bool>, AllocError>
+pub(crate) fn no_marks(alloc: Global, size: usize) -> Result<Vec<bool>, AllocError>
     ensures none { IfOk result (λ marks. (i : ℕ) → marked marks.items i ≡ false) }
     ensures size { IfOk result (λ marks. length marks.items ≡ size) }
 {
@@ -93,6 +94,18 @@ fn steps(alloc: Global, graph: &[List<usize>]) -> Result<List<usize>, AllocError
     Ok(done)
 }
 
+/// What is done without a search, which is all of it where there are turns enough.
+#[tactic(auto, using(crate::proofs::WaitLemmas::ended))]
+fn looked_for(alloc: Global, graph: &[List<usize>]) -> Result<List<usize>, AllocError>
+    ensures { IfOk result (λ o. o ≡ order_of graph.now) }
+{
+    let Waits { done, marks, .. } = all_turns(alloc, graph)?;
+    match next_from(graph, marks.as_slice(), 0) {
+        None => Ok(done),
+        Some(_) => steps(alloc, graph),
+    }
+}
+
 /// The order in which globals are evaluated, as places from 0: for each global, in declaration
 /// order, the places of those that it depends on are given. A global that depends on itself,
 /// through others or not, is left out, and so is one that depends on such a global.
@@ -104,6 +117,6 @@ pub fn order(alloc: Global, graph: &[List<usize>]) -> Result<List<usize>, AllocE
     ensures ends { IfOk result (λ o. next graph.now o ≡ None) }
     ensures circles { IfOk result (λ o. StopsAtCircles graph.now) }
 {
-    let done = steps(alloc, graph)?;
+    let done = looked_for(alloc, graph)?;
     Ok(done)
 }

@@ -69,3 +69,24 @@ fn a_hundred_thousand_in_order(rt: HostRuntime) {
     drop(found);
     drop(graph);
 }
+
+// Each but the last depends on the one behind it.
+fn ladder_down(rt: &(impl Abort + AllocGlobal), size: usize) -> Vec<List<usize>> {
+    let mut graph = Vec::new(rt.alloc());
+    for place in 1..size {
+        with_needs(rt, &mut graph, &[place]);
+    }
+    with_needs(rt, &mut graph, &[]);
+    graph
+}
+
+#[test]
+fn a_hundred_thousand_from_the_last_on(rt: HostRuntime) {
+    let graph = ladder_down(&rt, 100_000);
+    let found = order(rt.alloc(), &graph).expect(&rt, "memory");
+    assert!(rt; found.as_slice().len() == 100_000, "all");
+    assert!(rt; found.as_slice()[0] == 99_999, "the last is first");
+    assert!(rt; found.as_slice()[99_999] == 0, "the first is last");
+    drop(found);
+    drop(graph);
+}
