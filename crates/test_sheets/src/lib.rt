@@ -5,18 +5,14 @@
 #![tactic(auto)]
 
 #[cfg(test)]
-mod bodies;
+mod counts;
 #[cfg(test)]
 mod declarations;
 #[cfg(test)]
-mod expressions;
-#[cfg(test)]
-mod instructions;
+mod large;
 #[cfg(test)]
 mod made;
 #[cfg(test)]
 mod modules;
-#[cfg(test)]
-mod nesting;
 #[cfg(test)]
 mod patterns;

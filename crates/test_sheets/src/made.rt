@@ -9,28 +9,10 @@ const START: &str = "<xsl:stylesheet version='2.0' \
     xmlns:xsl='http://www.w3.org/1999/XSL/Transform' xmlns:xs='http://www.w3.org/2001/XMLSchema' \
     xmlns:p='urn:p'>";
 
-const BESIDE: &str =
-    "<xsl:template name='t'><xsl:param name='a'/><xsl:param name='p:a'/></xsl:template>\
-    <xsl:template name='u'/>\
-    <xsl:template name='r'><xsl:param name='a' required='yes'/></xsl:template>\
-    <xsl:function name='p:f'><xsl:param name='x'/></xsl:function>\
-    <xsl:key name='k' match='a' use='@id'/><xsl:variable name='g' select='1'/>";
-
 /// A stylesheet with this content.
 pub(crate) fn sheet(rt: &(impl Abort + AllocGlobal), content: &str) -> String {
     let made = format!(in rt.alloc(); "{START}{content}</xsl:stylesheet>");
     made.expect(rt, "memory")
-}
-
-/// A stylesheet with this sequence constructor, beside a template t with the parameters a and p:a, a
-/// template u without, a template r with the required parameter a, a function p:f with one parameter,
-/// a key k, and a variable g.
-pub(crate) fn body(rt: &(impl Abort + AllocGlobal), of: &str) -> String {
-    let content = format!(in rt.alloc(); "<xsl:template match='/'>{of}</xsl:template>{BESIDE}");
-    let content = content.expect(rt, "memory");
-    let made = sheet(rt, content.as_str());
-    drop(content);
-    made
 }
 
 /// What comes of the stylesheet s.xsl of these files.
@@ -90,10 +72,11 @@ pub(crate) fn sheet_gets(rt: &(impl Abort + AllocGlobal), content: &str, code: &
     same
 }
 
-/// Whether the stylesheet with this sequence constructor does.
-pub(crate) fn body_gets(rt: &(impl Abort + AllocGlobal), of: &str, code: &str) -> bool {
-    let text = body(rt, of);
-    let same = is_said(rt, &[("s.xsl", text.as_str())], code);
-    drop(text);
-    same
+/// The text so many times.
+pub(crate) fn repeated(rt: &(impl Abort + AllocGlobal), text: &str, count: usize) -> String {
+    let mut out = String::new(rt.alloc());
+    for turn in 0..count {
+        out.push_str(text).expect(rt, "memory");
+    }
+    out
 }
