@@ -1,0 +1,4 @@
+pub mod Uses
+pub mod Declared
+pub mod Numbers
+pub mod Closed

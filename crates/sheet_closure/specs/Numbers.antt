@@ -1,0 +1,39 @@
+-- Places, levels and numbers that are in range, and globals that stand behind those on which they
+-- depend (XSLT 2.0, 3.10.3, 6.4, 6.5 and 9.5).
+use Rattle.std.specs.Prelude.{ℕ, List, [], ◌∷◌, ◌+◌, length, Bool, true, ◌&&◌, nat_lt, nat_le}
+use Rattle.std.specs.List.{list_all}
+use Rattle.xt_sheets.specs.declared.sheets.Level.{Level}
+use Rattle.xt_sheets.specs.declared.sheets.Rule.{Rule}
+use Rattle.xt_sheets.specs.declared.sheets.Sheet.{Sheet}
+use Rattle.global_needs.specs.Needs.{needs}
+
+abbrev pub all_below : ℕ → List ℕ → Bool
+all_below most numbers = list_all (λ n. nat_lt n most) numbers
+
+-- its template and its modes are there, and its precedence is that of a level
+unfoldable pub is_rule_of : ℕ → ℕ → ℕ → Rule → Bool
+is_rule_of templates modes levels r =
+    nat_lt r.template templates
+    && (all_below modes r.modes && (nat_le 1 r.precedence && nat_le r.precedence levels))
+
+-- the levels that are imported into a level stand before it; so many stand before the first of these
+abbrev pub are_levels : ℕ → List Level → Bool
+are_levels before [] = true
+are_levels before (l ∷ levels) =
+    nat_le 1 l.first && nat_le l.first (before + 1) && are_levels (before + 1) levels
+
+-- the default mode, in which a stylesheet begins, is there
+unfoldable pub has_numbers : Sheet → Bool
+has_numbers s =
+    nat_lt 0 (length s.modes)
+    && (are_levels 0 s.levels
+    && list_all (is_rule_of (length s.templates) (length s.modes) (length s.levels)) s.rules)
+
+-- each depends on globals before it alone; so many stand before the first of these
+abbrev pub are_behind : ℕ → List (List ℕ) → Bool
+are_behind before [] = true
+are_behind before (row ∷ rows) = all_below before row && are_behind (before + 1) rows
+
+-- every global stands behind those on which it depends
+unfoldable pub has_order : Sheet → Bool
+has_order s = are_behind 0 (needs s)
