@@ -1,5 +1,6 @@
 // Stylesheets of sequence constructors, and what is said of them.
 use import_tree::{SheetFault, load_sheet};
+use sheet_closure::sheet_closed;
 use std::alloc::AllocGlobal;
 use std::process::Abort;
 use xt_io::MemFiles;
@@ -26,7 +27,7 @@ fn sheet_of(rt: &(impl Abort + AllocGlobal), of: &str) -> String {
 }
 
 /// Whether the stylesheet with this sequence constructor gets the code; an empty one where it is
-/// taken.
+/// taken, and is closed.
 pub(crate) fn body_gets(rt: &(impl Abort + AllocGlobal), of: &str, code: &str) -> bool {
     let text = sheet_of(rt, of);
     let mut files = MemFiles::new(rt.alloc());
@@ -36,8 +37,9 @@ pub(crate) fn body_gets(rt: &(impl Abort + AllocGlobal), of: &str, code: &str) -
     drop(files);
     match made {
         Ok(sheet) => {
+            let is_closed = sheet_closed(&sheet).expect(rt, "memory");
             drop(sheet);
-            code == ""
+            is_closed && code == ""
         }
         Err(SheetFault::Static(found)) => found.text() == code,
         Err(fault) => {

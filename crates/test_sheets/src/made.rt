@@ -1,5 +1,6 @@
 // Stylesheets of texts, and what is said of them.
 use import_tree::{SheetFault, load_sheet};
+use sheet_closure::sheet_closed;
 use std::alloc::AllocGlobal;
 use std::process::Abort;
 use xt_io::MemFiles;
@@ -36,12 +37,13 @@ fn words(rt: &(impl Abort + AllocGlobal), cause: &str, name: &str) -> String {
     out
 }
 
-// The code, or the cause with the name of the file; nothing of a stylesheet.
+// The code, or the cause with the name of the file; nothing of a stylesheet that is closed.
 fn told(rt: &(impl Abort + AllocGlobal), made: Result<Sheet, SheetFault>) -> String {
     match made {
         Ok(sheet) => {
+            let is_closed = sheet_closed(&sheet).expect(rt, "memory");
             drop(sheet);
-            String::new(rt.alloc())
+            words(rt, if is_closed { "" } else { "not closed" }, "")
         }
         Err(SheetFault::Static(code)) => words(rt, code.text(), ""),
         Err(SheetFault::Load(name)) => words(rt, "load ", name.as_str()),
