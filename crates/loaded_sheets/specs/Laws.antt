@@ -1,5 +1,5 @@
 -- What the definitions say, in the words of the Recommendation.
-use Rattle.std.specs.Prelude.{◌≡◌, List, Some}
+use Rattle.std.specs.Prelude.{◌≡◌, List, [], Some}
 use Rattle.xt_names.specs.declared.names.ExprName.{ExprName}
 use Rattle.xt_names.specs.declared.codes.Code.{Code}
 use Rattle.xt_syntax.specs.declared.exprs.Expr.{Expr}
@@ -13,8 +13,9 @@ use Rattle.sheet_declarations.specs.declared.lists.Declaration.{Declaration}
 use Rattle.sheet_declarations.specs.Counts.{counted_of}
 use Rattle.sheet_assembly.specs.Named.{each_by, global_if}
 use Rattle.module_loading.specs.declared.loaded.LoadedSheet.{LoadedSheet}
-use Rattle.loaded_sheets.specs.Wholes.{declared_sheet, evaluation_order}
-use Rattle.loaded_sheets.specs.Sheets.{own_faults, sheet_faults}
+use Rattle.loaded_sheets.specs.Wholes.{declared_sheet, evaluation_order, wide_broken, wide_faults}
+use Rattle.loaded_sheets.specs.Sheets.{names_in, own_faults, declarations_in, declared_in}
+use Rattle.loaded_sheets.specs.Sheets.{sheet_faults}
 
 -- each global that counts is there, in declaration order
 abbrev pub AllGlobalsAreDeclared : Type 0
@@ -30,3 +31,14 @@ GlobalsStandInOrder = (s : Sheet) → IsInOrder (needs s) (evaluation_order s)
 abbrev pub ModulesComeFirst : Type 0
 ModulesComeFirst = (l : LoadedSheet) (code : Code) → first (own_faults l) ≡ Some code
     → first (sheet_faults l) ≡ Some code
+
+-- where declarations are not refused they break no rule together
+abbrev pub WideRulesAreTold : Type 0
+WideRulesAreTold = (ds : List (Declaration Expr Pattern)) (called : List ExprName) (s : Sheet)
+    → wide_faults ds called s ≡ [] → wide_broken ds called s ≡ []
+
+-- where modules are not refused none breaks a rule by itself, and they break none together
+abbrev pub AllRulesAreTold : Type 0
+AllRulesAreTold = (l : LoadedSheet) → sheet_faults l ≡ []
+    → (own_faults l ≡ [])
+    × (wide_broken (declarations_in l) (names_in l).called (declared_in l) ≡ [])

@@ -15,6 +15,6 @@ mod laws;
 mod sheets;
 mod wholes;
 
-pub use laws::{globals_stand_in_order, modules_come_first};
+pub use laws::{broken_rules_are_told, globals_stand_in_order, modules_come_first};
 pub use sheets::read_sheet;
 pub use wholes::whole_sheet;
