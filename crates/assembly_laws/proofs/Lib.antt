@@ -1,0 +1,4 @@
+mod Rules
+mod Functions
+mod Globals
+mod Levels

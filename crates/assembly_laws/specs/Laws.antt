@@ -1,0 +1,50 @@
+-- What is known of one stylesheet of the declarations of all its modules.
+use Rattle.std.specs.Prelude.{◌≡◌, ℕ, List, [], map, length, Bool, true, ◌&&◌, nat_lt, nat_le}
+use Rattle.std.specs.List.{list_all}
+use Rattle.xt_names.specs.declared.names.ExprName.{ExprName}
+use Rattle.xt_syntax.specs.declared.exprs.Expr.{Expr}
+use Rattle.xt_syntax.specs.declared.patterns.Pattern.{Pattern}
+use Rattle.sheet_declarations.specs.declared.lists.Declaration.{Declaration}
+use Rattle.sheet_levels.specs.declared.levels.SheetLevel.{SheetLevel}
+use Rattle.sheet_modules.specs.declared.modules.Part.{Part}
+use Rattle.sheet_declarations.specs.Counts.{counted_of}
+use Rattle.sheet_declarations.specs.Declarations.{declarations_of}
+use Rattle.sheet_assembly.specs.Named.{each_by, function_if, global_if, ordered}
+use Rattle.sheet_assembly.specs.Sheets.{Parts, sheet_of}
+use Rattle.name_rules.specs.Scopes.{names_differ}
+use Rattle.global_order.specs.Order.{Graph, IsInOrder}
+use Rattle.sheet_closure.specs.Declared.{are_new_functions, global_name}
+
+-- each rule has a template
+abbrev pub RulesHaveTemplates : Type 0
+RulesHaveTemplates = (p : Parts)
+    → list_all (λ r. nat_lt r.template (length (sheet_of p).templates)) (sheet_of p).rules ≡ true
+
+-- no two functions have one name and number of parameters
+abbrev pub FunctionsDiffer : Type 0
+FunctionsDiffer = (ds : List (Declaration Expr Pattern))
+    → are_new_functions [] (each_by function_if (counted_of ds) ds) ≡ true
+
+-- no two globals have one name, in whatever order they stand in which each is behind those on which it
+-- depends
+abbrev pub GlobalsDiffer : Type 0
+GlobalsDiffer = (ds : List (Declaration Expr Pattern)) (g : Graph) (places : List ℕ)
+    → IsInOrder g places
+    → names_differ (map global_name (ordered (each_by global_if (counted_of ds) ds) places)) ≡ true
+
+-- a precedence, which counts from 1
+abbrev pub is_level_of : ℕ → ℕ → Bool
+is_level_of levels precedence = nat_le 1 precedence && nat_le precedence levels
+
+-- the precedence of each rule is that of a level
+abbrev pub RulesHaveLevels : Type 0
+RulesHaveLevels = (modules : List (List (Part Expr Pattern))) (levels : List SheetLevel)
+    (modes called : List ExprName) (order : List ℕ)
+    → list_all (λ r. is_level_of (length levels) r.precedence)
+    (sheet_of (record {
+      declarations = declarations_of modules levels;
+      modes = modes;
+      called = called;
+      levels = levels;
+      order = order;
+    })).rules ≡ true

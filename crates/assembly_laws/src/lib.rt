@@ -1,0 +1,31 @@
+//! What is known of the one stylesheet that the declarations of all modules make up (XSLT 2.0,
+//! 3.10.3). Laws alone.
+//!
+//! Whatever the declarations are, each rule has the place of a template and the precedence of a
+//! level, no two functions have one name and number of parameters, and no two globals one name: of
+//! those that stand twice the last one counts.
+#![tactic(auto)]
+
+ghost use Rattle.assembly_laws.specs.Laws.{RulesHaveTemplates, RulesHaveLevels, FunctionsDiffer};
+ghost use Rattle.assembly_laws.specs.Laws.{GlobalsDiffer};
+
+/// The template of each rule of the stylesheet stands among its templates (XSLT 2.0, 6.4).
+pub fn rules_have_templates()
+    ensures { RulesHaveTemplates }
+{}
+
+/// The precedence of each rule of the stylesheet is that of one of its levels (XSLT 2.0, 6.4).
+pub fn rules_have_levels()
+    ensures { RulesHaveLevels }
+{}
+
+/// No two functions of the stylesheet have one name and number of parameters (XSLT 2.0, 10.3).
+pub fn functions_differ()
+    ensures { FunctionsDiffer }
+{}
+
+/// No two global variables and parameters of the stylesheet have one name, in the order in which
+/// they are evaluated (XSLT 2.0, 9.5).
+pub fn globals_differ()
+    ensures { GlobalsDiffer }
+{}
