@@ -2,3 +2,4 @@ mod Rules
 mod Functions
 mod Globals
 mod Levels
+mod Parts

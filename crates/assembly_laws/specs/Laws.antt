@@ -1,15 +1,24 @@
 -- What is known of one stylesheet of the declarations of all its modules.
-use Rattle.std.specs.Prelude.{◌≡◌, ℕ, List, [], map, length, Bool, true, ◌&&◌, nat_lt, nat_le}
+use Rattle.std.specs.Prelude.{◌≡◌, ℕ, List, [], map, length, Bool, true, false, ◌&&◌}
+use Rattle.std.specs.Prelude.{nat_lt, nat_le}
 use Rattle.std.specs.List.{list_all}
 use Rattle.xt_names.specs.declared.names.ExprName.{ExprName}
 use Rattle.xt_syntax.specs.declared.exprs.Expr.{Expr}
 use Rattle.xt_syntax.specs.declared.patterns.Pattern.{Pattern}
 use Rattle.sheet_declarations.specs.declared.lists.Declaration.{Declaration}
+use Rattle.xt_sheets.specs.declared.sheets.Global.{Global}
+use Rattle.xt_sheets.specs.declared.sheets.Template.{Template}
+use Rattle.xt_sheets.specs.declared.sheets.SheetFunction.{SheetFunction}
+use Rattle.xt_sheets.specs.declared.sheets.KeyRule.{KeyRule}
+use Rattle.xt_sheets.specs.declared.sheets.Sheet.{Sheet}
 use Rattle.sheet_levels.specs.declared.levels.SheetLevel.{SheetLevel}
 use Rattle.sheet_modules.specs.declared.modules.Part.{Part}
+use Rattle.sheet_modules.specs.declared.modules.Part.TheVariants as part
 use Rattle.sheet_declarations.specs.Counts.{counted_of}
 use Rattle.sheet_declarations.specs.Declarations.{declarations_of}
-use Rattle.sheet_assembly.specs.Named.{each_by, function_if, global_if, ordered}
+use Rattle.sheet_assembly.specs.Named.{each_by, function_if, global_if, ordered, global}
+use Rattle.sheet_assembly.specs.Named.{sheet_function, key_rule}
+use Rattle.sheet_assembly.specs.Templates.{template_of, no_template}
 use Rattle.sheet_assembly.specs.Sheets.{Parts, sheet_of}
 use Rattle.name_rules.specs.Scopes.{names_differ}
 use Rattle.global_order.specs.Order.{Graph, IsInOrder}
@@ -48,3 +57,37 @@ RulesHaveLevels = (modules : List (List (Part Expr Pattern))) (levels : List She
       levels = levels;
       order = order;
     })).rules ≡ true
+
+-- what is asked of each kind of part
+pub record Asked : Type 0 where
+  pub of_global : Global → Bool
+  pub of_template : Template → Bool
+  pub of_pattern : Pattern → Bool
+  pub of_function : SheetFunction → Bool
+  pub of_key : KeyRule → Bool
+
+-- what a declaration declares has it: a template with its name, and without it
+abbrev pub declares : Asked → Part Expr Pattern → Bool
+declares a (part.Global g) = a.of_global (global g)
+declares a (part.Template t rules) =
+    (a.of_template (template_of true t) && a.of_template (template_of false t))
+    && list_all (λ r. a.of_pattern r.pattern) rules
+declares a (part.Function f) = a.of_function (sheet_function f)
+declares a (part.Key keys) = list_all (λ k. a.of_key (key_rule k)) keys
+declares a (part.Space rules) = true
+declares a (part.Output omit) = true
+declares a part.Ignored = true
+declares a part.Linked = true
+
+abbrev pub has_asked : Asked → Sheet → Bool
+has_asked a s =
+    list_all a.of_global s.globals
+    && (list_all a.of_template s.templates
+    && (list_all (λ r. a.of_pattern r.pattern) s.rules
+    && (list_all a.of_function s.functions && list_all a.of_key s.keys)))
+
+-- what each declaration has, the stylesheet has; the template without content stands where none is
+-- declared
+abbrev pub PartsAreDeclared : Type 0
+PartsAreDeclared = (a : Asked) (p : Parts) → a.of_template no_template ≡ true
+    → list_all (λ d. declares a d.part) p.declarations ≡ true → has_asked a (sheet_of p) ≡ true

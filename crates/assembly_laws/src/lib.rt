@@ -3,11 +3,11 @@
 //!
 //! Whatever the declarations are, each rule has the place of a template and the precedence of a
 //! level, no two functions have one name and number of parameters, and no two globals one name: of
-//! those that stand twice the last one counts.
+//! those that stand twice the last one counts. What all declarations have, the stylesheet has.
 #![tactic(auto)]
 
 ghost use Rattle.assembly_laws.specs.Laws.{RulesHaveTemplates, RulesHaveLevels, FunctionsDiffer};
-ghost use Rattle.assembly_laws.specs.Laws.{GlobalsDiffer};
+ghost use Rattle.assembly_laws.specs.Laws.{GlobalsDiffer, PartsAreDeclared};
 
 /// The template of each rule of the stylesheet stands among its templates (XSLT 2.0, 6.4).
 pub fn rules_have_templates()
@@ -28,4 +28,10 @@ pub fn functions_differ()
 /// they are evaluated (XSLT 2.0, 9.5).
 pub fn globals_differ()
     ensures { GlobalsDiffer }
+{}
+
+/// What each declaration has of what is asked of globals, templates, patterns, functions and keys, the
+/// stylesheet has (XSLT 2.0, 3.10.3).
+pub fn parts_are_declared()
+    ensures { PartsAreDeclared }
 {}
