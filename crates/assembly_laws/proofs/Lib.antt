@@ -3,3 +3,4 @@ mod Functions
 mod Globals
 mod Levels
 mod Parts
+mod Modes

@@ -5,6 +5,8 @@ use Rattle.std.specs.List.{list_all}
 use Rattle.xt_names.specs.declared.names.ExprName.{ExprName}
 use Rattle.xt_syntax.specs.declared.exprs.Expr.{Expr}
 use Rattle.xt_syntax.specs.declared.patterns.Pattern.{Pattern}
+use Rattle.sheet_modules.specs.declared.templates.ModeSet.{ModeSet}
+use Rattle.sheet_modules.specs.declared.templates.ModeSet.TheVariants.{All, Numbers}
 use Rattle.sheet_declarations.specs.declared.lists.Declaration.{Declaration}
 use Rattle.xt_sheets.specs.declared.sheets.Global.{Global}
 use Rattle.xt_sheets.specs.declared.sheets.Template.{Template}
@@ -23,6 +25,7 @@ use Rattle.sheet_assembly.specs.Sheets.{Parts, sheet_of}
 use Rattle.name_rules.specs.Scopes.{names_differ}
 use Rattle.global_order.specs.Order.{Graph, IsInOrder}
 use Rattle.sheet_closure.specs.Declared.{are_new_functions, global_name}
+use Rattle.sheet_closure.specs.Numbers.{all_below}
 
 -- each rule has a template
 abbrev pub RulesHaveTemplates : Type 0
@@ -91,3 +94,24 @@ has_asked a s =
 abbrev pub PartsAreDeclared : Type 0
 PartsAreDeclared = (a : Asked) (p : Parts) → a.of_template no_template ≡ true
     → list_all (λ d. declares a d.part) p.declarations ≡ true → has_asked a (sheet_of p) ≡ true
+
+-- modes by their numbers, of which there are so many
+abbrev pub has_modes : ℕ → ModeSet → Bool
+has_modes modes All = true
+has_modes modes (Numbers numbers) = all_below modes numbers
+
+abbrev pub declares_modes : ℕ → Part Expr Pattern → Bool
+declares_modes modes (part.Template t rules) = list_all (λ r. has_modes modes r.modes) rules
+declares_modes modes (part.Global g) = true
+declares_modes modes (part.Function f) = true
+declares_modes modes (part.Key keys) = true
+declares_modes modes (part.Space rules) = true
+declares_modes modes (part.Output omit) = true
+declares_modes modes part.Ignored = true
+declares_modes modes part.Linked = true
+
+-- where the declarations have numbers of modes that are there, the rules of the stylesheet have
+abbrev pub RulesHaveModes : Type 0
+RulesHaveModes = (p : Parts)
+    → list_all (λ d. declares_modes (length p.modes) d.part) p.declarations ≡ true
+    → list_all (λ r. all_below (length p.modes) r.modes) (sheet_of p).rules ≡ true

@@ -7,7 +7,7 @@
 #![tactic(auto)]
 
 ghost use Rattle.assembly_laws.specs.Laws.{RulesHaveTemplates, RulesHaveLevels, FunctionsDiffer};
-ghost use Rattle.assembly_laws.specs.Laws.{GlobalsDiffer, PartsAreDeclared};
+ghost use Rattle.assembly_laws.specs.Laws.{GlobalsDiffer, PartsAreDeclared, RulesHaveModes};
 
 /// The template of each rule of the stylesheet stands among its templates (XSLT 2.0, 6.4).
 pub fn rules_have_templates()
@@ -17,6 +17,12 @@ pub fn rules_have_templates()
 /// The precedence of each rule of the stylesheet is that of one of its levels (XSLT 2.0, 6.4).
 pub fn rules_have_levels()
     ensures { RulesHaveLevels }
+{}
+
+/// Where the declarations have the numbers of modes that are there, so do the rules of the stylesheet
+/// (XSLT 2.0, 6.5).
+pub fn rules_have_modes()
+    ensures { RulesHaveModes }
 {}
 
 /// No two functions of the stylesheet have one name and number of parameters (XSLT 2.0, 10.3).
