@@ -1,0 +1,4 @@
+pub mod FormKinds
+pub mod ListLemmas
+pub mod NameLemmas
+pub mod TokenLemmas
