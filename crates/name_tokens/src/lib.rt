@@ -17,6 +17,6 @@ mod words;
 
 pub use names::{function_token, name_token};
 pub use nodes::{bare_node_token, gives_name, node_token};
-pub use tests_of_names::test_token;
+pub use tests_of_names::{same_test, test_token};
 pub use types::type_token;
 pub use words::word_term;

@@ -13,7 +13,9 @@ use std::alloc::{AllocError, Global};
 use xt_names::Text;
 use xt_types::{Axis, NameTest};
 
-fn same_test(a: &NameTest, b: &NameTest) -> bool
+/// Whether two name tests are the same.
+/// (XPath 2.0, 3.2.1.2)
+pub fn same_test(a: &NameTest, b: &NameTest) -> bool
     ensures { result ≡ same_test a.now b.now }
 {
     match a {

@@ -15,4 +15,5 @@ mod setters;
 mod words;
 
 pub use declarations::{push_functions, push_variables};
+pub use rules::rules_text;
 pub use setters::{push_namespaces, push_omit, push_preserved, push_space, push_version};

@@ -82,8 +82,10 @@ fn push_rules(
     Ok(())
 }
 
-/// The rules, with spaces between them.
-pub(crate) fn rules_text(
+/// The text of the option `space` with these rules: pairs of a word and a test, with spaces between
+/// them; each test as on an axis where a name without a prefix has no uri.
+/// (XQuery 1.0, 4.16)
+pub fn rules_text(
     alloc: Global,
     prefixes: &Prefixes,
     rules: &[SpaceRule],

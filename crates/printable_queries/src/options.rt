@@ -1,0 +1,93 @@
+// Namespaces and options.
+ghost use Rattle.std.specs.Prelude.{◌≡◌, [], map, is_some, IfOk, IsTrue, nat_lt};
+ghost use Rattle.std.specs.List.{list_all};
+ghost use Rattle.path_raws.specs.Names.{name_token};
+ghost use Rattle.query_raws.specs.Prologs.{namespace, option_name, space_option, omit_option};
+ghost use Rattle.query_raws.specs.Queries.{all_can};
+
+use crate::rules::means_rules;
+use expr_meant::written_in;
+use expr_terms::fits_word;
+use name_tokens::word_term;
+use printable_forms::has_name;
+use prolog_drafts::rules_text;
+use std::alloc::{AllocError, Global};
+use xt_names::{Binding, ExprName, Text};
+use xt_syntax::Prefixes;
+use xt_types::SpaceRule;
+
+/// `declare namespace p = "u"`, where the prefix is a word.
+fn can_namespace(alloc: Global, binding: &Binding) -> Result<bool, AllocError>
+    ensures { IfOk result (λ can. can ≡ (namespace binding.now).can) }
+{
+    let token = word_term(&binding.prefix)?;
+    let written = written_in(alloc, &token)?;
+    Ok(fits_word(&token) && written.local == binding.prefix)
+}
+
+pub(crate) fn can_namespaces(alloc: Global, bindings: &[Binding]) -> Result<bool, AllocError>
+    ensures { IfOk result (λ can. can ≡ all_can (map (λ b. namespace b) bindings.now)) }
+{
+    for binding in bindings {
+        if !can_namespace(alloc, binding)? {
+            return Ok(false);
+        }
+    }
+    Ok(true)
+}
+
+/// A text of ASCII.
+#[tactic(auto, using(query_prologs::proofs::TextLemmas::ascii_same))]
+fn ascii_text(alloc: Global, text: &str) -> Result<Text, AllocError>
+    requires { IsTrue (list_all (λ b. nat_lt b 128) text.now) }
+    ensures { IfOk result (λ made. made ≡ text.now) }
+{
+    Text::make(alloc, text)
+}
+
+/// Whether some token means the name of an option that has an effect.
+fn has_option(alloc: Global, prefixes: &Prefixes, local: &str) -> Result<bool, AllocError>
+    requires { IsTrue (list_all (λ b. nat_lt b 128) local.now) }
+    ensures { IfOk result (λ has. has
+        ≡ is_some (name_token prefixes.now.bound [] (option_name local.now))) }
+{
+    let uri = ascii_text(alloc, "urn:xslt2xq")?;
+    let local = ascii_text(alloc, local)?;
+    let name = ExprName { uri, local };
+    let has = has_name(alloc, prefixes, &name)?;
+    Ok(has)
+}
+
+/// The option `space`, where there are rules: its text means just these.
+/// (XQuery 1.0, 4.16)
+#[tactic(auto, using(crate::proofs::CodeLemmas::alone))]
+pub(crate) fn can_space(
+    alloc: Global,
+    prefixes: &Prefixes,
+    rules: &[SpaceRule],
+) -> Result<bool, AllocError>
+    ensures { IfOk result (λ can. can ≡ all_can (space_option prefixes.now rules.now)) }
+{
+    match rules {
+        [] => Ok(true),
+        _ => {
+            let text = rules_text(alloc, prefixes, rules)?;
+            Ok(
+                has_option(alloc, prefixes, "space")?
+                    && means_rules(alloc, &prefixes.bound, &text, rules)?,
+            )
+        }
+    }
+}
+
+/// The option `declaration`, where the declaration is left out.
+/// (XQuery 1.0, 4.16)
+#[tactic(auto, using(crate::proofs::CodeLemmas::alone))]
+pub(crate) fn can_omit(alloc: Global, prefixes: &Prefixes, omit: bool) -> Result<bool, AllocError>
+    ensures { IfOk result (λ can. can ≡ all_can (omit_option prefixes.now omit)) }
+{
+    if omit {
+        return has_option(alloc, prefixes, "declaration");
+    }
+    Ok(true)
+}

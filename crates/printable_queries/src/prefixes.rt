@@ -1,0 +1,43 @@
+// The namespaces of a query.
+ghost use Rattle.std.specs.Prelude.{◌≡◌, map, IfOk};
+ghost use Rattle.prolog_rules.specs.declared.setters.Setter.TheVariants as setter_of;
+ghost use Rattle.query_raws.specs.Queries.{prefixes_of};
+ghost use Rattle.printed_queries.specs.Keeps.{has_own_prefixes};
+
+use prolog_rules::{Setter, broken_setter};
+use query_prologs::prefixes_of;
+use std::alloc::{AllocError, Global};
+use xt_names::{Binding, List};
+use xt_syntax::{Prefixes, Query};
+
+/// The namespaces as setters.
+fn setters_of(alloc: Global, bindings: &[Binding]) -> Result<List<Setter>, AllocError>
+    ensures { IfOk result (λ setters. setters ≡ map (λ b. setter_of.Namespace b) bindings.now) }
+{
+    let mut setters = List::new(alloc);
+    for binding in bindings {
+        setters.push(Setter::Namespace(binding.copy()?))?;
+    }
+    Ok(setters)
+}
+
+/// How names are resolved in the query as it is printed: by its namespaces alone.
+/// (XQuery 1.0, 4.12)
+#[tactic(auto, using(crate::proofs::PrefixLemmas::namespaces_alone))]
+pub fn prefixes_in(alloc: Global, query: &Query) -> Result<Prefixes, AllocError>
+    ensures { IfOk result (λ prefixes. prefixes ≡ prefixes_of query.now) }
+{
+    let setters = setters_of(alloc, query.prefixes.as_slice())?;
+    prefixes_of(alloc, setters.as_slice())
+}
+
+/// Whether no prefix stands twice, and none is xml or xmlns or has the uri of one.
+/// (XQuery 1.0, 4.12)
+#[tactic(auto, using(crate::proofs::CodeLemmas::codes))]
+pub(crate) fn has_own_prefixes(alloc: Global, query: &Query) -> Result<bool, AllocError>
+    ensures { IfOk result (λ own. own ≡ has_own_prefixes query.now) }
+{
+    let setters = setters_of(alloc, query.prefixes.as_slice())?;
+    let fault = broken_setter(alloc, setters.as_slice())?;
+    Ok(!fault.is_some())
+}
