@@ -1,5 +1,5 @@
 // Pages.
-ghost use Rattle.std.specs.Prelude.{◌≡◌, ◌∷◌, [], OnOk, IfOk};
+ghost use Rattle.std.specs.Prelude.{◌≡◌, ◌∷◌, [], OnOk, IfOk, MatchOption};
 ghost use Rattle.expr_terms.specs.declared.tokens.Token.TheVariants as token_of;
 ghost use Rattle.query_pages.specs.Inner.{inner, with_inner};
 ghost use Rattle.query_pages.specs.Laid.{IsTextOf};
@@ -64,6 +64,18 @@ impl Page {
         ensures { OnOk result (self.new ≡ token_of.Key key ∷ self.old) }
     {
         self.push(gap, Token::Key(key))
+    }
+
+    /// Takes the first token away.
+    #[tactic(auto, using(crate::proofs::Pushed::pushed))]
+    pub fn pop(&mut self) -> Option<Token>
+        ensures { MatchOption result ((self.old ≡ []) × (self.new ≡ []))
+            (λ token. self.old ≡ token ∷ self.new) }
+    {
+        match self.items.pop() {
+            None => None,
+            Some(placed) => Some(placed.token),
+        }
     }
 
     /// Makes the first token, where it is the front of an element, one within the content of

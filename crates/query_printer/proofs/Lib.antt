@@ -1,3 +1,4 @@
-pub mod PrefixLemmas
 pub mod Prologs
 pub mod Spells
+pub mod TestLemmas
+pub mod TokenLemmas

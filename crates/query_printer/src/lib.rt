@@ -1,7 +1,8 @@
 //! The printer of queries: a query as text that is read back as the same query (XQuery 1.0, 2.2.4,
 //! 3.7.1, 4 and A).
 //!
-//! `print` asks for a printable query. Its text spells just that query, so a parser gives it back.
+//! `is_printable` tells whether a query can be printed, and `print` asks for one that can. Its text
+//! spells just that query, so a parser gives it back.
 //! Declarations stand on lines of their own, and so do clauses, branches and the content of
 //! constructors; there are parentheses only where the grammar needs them.
 //!
@@ -10,6 +11,9 @@
 //! each on a line.
 #![tactic(auto)]
 
+mod fitness;
+mod printable;
 mod printing;
 
+pub use printable::is_printable;
 pub use printing::{print, print_expr};

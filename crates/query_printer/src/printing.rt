@@ -1,8 +1,7 @@
 // Queries and expressions as texts.
-ghost use Rattle.std.specs.Prelude.{◌≡◌, [], true, map, IfOk, OnOk};
+ghost use Rattle.std.specs.Prelude.{◌≡◌, [], true, IfOk, OnOk};
 ghost use Rattle.expr_raws.specs.Raws.{tokens_of};
 ghost use Rattle.query_pages.specs.Laid.{IsTextOf};
-ghost use Rattle.prolog_rules.specs.declared.setters.Setter.TheVariants as setter_of;
 ghost use Rattle.query_raws.specs.Queries.{prefixes_of, late, can_print};
 ghost use Rattle.query_raws.specs.Queries.{prolog_tokens, query_tokens};
 ghost use Rattle.xquery_syntax.specs.Spelled.{SpellsWithin};
@@ -10,15 +9,14 @@ ghost use Rattle.query_printer.specs.Printable.{is_printable, deepest};
 
 use expr_drafts::{Draft, Spot};
 use expr_pages::{expr_page, settled};
+use printable_queries::prefixes_in;
 use prolog_drafts::{
     push_functions, push_namespaces, push_omit, push_preserved, push_space, push_variables,
     push_version,
 };
-use prolog_rules::Setter;
 use query_pages::Page;
-use query_prologs::prefixes_of;
 use std::alloc::{AllocError, Global};
-use xt_names::{Binding, List, Text};
+use xt_names::Text;
 use xt_syntax::{Expr, Prefixes, Query};
 
 /// The declarations behind the setters, before the tokens of the draft.
@@ -59,27 +57,12 @@ fn push_query<'a>(
     Ok(())
 }
 
-/// The namespaces as setters.
-fn setters_of(alloc: Global, bindings: &[Binding]) -> Result<List<Setter>, AllocError>
-    ensures { IfOk result (λ setters. setters ≡ map (λ b. setter_of.Namespace b) bindings.now) }
-{
-    let mut setters = List::new(alloc);
-    for binding in bindings {
-        setters.push(Setter::Namespace(binding.copy()?))?;
-    }
-    Ok(setters)
-}
-
-/// How names are resolved in the query.
-#[tactic(auto, using(crate::proofs::PrefixLemmas::namespaces_alone))]
-fn prefixes_in(alloc: Global, query: &Query) -> Result<Prefixes, AllocError>
-    ensures { IfOk result (λ prefixes. prefixes ≡ prefixes_of query.now) }
-{
-    let setters = setters_of(alloc, query.prefixes.as_slice())?;
-    prefixes_of(alloc, setters.as_slice())
-}
-
-fn page_of<'a>(alloc: Global, prefixes: &'a Prefixes, query: &'a Query) -> Result<Page, AllocError>
+/// The page of the tokens of the query.
+pub(crate) fn page_of<'a>(
+    alloc: Global,
+    prefixes: &'a Prefixes,
+    query: &'a Query,
+) -> Result<Page, AllocError>
     requires same { prefixes.now ≡ prefixes_of query.now }
     requires can { can_print query.now ≡ true }
     ensures { IfOk result (λ page. page ≡ query_tokens query.now) }
