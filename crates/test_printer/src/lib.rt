@@ -1,9 +1,17 @@
-//! Tests of the printer: expressions as texts, parsed, printed, and parsed and printed again.
+//! Tests of the printer: queries and expressions as texts, parsed, printed, and parsed and printed
+//! again; and queries that no text gives, some of which cannot be printed.
 //!
 //! They stand apart from the crates that they test, so that a change of a test need not prove them
-//! again. `print` asks for a printable query, which no test proves of a query that it has parsed;
-//! `print_expr`, which writes all of a query but its prolog, asks for nothing.
+//! again.
 #![tactic(auto)]
 
 #[cfg(test)]
 mod expressions;
+#[cfg(test)]
+mod large;
+#[cfg(test)]
+mod made;
+#[cfg(test)]
+mod queries;
+#[cfg(test)]
+mod texts;
