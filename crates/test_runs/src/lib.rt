@@ -13,10 +13,10 @@ mod examples;
 #[cfg(test)]
 mod files_asked;
 #[cfg(test)]
+mod first_runs;
+#[cfg(test)]
 mod limits;
 #[cfg(test)]
 mod made;
 #[cfg(test)]
 mod sheet_forms;
-#[cfg(test)]
-mod first_runs;
