@@ -1,5 +1,5 @@
 -- Values that pass through open productions.
-use Rattle.std.proofs.Common.{◌≡◌, ℕ, zero, suc, ◌<◌, ◌-◌, Bool, true, false, cond, List, [], ◌∷◌, ◌++◌, Option, Some, None, drop, take, length, get_or, ◌≤◌, refl, sym, ap, ◌∙◌, arith}
+use Rattle.std.proofs.Common.{◌≡◌, ℕ, zero, suc, ◌<◌, ◌-◌, Bool, true, false, cond, if◌then◌else◌, List, [], ◌∷◌, ◌++◌, Option, Some, None, drop, take, length, get_or, ◌≤◌, refl, sym, ap, ◌∙◌, arith}
 use Rattle.expr_reader.specs.TokenNames.{Token}
 use Rattle.expr_reader.specs.Terms.{Language, Level, Nonterminal, comma_item, predicate, step_more, tail, Class, key, Symbol, tok, maybe, many, Production, top, type_top, listing, item_after, plain, following_clause, bind_after, let_after, quant_after, spec_after, directed, chain, unsigned, rooted, unrooted, steps, filter_step, predicated, name_tested, kind_tested, pi_named, kind_named, directly, items_type, marked, kind_item, atomic_item, part_chars, item_chars, operated, step_after, deep_after}
 use Rattle.expr_reader.specs.RawNames.{Raw}
@@ -8,7 +8,7 @@ use Rattle.expr_terms.specs.declared.choices.Second.{Second}
 use Rattle.expr_terms.specs.declared.choices.Starter.{Starter}
 use Rattle.expr_terms.specs.declared.choices.Starter.TheVariants.{Conditional as starts_conditional, Looping as starts_looping, Letting as starts_letting, Quantifying as starts_quantifying, Signing as starts_signing, Slashing as starts_slashing, SlashingDeep as starts_slashing_deep, Axis as starts_axis, At as starts_at, Parent as starts_parent, PlainKind as starts_plain_kind, PiKind as starts_pi_kind, NamedKind as starts_named_kind, Named as starts_named, Wild as starts_wild, Digits as starts_digits, Quoted as starts_quoted, Variable as starts_variable, Paren as starts_paren, Context as starts_context, Call as starts_call, Computed as starts_computed, Constructed as starts_constructed, PiConstructed as starts_pi_constructed, Enclosing as starts_enclosing, ItemType as starts_item_type, EmptyType as starts_empty_type, Outer as starts_outer, Inner as starts_inner, Chars as starts_chars, Enter as starts_enter, FullTag as starts_full_tag, EmptyTag as starts_empty_tag, Nothing as starts_nothing}
 use Rattle.expr_terms.specs.Choices.{choose, starter_of, in_more_steps}
-use Rattle.expr_terms.specs.Productions.{fits, body, speaks, passes}
+use Rattle.expr_terms.specs.Productions.{fits, body, repeats, speaks, passes}
 use Rattle.expr_terms.specs.Raws.{build}
 use Rattle.expr_grammar.specs.Machine.{Frame, doing, entered, picked, descend, deep, through, along, advance}
 use Rattle.expr_reader.specs.View.{frame_of, frames_of, with_value}
@@ -135,6 +135,14 @@ build-passes _ v e = wrong e
 
 pub passed : (l : Language) (t : Token) (s : Second) (v : Raw) (fs : List Frame) (p : Production) (vs : List Raw) (ss : List Symbol) → vs ≡ [] → passes p ≡ true → ((l : Language) (s : Second) (us : List Raw) (gs : List Frame) → along l t s p us gs ss ≡ through) → advance l t s (with_value v (doing p vs ss ∷ fs)) ≡ advance l t s (with_value v fs)
 passed l t s v fs p vs ss n e h = rw n (advance_through l t s fs p (v ∷ []) ss (h l s (v ∷ []) fs) ∙ ap (λ x. advance l t s (with_value x fs)) (build-passes p v e))
+
+through_tail : (b : Bool) (v : Level) (l : Language) (t : Token) (s : Second) (p : Production) (vs : List Raw) (fs : List Frame) → ((l : Language) (s : Second) (fs : List Frame) → descend l deep (tail v) t s fs ≡ None) → along l t s p vs fs ((if b then many (tail v) else maybe (tail v)) ∷ []) ≡ through
+through_tail true v l t s p vs fs h = stops-many l t s p vs fs _ _ (tail v) refl refl h
+through_tail false v l t s p vs fs h = stops-maybe l t s p vs fs _ _ (tail v) refl refl h
+
+-- .. a level of operators whose operator the token is not
+pub passed_level : (t : Token) (v : Level) (f : Open) → f.production ≡ chain v → f.place ≡ 1 → f.kids.items ≡ [] → ((l : Language) (s : Second) (fs : List Frame) → descend l deep (tail v) t s fs ≡ None) → (l : Language) (s : Second) (u : Raw) (fs : List Frame) → advance l t s (with_value u (frame_of f ∷ fs)) ≡ advance l t s (with_value u fs)
+passed_level t v f p n k h l s u fs = rw (p, n) (passed l t s u fs (chain v) f.kids.items (drop 1 (body (chain v))) k refl (λ i r us gs. through_tail (repeats v) v i t r (chain v) us gs h))
 
 pub ruleset passings = (passed)
 

@@ -1,10 +1,11 @@
 -- The frames of the code, as the machine has them.
-use Rattle.std.proofs.Common.{◌≡◌, ◌≢◌, ℕ, suc, ◌<◌, ◌+◌, ◌-◌, List, [], ◌∷◌, ◌++◌, refl, arith, append-nil, zero}
+use Rattle.std.proofs.Common.{◌≡◌, ◌≢◌, ℕ, suc, ◌<◌, ◌+◌, ◌-◌, List, [], ◌∷◌, ◌++◌, refl, arith, append-nil, zero, Option, Some, None, drop}
 use Rattle.expr_reader.specs.declared.frames.Frame.{Frame}
 use Rattle.expr_reader.specs.TokenNames.{Token}
-use Rattle.expr_reader.specs.Terms.{Language, Nonterminal}
+use Rattle.expr_reader.specs.Terms.{Language, xpath, xquery, Level, Nonterminal, Production, chain}
+use Rattle.expr_terms.specs.Productions.{body, below}
 use Rattle.expr_terms.specs.declared.choices.Second.{Second}
-use Rattle.expr_terms.specs.Choices.{choose}
+use Rattle.expr_terms.specs.Choices.{choose, then_one}
 use Rattle.expr_grammar.specs.Machine as machine
 use Rattle.expr_reader.specs.View.{frame_of, frames_on, frames_of}
 
@@ -26,5 +27,11 @@ frames_on-some below (f ∷ fs) h e = frames_on-some (frame_of f ∷ below) fs (
 pub frames_of-some : (fs : List Frame) → fs ≢ [] → frames_of fs ≢ []
 frames_of-some [] h e = h refl
 frames_of-some (f ∷ fs) h e = frames_on-some (frame_of f ∷ []) fs (λ n. absurd cc) e
+
+-- the front of a level of operators, where an operand begins
+pub level_front : (go : Nonterminal → List machine.Frame → Option (List machine.Frame)) (l : Language) (t : Token) (fs : List machine.Frame) (v : Level) (o : Option Production) (p : Production) → then_one o (chain v) ≡ Some p → machine.picked go l t fs (then_one o (chain v)) ≡ go (below v) (machine.doing (chain v) [] (drop 1 (body (chain v))) ∷ fs)
+level_front go l t fs v None p e = absurd cc
+level_front go xpath t fs v (Some q) p e = refl
+level_front go xquery t fs v (Some q) p e = refl
 
 pub ruleset views = (frames_of-append, append-nil, frames_of-some)

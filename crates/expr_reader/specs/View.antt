@@ -10,6 +10,7 @@ use Rattle.expr_terms.specs.declared.raws.Raw.{Raw}
 use Rattle.expr_terms.specs.declared.choices.Second.{Second}
 use Rattle.expr_terms.specs.declared.productions.Language.{Language}
 use Rattle.expr_terms.specs.declared.productions.Nonterminal.{Nonterminal}
+use Rattle.expr_terms.specs.declared.productions.Production.{Production}
 use Rattle.expr_terms.specs.declared.productions.Symbol.{Symbol}
 use Rattle.expr_terms.specs.Productions.{body}
 use Rattle.expr_terms.specs.Choices.{choose}
@@ -36,11 +37,15 @@ abbrev pub Wanted : Option Symbol → List Symbol → List Symbol → Type 0
 Wanted None ss rest = ss ≡ []
 Wanted (Some s) ss rest = ss ≡ s ∷ rest
 
--- what the front of a nonterminal is: the frames hold it, or nothing is done
+-- what the front of a production is, where there is one: the frames hold it, or nothing is done
+abbrev pub Entered : Front → Language → Option Production → Token → List Frame → List Frame → Type 0
+Entered Absent l o t old new = (new ≡ old) × ((go : Nonterminal → List machine.Frame → Option (List machine.Frame)) → machine.picked go l t (frames_of old) o ≡ None)
+Entered Begun l o t old new = (go : Nonterminal → List machine.Frame → Option (List machine.Frame)) → machine.picked go l t (frames_of old) o ≡ Some (frames_of new)
+Entered (Below m) l o t old new = ((f : Frame) × (new ≡ old ++ f ∷ [])) × ((go : Nonterminal → List machine.Frame → Option (List machine.Frame)) → machine.picked go l t (frames_of old) o ≡ go m (frames_of new))
+
+-- .. and that of a nonterminal
 abbrev pub Fronted : Front → Language → Nonterminal → Token → Second → List Frame → List Frame → Type 0
-Fronted Absent l n t s old new = (new ≡ old) × ((go : Nonterminal → List machine.Frame → Option (List machine.Frame)) → machine.picked go l t (frames_of old) (choose n t s) ≡ None)
-Fronted Begun l n t s old new = (go : Nonterminal → List machine.Frame → Option (List machine.Frame)) → machine.picked go l t (frames_of old) (choose n t s) ≡ Some (frames_of new)
-Fronted (Below m) l n t s old new = ((f : Frame) × (new ≡ old ++ f ∷ [])) × ((go : Nonterminal → List machine.Frame → Option (List machine.Frame)) → machine.picked go l t (frames_of old) (choose n t s) ≡ go m (frames_of new))
+Fronted front l n t s old new = Entered front l (choose n t s) t old new
 
 abbrev pub Opened : Bool → Option (List machine.Frame) → List Frame → List Frame → Type 0
 Opened true o old new = o ≡ Some (frames_of new)

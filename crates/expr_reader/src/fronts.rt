@@ -1,11 +1,17 @@
 // Descending from what is wanted to the token.
-ghost use Rattle.std.specs.Prelude.{◌≡◌, ◌∷◌, IfOk};
+ghost use Rattle.std.specs.Prelude.{◌≡◌, ◌∷◌, Some, IfOk};
+ghost use Rattle.expr_terms.specs.Choices.{starter_of, pick, choose};
+ghost use Rattle.expr_terms.specs.Productions.{below};
+ghost use Rattle.expr_terms.specs.declared.productions.Nonterminal.TheVariants.{Level as at_level};
 ghost use Rattle.expr_grammar.specs.Machine.{descend, deep};
-ghost use Rattle.expr_reader.specs.View.{frame_of, frames_of, Fronted, Opened, Tried};
+ghost use Rattle.expr_reader.specs.View.{frame_of, frames_of, Entered, Fronted, Opened, Tried};
 
 use crate::frames::Frame;
 use crate::parts::{opened, symbol, with_token};
-use expr_terms::{Language, Nonterminal, Second, Symbol, Token, choose, fits, speaks};
+use expr_terms::{
+    Key, Language, Level, Nonterminal, Production, Second, Starter, Symbol, Token, fits, fits_key,
+    pick, speaks, starter_of,
+};
 use std::alloc::{AllocError, Global};
 
 /// What the front of a nonterminal is.
@@ -13,6 +19,97 @@ pub enum Front {
     Absent,
     Begun,
     Below(Nonterminal),
+}
+
+/// The production of the nonterminal that the token begins, where it is known what the token begins.
+fn chosen(nonterminal: Nonterminal, token: &Token, starter: Starter) -> Option<Production>
+    ensures { (s : Second) → starter ≡ starter_of token.now s → result ≡ choose nonterminal token.now s }
+{
+    match nonterminal {
+        Nonterminal::OrderPart => {
+            if fits_key(Key::StableWord, token) {
+                Some(Production::Stable)
+            } else {
+                Some(Production::Ordered)
+            }
+        }
+        _ => pick(nonterminal, starter),
+    }
+}
+
+/// What stands at the front of a level of operators: the level that binds next more tightly.
+fn tighter(level: Level) -> Nonterminal
+    ensures { result ≡ below level }
+{
+    match level {
+        Level::Ors => Nonterminal::Level(Level::Ands),
+        Level::Ands => Nonterminal::Level(Level::Compares),
+        Level::Compares => Nonterminal::Level(Level::Ranges),
+        Level::Ranges => Nonterminal::Level(Level::Adds),
+        Level::Adds => Nonterminal::Level(Level::Multiplies),
+        Level::Multiplies => Nonterminal::Level(Level::Unions),
+        Level::Unions => Nonterminal::Level(Level::Crosses),
+        Level::Crosses => Nonterminal::Level(Level::Instances),
+        Level::Instances => Nonterminal::Level(Level::Treats),
+        Level::Treats => Nonterminal::Level(Level::Castables),
+        Level::Castables => Nonterminal::Level(Level::Casts),
+        Level::Casts => Nonterminal::Unary,
+    }
+}
+
+/// Opens a level of operators. Some twelve are opened below an operand, so that this looks no table up.
+#[tactic(auto, using(crate::proofs::ViewLemmas::views))]
+fn open_level(
+    alloc: Global,
+    frames: &mut Vec<Frame>,
+    level: Level,
+    starter: Starter,
+) -> Result<Front, AllocError>
+    ensures { IfOk result (λ front. (l : Language) (t : Token) →
+        Entered front l (pick (at_level level) starter) t frames.old.items frames.new.items) }
+{
+    match pick(Nonterminal::Level(level), starter) {
+        None => Ok(Front::Absent),
+        Some(_) => {
+            let frame = opened(alloc, Production::Chain(level), 1);
+            frames.push(frame)?;
+            Ok(Front::Below(tighter(level)))
+        }
+    }
+}
+
+/// Opens the production, whose first part the token may be.
+#[tactic(auto, using(crate::proofs::ViewLemmas::views))]
+fn open_production(
+    alloc: Global,
+    frames: &mut Vec<Frame>,
+    language: Language,
+    production: Production,
+    token: &Token,
+) -> Result<Front, AllocError>
+    ensures { IfOk result (λ front.
+        Entered front language (Some production) token.now frames.old.items frames.new.items) }
+{
+    if !speaks(language, production) {
+        return Ok(Front::Absent);
+    }
+    match symbol(production, 0) {
+        Some(Symbol::Tok(class)) => {
+            if !fits(class, token) {
+                return Ok(Front::Absent);
+            }
+            let frame = opened(alloc, production, 0);
+            frames.push(with_token(frame, class, token)?)?;
+            Ok(Front::Begun)
+        }
+        Some(Symbol::One(inner)) => {
+            frames.push(opened(alloc, production, 1))?;
+            Ok(Front::Below(inner))
+        }
+        Some(Symbol::Maybe(_)) | Some(Symbol::Many(_)) | Some(Symbol::Longest(_)) | None => Ok(
+            Front::Absent,
+        ),
+    }
 }
 
 /// Opens the production that the tokens begin.
@@ -23,33 +120,17 @@ fn open_front(
     language: Language,
     nonterminal: Nonterminal,
     token: &Token,
-    second: Second,
+    starter: Starter,
 ) -> Result<Front, AllocError>
-    ensures { IfOk result (λ front. Fronted front language nonterminal token.now second frames.old.items frames.new.items) }
+    ensures { IfOk result (λ front. (s : Second) → starter ≡ starter_of token.now s →
+        Fronted front language nonterminal token.now s frames.old.items frames.new.items) }
 {
-    match choose(nonterminal, token, second) {
-        None => Ok(Front::Absent),
-        Some(production) => {
-            if !speaks(language, production) {
-                return Ok(Front::Absent);
-            }
-            match symbol(production, 0) {
-                Some(Symbol::Tok(class)) => {
-                    if !fits(class, token) {
-                        return Ok(Front::Absent);
-                    }
-                    let frame = opened(alloc, production, 0);
-                    frames.push(with_token(frame, class, token)?)?;
-                    Ok(Front::Begun)
-                }
-                Some(Symbol::One(inner)) => {
-                    frames.push(opened(alloc, production, 1))?;
-                    Ok(Front::Below(inner))
-                }
-                Some(Symbol::Maybe(_)) | Some(Symbol::Many(_)) | Some(Symbol::Longest(_)) | None =>
-                    Ok(Front::Absent),
-            }
-        }
+    match nonterminal {
+        Nonterminal::Level(level) => open_level(alloc, frames, level, starter),
+        _ => match chosen(nonterminal, token, starter) {
+            None => Ok(Front::Absent),
+            Some(production) => open_production(alloc, frames, language, production, token),
+        },
     }
 }
 
@@ -63,18 +144,19 @@ fn descend(
     language: Language,
     nonterminal: Nonterminal,
     token: &Token,
-    second: Second,
+    starter: Starter,
 ) -> Result<bool, AllocError>
-    ensures { IfOk result (λ found. Opened found (descend language depth nonterminal token.now second (frames_of frames.old.items)) frames.old.items frames.new.items) }
+    ensures { IfOk result (λ found. (s : Second) → starter ≡ starter_of token.now s →
+        Opened found (descend language depth nonterminal token.now s (frames_of frames.old.items)) frames.old.items frames.new.items) }
 {
     if depth == 0 {
         return Ok(false);
     }
-    match open_front(alloc, frames, language, nonterminal, token, second)? {
+    match open_front(alloc, frames, language, nonterminal, token, starter)? {
         Front::Absent => Ok(false),
         Front::Begun => Ok(true),
         Front::Below(inner) => {
-            if descend(alloc, frames, depth - 1, language, inner, token, second)? {
+            if descend(alloc, frames, depth - 1, language, inner, token, starter)? {
                 Ok(true)
             } else {
                 frames.pop();
@@ -106,7 +188,8 @@ pub fn try_below(
 {
     frames.push(frame)?;
     let depth = deep();
-    if descend(alloc, frames, depth, language, nonterminal, token, second)? {
+    let starter = starter_of(token, second);
+    if descend(alloc, frames, depth, language, nonterminal, token, starter)? {
         return Ok(None);
     }
     match frames.pop() {

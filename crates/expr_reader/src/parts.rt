@@ -67,6 +67,50 @@ fn keep(kids: &mut Vec<Raw>, class: Class, token: &Token) -> Result<(), AllocErr
     Ok(())
 }
 
+/// How many parts most values of the production have; 0 where that differs.
+fn room(production: Production) -> usize
+    ensures { result ≤ 3 }
+{
+    match production {
+        Production::Number
+        | Production::Literal
+        | Production::Variable
+        | Production::Parens
+        | Production::NameTested
+        | Production::KindTested
+        | Production::TestStep
+        | Production::AttributeStep
+        | Production::StepAfter
+        | Production::DeepAfter
+        | Production::PlainKind
+        | Production::ItemChars
+        | Production::PartChars => 1,
+        Production::Chain(_)
+        | Production::Operated(_)
+        | Production::Steps
+        | Production::RootSteps
+        | Production::RootedDeep
+        | Production::AxisStep
+        | Production::FilterStep
+        | Production::Call
+        | Production::Element
+        | Production::Child
+        | Production::Full => 2,
+        Production::Conditional | Production::Bind | Production::LetBind => 3,
+        _ => 0,
+    }
+}
+
+/// Makes room for the first part of the production.
+fn make_room(kids: &mut Vec<Raw>, production: Production) -> Result<(), AllocError>
+    ensures { kids.new.items ≡ kids.old.items }
+{
+    if kids.is_empty() {
+        kids.reserve_exact(room(production))?;
+    }
+    Ok(())
+}
+
 /// Takes a token that is wanted. It adds no level.
 #[tactic(auto, using(crate::proofs::ViewLemmas::views, crate::proofs::CapLemmas::kept))]
 pub fn with_token(frame: Frame, class: Class, token: &Token) -> Result<Frame, AllocError>
@@ -82,6 +126,7 @@ pub fn with_token(frame: Frame, class: Class, token: &Token) -> Result<Frame, Al
         within,
     } = frame;
     let mut kids = kids;
+    make_room(&mut kids, production)?;
     keep(&mut kids, class, token)?;
     Ok(Frame {
         production,
@@ -153,6 +198,7 @@ fn with_value(
         ));
     }
     let mut kids = kids;
+    make_room(&mut kids, production)?;
     kids.push(raw)?;
     Ok((
         Frame {

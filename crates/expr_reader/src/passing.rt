@@ -4,24 +4,39 @@ ghost use Rattle.std.specs.Prelude.{◌≡◌, ◌≤◌, ◌∷◌, List, None,
 ghost use Rattle.expr_terms.specs.declared.choices.Second.{Second};
 ghost use Rattle.expr_terms.specs.declared.productions.Language.{Language};
 ghost use Rattle.expr_terms.specs.declared.raws.Raw.{Raw as Value};
+ghost use Rattle.expr_terms.specs.declared.productions.Nonterminal.TheVariants.{Tail as tail};
 ghost use Rattle.expr_terms.specs.Productions.{body};
 ghost use Rattle.expr_grammar.specs.Machine.{Frame as Open, descend, deep, along, through, advance};
 ghost use Rattle.expr_reader.specs.View.{frame_of, frames_of, with_value};
 
 use crate::frames::Frame;
 use crate::parts::symbol;
-use expr_terms::{Class, Key, Nonterminal, Production, Symbol, Token, fits, passes};
+use expr_terms::{
+    Class, Key, Level, Nonterminal, Production, Symbol, Token, fits, fits_key, force, passes, tight,
+};
+
+/// Whether the token is no operator of the level.
+#[tactic(auto, using(crate::proofs::PassingLemmas::refusals))]
+fn refuses_tail(level: Level, token: &Token) -> bool
+    ensures { result ≡ true → (l : Language) (s : Second) (fs : List Open) →
+        descend l deep (tail level) token.now s fs ≡ None }
+{
+    match level {
+        Level::Instances => !fits_key(Key::InstanceWord, token),
+        Level::Treats => !fits_key(Key::TreatWord, token),
+        Level::Castables => !fits_key(Key::CastableWord, token),
+        Level::Casts => !fits_key(Key::CastWord, token),
+        _ => force(token) != tight(level),
+    }
+}
 
 /// Whether the token is known not to begin the nonterminal.
 #[tactic(auto, using(crate::proofs::PassingLemmas::refusals))]
-fn refuses(nonterminal: Nonterminal, token: &Token) -> bool
+pub fn refuses(nonterminal: Nonterminal, token: &Token) -> bool
     ensures { result ≡ true → (l : Language) (s : Second) (fs : List Open) → descend l deep nonterminal token.now s fs ≡ None }
 {
     match nonterminal {
-        Nonterminal::Tail(level) => match symbol(Production::Operated(level), 0) {
-            Some(Symbol::Tok(class)) => !fits(class, token),
-            _ => false,
-        },
+        Nonterminal::Tail(level) => refuses_tail(level, token),
         Nonterminal::CommaItem => !fits(Class::Key(Key::Comma), token),
         Nonterminal::Predicate => !fits(Class::Key(Key::OpenBracket), token),
         Nonterminal::StepMore => {
@@ -50,7 +65,14 @@ fn stops(production: Production, place: usize, token: &Token) -> bool
 fn passes_on(frame: &Frame, token: &Token) -> bool
     ensures { result ≡ true → (l : Language) (s : Second) (v : Value) (fs : List Open) → advance l token.now s (with_value v (frame_of frame.now ∷ fs)) ≡ advance l token.now s (with_value v fs) }
 {
-    frame.kids.is_empty() && passes(frame.production) && stops(frame.production, frame.place, token)
+    match frame.production {
+        Production::Chain(level) if frame.place == 1 => {
+            frame.kids.is_empty() && refuses_tail(level, token)
+        }
+        production => {
+            frame.kids.is_empty() && passes(production) && stops(production, frame.place, token)
+        }
+    }
 }
 
 /// How many of the productions are left below those that a value passes.

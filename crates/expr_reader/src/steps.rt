@@ -9,7 +9,7 @@ use crate::counts::chosen;
 use crate::frames::{Frame, Value};
 use crate::fronts::try_below;
 use crate::parts::{Gift, closed, give, symbol, with_token};
-use crate::passing::pass_up;
+use crate::passing::{pass_up, refuses};
 use crate::readings::Reading;
 use expr_nest::Measure;
 use expr_terms::{Language, Production, Raw, Second, Symbol, Token, begins, fits};
@@ -79,12 +79,18 @@ fn along(
         }
         Some(Symbol::Maybe(inner)) => {
             let frame = past(frame);
+            if refuses(inner, token) {
+                return along(alloc, frames, frame, language, token, second);
+            }
             match try_below(alloc, frames, frame, language, inner, token, second)? {
                 None => Ok(Way::Moved),
                 Some(frame) => along(alloc, frames, frame, language, token, second),
             }
         }
         Some(Symbol::Many(inner)) => {
+            if refuses(inner, token) {
+                return along(alloc, frames, past(frame), language, token, second);
+            }
             match try_below(alloc, frames, frame, language, inner, token, second)? {
                 None => Ok(Way::Moved),
                 Some(frame) => {

@@ -1,4 +1,4 @@
-use Rattle.std.proofs.Common.{length, ◌==◌, refl, sym, subst, ◌∙◌, ap, min, arith}
+use Rattle.std.proofs.Common.{length, ◌==◌, ◌++◌, ◌∷◌, [], refl, sym, subst, ◌∙◌, ap, min, arith}
 use Rattle.expr_nest.specs.Held.{held}
 use Rattle.expr_nest.specs.Measures.{widest}
 use Rattle.expr_reader.specs.Counts.{SameCount}
@@ -32,11 +32,11 @@ invariant_of-result-2 c =
     c.is_empty-alone.result c.args.frame.counted c.args.frame.counted_within
     c.args.value.counted c.args.value.counted_within (x, y, d, c.counted.ensures, omega arith)
     (omega arith) in
+    let same = c.in_ok-push.ensures.items ∙ ap (λ ks. ks ++ c.args.value.raw ∷ []) c.make_room.ensures in
     record {
       counted = subst (λ ks. SameCount c.min-more.result (held c.args.frame.production ks)) (sym
-          c.in_ok-push.ensures.items) k.0;
-      counted_within = subst (λ ks. SameCount c.min-widest.result (widest ks)) (sym
-          c.in_ok-push.ensures.items) k.1;
+          same) k.0;
+      counted_within = subst (λ ks. SameCount c.min-widest.result (widest ks)) (sym same) k.1;
       small = omega arith;
       small_within = omega arith;
     }

@@ -1,6 +1,6 @@
 use Rattle.std.proofs.Common.{rules}
 use Rattle.expr_reader.proofs.ViewLemmas.{views}
-use Rattle.expr_reader.proofs.fronts.open_front.Goals as goal
+use Rattle.expr_reader.proofs.fronts.open_production.Goals as goal
 
 pub with_token-requires-clause-wanted : goal.with_token-requires-clause-wanted
 with_token-requires-clause-wanted c = rw (c.opened-frame.ensures.production, c.opened-frame.ensures.place) (rw c.in-Some-Tok.field-0-is at c.in-Some-Tok.ensures.wanted)
