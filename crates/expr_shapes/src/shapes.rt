@@ -1,6 +1,7 @@
-ghost use Rattle.std.specs.Prelude.{◌≡◌, ◌&&◌, IfOk, Option, map};
+ghost use Rattle.std.specs.Prelude.{◌≡◌, ◌&&◌, true, false, None, IfOk, Option, map, List as Items};
+ghost use Rattle.expr_terms.specs.declared.raws.Raw.TheOpen.{Node};
 ghost use Rattle.std.specs.List.{list_all};
-ghost use Rattle.expr_shapes.specs.Shapes.{tag_in, last_tag, first_tag, passed_tag, ends_alike, declares_nothing, own_shape, shape_of, is_shaped, is_good};
+ghost use Rattle.expr_shapes.specs.Shapes.{tag_in, last_tag, first_tag, passed_tag, ends_alike, declares_nothing, own_shape, shape_layer, shape_of, is_shaped, is_good};
 
 use expr_terms::{Production, Raw, Token};
 use std::alloc::{AllocError, Global};
@@ -134,6 +135,31 @@ fn are_good(shapes: &[Shape]) -> bool
     shapes.iter().all(|shape| shape.good)
 }
 
+/// Whether the tags in the parts of the production say something of it. Of all others it is enough
+/// to know whether their parts are shaped.
+#[tactic(auto, unfolding(crate::specs::Shapes::own_shape, crate::specs::Shapes::passed_tag))]
+fn reads_tags(production: Production) -> bool
+    ensures own { result ≡ false → (ss : Items Shape) → own_shape production ss ≡ true }
+    ensures passed { result ≡ false → (ss : Items Shape) → passed_tag production ss ≡ None }
+{
+    match production {
+        Production::Element | Production::Child | Production::Full | Production::Paired => true,
+        _ => false,
+    }
+}
+
+/// The shape of a production, of whose parts these are the shapes.
+fn shape_with(production: Production, shapes: &[Shape]) -> Result<Shape, AllocError>
+    ensures { IfOk result (λ shape. shape ≡ shape_layer (Node production shapes.now)) }
+{
+    let tag = passed_tag(production, shapes)?;
+    let own = own_shape(production, shapes)?;
+    Ok(Shape {
+        good: are_good(shapes) && own,
+        tag,
+    })
+}
+
 #[cycle(shapes)]
 fn shape_of(alloc: Global, raw: &Raw) -> Result<Shape, AllocError>
     ensures { IfOk result (λ shape. shape ≡ shape_of raw.now) }
@@ -144,15 +170,29 @@ fn shape_of(alloc: Global, raw: &Raw) -> Result<Shape, AllocError>
             tag: tag_in(token)?,
         }),
         Raw::Node(production, parts) => {
-            let shapes = shapes_of(alloc, parts.as_slice())?;
-            let tag = passed_tag(*production, shapes.as_slice())?;
-            let own = own_shape(*production, shapes.as_slice())?;
-            Ok(Shape {
-                good: are_good(shapes.as_slice()) && own,
-                tag,
-            })
+            if reads_tags(*production) {
+                let shapes = shapes_of(alloc, parts.as_slice())?;
+                shape_with(*production, shapes.as_slice())
+            } else {
+                Ok(Shape {
+                    good: are_shaped(alloc, parts.as_slice())?,
+                    tag: None,
+                })
+            }
         }
     }
+}
+
+#[cycle(shapes)]
+fn are_shaped(alloc: Global, raws: &[Raw]) -> Result<bool, AllocError>
+    ensures { IfOk result (λ good. good ≡ list_all is_good (map shape_of raws.now)) }
+{
+    for raw in raws {
+        if !shape_of(alloc, raw)?.good {
+            return Ok(false);
+        }
+    }
+    Ok(true)
 }
 
 #[cycle(shapes)]
