@@ -51,7 +51,7 @@ fn parts_onward(
 ) -> Result<List<Meant>, ResolveFault>
     ensures { Answers result (steps_broken s.now production [] (map (found_of s.now) raws.now)) (values (map (found_of s.now) raws.now)) }
 {
-    let mut made = List::new(alloc);
+    let mut made = List::of_vec(Vec::with_capacity(alloc, raws.len())?);
     for raw in raws {
         let last = made.len() + 1 == raws.len();
         let part = part_of(alloc, s, raw);
