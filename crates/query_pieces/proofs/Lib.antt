@@ -1,5 +1,6 @@
 pub mod AheadLemmas
 pub mod AnswerLemmas
+pub mod AskLemmas
 pub mod ElementLemmas
 pub mod FrontLemmas
 pub mod LiteralLemmas

@@ -8,7 +8,7 @@ use xpath_lex::{TokenKind, token_at};
 
 /// What stands next between tokens of expressions.
 #[derive(Clone, Copy)]
-pub(crate) enum Ahead<'a> {
+pub enum Ahead<'a> {
     /// A token, its text and what is left behind it.
     Token(TokenKind, &'a str, &'a str),
     /// The end of the text.

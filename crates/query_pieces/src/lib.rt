@@ -28,6 +28,7 @@ mod seconds;
 mod spellings;
 mod stacks;
 
+pub use aheads::Ahead;
 pub use contexts::{Before, Change, Context, Quote};
 pub use laws::reads_one;
-pub use pieces::{Found, Pieces};
+pub use pieces::{Found, Pieces, asks, second};

@@ -10,8 +10,9 @@ ghost use Rattle.query_pieces.specs.Points.{before_of, before_of_key};
 ghost use Rattle.query_pieces.specs.Fronts.{begins};
 ghost use Rattle.query_pieces.specs.Points.{moved, Point};
 ghost use Rattle.query_pieces.specs.Readings.{touches, may_open, opens, IsNext};
-ghost use Rattle.query_pieces.specs.Readings.{Splits};
+ghost use Rattle.query_pieces.specs.Readings.{Reads, Splits};
 ghost use Rattle.query_pieces.specs.Answers.{Answers, Stays};
+ghost use Rattle.query_pieces.specs.Aheads.{Leads, Sees};
 ghost use Rattle.expr_terms.specs.Choices.{open_next, second_of};
 ghost use Rattle.query_pieces.specs.declared.contexts.Before.TheVariants.{Other as other};
 
@@ -223,15 +224,21 @@ impl<'a> Pieces<'a> {
 
     /// Takes what stands next between tokens of expressions.
     #[tactic(auto, using(crate::proofs::AnswerLemmas::staying))]
-    fn read_token(&mut self, alloc: Global, operand: bool) -> Result<Found, AllocError>
-        requires { in_expression self.old.contexts ≡ true }
+    fn read_token(
+        &mut self,
+        alloc: Global,
+        operand: bool,
+        ahead: Ahead<'a>,
+    ) -> Result<Found, AllocError>
+        requires inside { in_expression self.old.contexts ≡ true }
+        requires leads { Leads self.old.rest ahead }
         ensures answers { IfOk result (λ found. Answers operand self.old found self.new) }
         ensures stays { IfOk result (λ found. Stays found self.old self.new) }
     {
         if touches(self.before, self.rest) {
             return Ok(Found::Nothing);
         }
-        match next_of(self.rest) {
+        match ahead {
             Ahead::Token(kind, text, rest) => {
                 if opens(operand, self.before, text, rest) {
                     self.open(alloc, rest)
@@ -260,24 +267,27 @@ impl<'a> Pieces<'a> {
         }
     }
 
-    /// Takes the token or piece that stands next. `operand` says whether an operand may stand
-    /// there: where one may, `<` directly before a name begins a direct element (XQuery 1.0,
-    /// 3.7.1). End is told where the text is over, and Nothing where no token and no piece may be
-    /// read; then the reading stays where it is.
+    /// Takes the token or piece that stands next, of which this is seen. `operand` says whether an
+    /// operand may stand there: where one may, `<` directly before a name begins a direct element
+    /// (XQuery 1.0, 3.7.1). End is told where the text is over, and Nothing where no token and no
+    /// piece may be read; then the reading stays where it is.
     #[tactic(auto, using(crate::proofs::AnswerLemmas::staying))]
-    pub fn read(&mut self, alloc: Global, operand: bool) -> Result<Found, AllocError>
+    pub fn read(
+        &mut self,
+        alloc: Global,
+        operand: bool,
+        ahead: Option<Ahead<'a>>,
+    ) -> Result<Found, AllocError>
+        requires { Sees self.old ahead }
         ensures answers { IfOk result (λ found. Answers operand self.old found self.new) }
         ensures stays { IfOk result (λ found. Stays found self.old self.new) }
     {
-        match self.contexts.top() {
-            None => self.read_token(alloc, operand),
-            Some(context) => {
-                if is_enclosed(context) {
-                    self.read_token(alloc, operand)
-                } else {
-                    self.read_piece(alloc, context)
-                }
-            }
+        match ahead {
+            Some(ahead) => self.read_token(alloc, operand, ahead),
+            None => match self.contexts.top() {
+                None => Ok(Found::Nothing),
+                Some(context) => self.read_piece(alloc, context),
+            },
         }
     }
 
@@ -291,19 +301,44 @@ impl<'a> Pieces<'a> {
         }
     }
 
-    /// What the tokens that come next tell of the one before them: that `(`, `::`, `$`, `{`, or a
-    /// name and `{` stands there, or none of these. Nothing is taken.
-    pub fn second(&self) -> Second
-        ensures { (ts : List Token) → Splits self.now ts → result ≡ second_of ts }
+    /// What stands next between tokens of expressions; None inside the tags and the content of a
+    /// direct element. Nothing is taken.
+    pub fn ahead(&self) -> Option<Ahead<'a>>
+        ensures { Sees self.now result }
     {
-        if !self.in_expression() {
-            return Second::Alone;
+        if self.in_expression() {
+            Some(next_of(self.rest))
+        } else {
+            None
         }
-        match next_of(self.rest) {
-            Ahead::Token(kind, text, rest) => second_of(kind, text, rest),
-            Ahead::Over => Second::Alone,
-            Ahead::Fault => Second::Alone,
-        }
+    }
+}
+
+/// What the tokens that come next, of which this is seen, tell of the one before them: that `(`,
+/// `::`, `$`, `{`, or a name and `{` stands there, or none of these.
+pub fn second(ahead: Option<Ahead<'_>>) -> Second
+    ensures { (p : Point) (ts : List Token) → Sees p ahead.entry → Splits p ts
+        → result ≡ second_of ts }
+{
+    match ahead {
+        Some(Ahead::Token(kind, text, rest)) => second_at(kind, text, rest),
+        Some(Ahead::Over) => Second::Alone,
+        Some(Ahead::Fault) => Second::Alone,
+        None => Second::Alone,
+    }
+}
+
+/// Whether `<` comes next and directly behind it a name, where this is seen. Elsewhere it does not
+/// matter whether an operand may stand there.
+pub fn asks(ahead: Option<Ahead<'_>>) -> bool
+    ensures { result ≡ false → (p : Point) → Sees p ahead.entry → (a b : Bool) (t : Token)
+        (q : Point) → Reads a p t q → Reads b p t q }
+{
+    match ahead {
+        Some(Ahead::Token(_, text, rest)) => is_ascii_text(text, "<") && begins_name(rest),
+        Some(Ahead::Over) => false,
+        Some(Ahead::Fault) => false,
+        None => false,
     }
 }
 
@@ -321,7 +356,7 @@ fn opens_brace(text: &str) -> bool
 }
 
 /// What the token, and what is left behind it, tell of the word before.
-fn second_of(kind: TokenKind, text: &str, rest: &str) -> Second
+fn second_at(kind: TokenKind, text: &str, rest: &str) -> Second
     ensures { (p : Point) (u : Placed) (ts : List Token) → IsNext p u (chars rest.now)
         → u.kind ≡ kind → u.characters ≡ chars text.now → Splits p ts → result ≡ second_of ts }
 {

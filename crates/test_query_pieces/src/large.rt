@@ -1,6 +1,6 @@
 // Large inputs: no depth takes stack of the machine, and the time is linear.
 use crate::shown::{push, repeated};
-use query_pieces::{Found, Pieces};
+use query_pieces::{Found, Pieces, second};
 use std::alloc::AllocGlobal;
 use std::process::Abort;
 
@@ -11,8 +11,9 @@ const MANY: usize = 1_000_000;
 fn count(rt: &(impl Abort + AllocGlobal), text: &str) -> Option<usize> {
     let mut pieces = Pieces::new(rt.alloc(), text);
     for count in 0..=text.len() {
-        let _second = pieces.second();
-        match pieces.read(rt.alloc(), true).expect(rt, "memory") {
+        let ahead = pieces.ahead();
+        let _second = second(ahead);
+        match pieces.read(rt.alloc(), true, ahead).expect(rt, "memory") {
             Found::Token(token) => drop(token),
             Found::End => {
                 drop(pieces);

@@ -1,6 +1,6 @@
 // What the tokens that come next tell of the word before them.
 use expr_terms::Second;
-use query_pieces::Pieces;
+use query_pieces::{Pieces, second};
 
 fn name_of(second: Second) -> &'static str {
     match second {
@@ -36,7 +36,7 @@ fn seconds(rt: HostRuntime) {
     ];
     for (text, expected) in cases {
         let pieces = Pieces::new(rt.alloc(), text);
-        assert_eq!(rt; name_of(pieces.second()), expected);
+        assert_eq!(rt; name_of(second(pieces.ahead())), expected);
         drop(pieces);
     }
 }

@@ -88,7 +88,11 @@ fn walked(rt: &(impl Abort + AllocGlobal), text: &str, always: bool, never: bool
     let mut operand = true;
     for _ in 0..=text.len() {
         let may_stand = always || (operand && !never);
-        match pieces.read(rt.alloc(), may_stand).expect(rt, "memory") {
+        let ahead = pieces.ahead();
+        match pieces
+            .read(rt.alloc(), may_stand, ahead)
+            .expect(rt, "memory")
+        {
             Found::Token(token) => {
                 push_token(rt, &mut out, &token);
                 push(rt, &mut out, " ");

@@ -1,10 +1,10 @@
 use Rattle.std.proofs.Common.{sym, ◌∙◌}
 use Rattle.query_pieces.proofs.SecondLemmas.{named_second, named_plain, other_second}
-use Rattle.query_pieces.proofs.pieces.second_of.Goals.{
+use Rattle.query_pieces.proofs.pieces.second_at.Goals.{
   else-is_name-via-then-is_name+else-opens_brace,
 }
-use Rattle.query_pieces.proofs.pieces.second_of.Goals.{else-is_name-via-else-is_name}
-use Rattle.query_pieces.proofs.pieces.second_of.Goals as goal
+use Rattle.query_pieces.proofs.pieces.second_at.Goals.{else-is_name-via-else-is_name}
+use Rattle.query_pieces.proofs.pieces.second_at.Goals as goal
 
 pub returns-then-opens_brace : goal.returns-then-opens_brace
 returns-then-opens_brace c = λ p u ts n k e split.
