@@ -239,17 +239,18 @@ led k g p ts q us t h e b r x = go (suits h.mode b p t r us h.leads h.lone x)
     go (inr y) = y
     go (inl y) = absurd (none-some q (sym (turned_to k g p.before ts us t h machine.refused y) ∙ e))
 
-abbrev pub Wants : Stage → Bool → Type 0
-Wants s w = (k : ℕ) (m : Mode) (ts : List Token) → Stands k s m ts → w ≡ wants m
+-- what may be read where an operand is or is not wanted may be read under this
+abbrev pub Wants : Stage → Point → Bool → Type 0
+Wants s p w = (k : ℕ) (m : Mode) (ts : List Token) → Stands k s m ts → (t : Token) (r : Point)
+    → Reads (wants m) p t r → Reads w p t r
 
 led_as : (k : ℕ) (g : Progress) (w : Bool) (p : Point) (ts : List Token) (q : RawQuery)
-    (us : List Token) (t : Token) → Wants g.stage w → Here k g p.before ts (t ∷ us)
+    (us : List Token) (t : Token) → Wants g.stage p w → Here k g p.before ts (t ∷ us)
     → read_query ts ≡ Some q → (b : Bool) (r : Point) → Reads b p t r → Reads w p t r
 led_as k g w p ts q us t f h e b r x =
-    subst (λ z. Reads z p t r) (sym (f k h.mode (t ∷ us) h.stands))
-    (led k g p ts q us t h e b r x)
+    f k h.mode (t ∷ us) h.stands t r (led k g p ts q us t h e b r x)
 
-pub stuck : (k : ℕ) (text : List ℕ) (g : Progress) (p : Point) (w : Bool) → Wants g.stage w
+pub stuck : (k : ℕ) (text : List ℕ) (g : Progress) (p : Point) (w : Bool) → Wants g.stage p w
     → Standing k text g p → IsStuck w p → ReadAs text k reading.Nothing
 stuck k text g p w f s i q (spelled {ts = ts} a b) =
     let e = spells_reads b in
@@ -274,7 +275,7 @@ record Left (k : ℕ) (g : Progress) (p r : Point) (t : Token) (ts : List Token)
   here : Here k g p.before ts (t ∷ tokens)
 
 left : (k : ℕ) (text : List ℕ) (g : Progress) (p r : Point) (w : Bool) (t : Token)
-    → Wants g.stage w → Standing k text g p → Reads w p t r → (ts : List Token) (q : RawQuery)
+    → Wants g.stage p w → Standing k text g p → Reads w p t r → (ts : List Token) (q : RawQuery)
     → Splits (start text) ts → read_query ts ≡ Some q → Left k g p r t ts
 left k text g p r w t f s x ts q a e =
     let o = s.onward ts q a e in go o.tokens o.splits o.here
@@ -290,7 +291,7 @@ left k text g p r w t f s x ts q a e =
         }
 
 pub taken_none : (k : ℕ) (text : List ℕ) (g : Progress) (p r : Point) (w : Bool) (t : Token)
-    (n : Second) (x : Option Progress) → Wants g.stage w → Standing k text g p → Reads w p t r
+    (n : Second) (x : Option Progress) → Wants g.stage p w → Standing k text g p → Reads w p t r
     → ((us : List Token) → Splits r us → n ≡ second_of us) → Taken k g t n x → x ≡ None
     → ReadAs text k reading.Nothing
 taken_none k text g p r w t n x f s y z j e q (spelled {ts = ts} a b) =
@@ -302,7 +303,7 @@ taken_none k text g p r w t n x f s y z j e q (spelled {ts = ts} a b) =
     none-some q (sym none ∙ i)
 
 pub taken_some : (k : ℕ) (text : List ℕ) (g : Progress) (p r : Point) (w : Bool) (t : Token)
-    (n : Second) (x : Option Progress) (v : Progress) → Wants g.stage w → Standing k text g p
+    (n : Second) (x : Option Progress) (v : Progress) → Wants g.stage p w → Standing k text g p
     → Reads w p t r → ((us : List Token) → Splits r us → n ≡ second_of us) → Taken k g t n x
     → x ≡ Some v → Standing k text v r
 taken_some k text g p r w t n x v f s y z j e =

@@ -8,6 +8,7 @@ use Rattle.query_grammar.specs.Machine.{Mode, front, behind, run, read_query, is
 use Rattle.query_pieces.specs.declared.contexts.Before.{Before}
 use Rattle.query_pieces.specs.declared.contexts.Before.TheVariants.{Slash as slash_key}
 use Rattle.query_pieces.specs.Points.{Point, start}
+use Rattle.query_pieces.specs.Aheads.{Sees}
 use Rattle.query_pieces.specs.Readings.{Splits}
 use Rattle.query_steps.specs.Stands.{IsKept, Stands}
 use Rattle.query_texts.specs.declared.orders.Order.{Order}
@@ -86,8 +87,13 @@ pub record Closes (k : ℕ) (o : Option Declared) (order : Order) (deep : Bool) 
 
 abbrev pub Follows : ℕ → List ℕ → Next → Point → Type 0
 Follows k text (next.Ends r) p = ReadAs text k r
-Follows k text (next.Onto g) p = Standing k text g p
+Follows k text (next.Onto g a) p = Standing k text g p
 
 abbrev pub IsShorter : Next → Point → Point → Type 0
 IsShorter (next.Ends r) p q = Unit {0}
-IsShorter (next.Onto g) p q = length q.rest < length p.rest
+IsShorter (next.Onto g a) p q = length q.rest < length p.rest
+
+-- what is seen of the rest
+abbrev pub SeesOn : Next → Point → Type 0
+SeesOn (next.Ends r) p = Unit {0}
+SeesOn (next.Onto g a) p = Sees p a

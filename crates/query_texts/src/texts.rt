@@ -3,19 +3,22 @@ ghost use Rattle.std.specs.Prelude.{◌≡◌, ◌∷◌, [], ℕ, List, IfOk};
 ghost use Rattle.std.specs.Str.{chars};
 ghost use Rattle.expr_terms.specs.declared.tokens.Token.{Token as Term};
 ghost use Rattle.expr_terms.specs.Choices.{second_of};
-ghost use Rattle.query_grammar.specs.Machine.{read_query};
+ghost use Rattle.query_grammar.specs.Machine.{Mode, read_query, wants};
+ghost use Rattle.query_steps.specs.Stands.{Stands};
 ghost use Rattle.query_pieces.specs.declared.contexts.Before.{Before};
-ghost use Rattle.query_pieces.specs.Points.{before_of};
+ghost use Rattle.query_pieces.specs.Points.{Point, before_of};
+ghost use Rattle.query_pieces.specs.Aheads.{Sees};
+ghost use Rattle.query_pieces.specs.Readings.{Reads};
 ghost use Rattle.query_texts.specs.Texts.{ReadAs};
 ghost use Rattle.query_texts.specs.Standings.{Here, Standing, Judged, Takes, Closes, Follows};
-ghost use Rattle.query_texts.specs.Standings.{IsShorter};
+ghost use Rattle.query_texts.specs.Standings.{IsShorter, SeesOn};
 
 use crate::orders::{Order, placed};
 use crate::readings::QueryReading;
 use expr_reader::Reading;
 use expr_terms::{Second, Token};
 use query_grammar::{Declared, RawQuery};
-use query_pieces::{Found, Pieces};
+use query_pieces::{Ahead, Found, Pieces, asks, second};
 use query_steps::{Stage, Turn, finish, step, wants};
 use std::alloc::{AllocError, Global};
 use xt_names::List;
@@ -33,9 +36,10 @@ struct Progress {
 
 /// What comes of a token.
 #[derive(Drop)]
-enum Next {
+enum Next<'a> {
     Ends(QueryReading),
-    Onto(Progress),
+    /// How far the text is read then, and what is seen of the rest.
+    Onto(Progress, Option<Ahead<'a>>),
 }
 
 /// Behind a declaration.
@@ -129,26 +133,39 @@ fn end(alloc: Global, limit: u16, progress: Progress) -> Result<QueryReading, Al
     }
 }
 
-/// Reads one token on.
+/// Whether an operand may come next, where that matters.
+fn operand_at(stage: &Stage, ahead: Option<Ahead<'_>>) -> bool
+    ensures { (p : Point) → Sees p ahead.entry → (k : ℕ) (m : Mode) (ts : List Term)
+        → Stands k stage.now m ts → (t : Term) (q : Point) → Reads (wants m) p t q
+        → Reads result p t q }
+{
+    asks(ahead) && wants(stage)
+}
+
+/// Reads one token on, of which this is seen.
 #[tactic(auto, using(crate::proofs::StandingLemmas::standings))]
-fn read_on(
+fn read_on<'a>(
     alloc: Global,
     limit: u16,
-    pieces: &mut Pieces,
+    pieces: &mut Pieces<'a>,
     progress: Progress,
-) -> Result<Next, AllocError>
+    ahead: Option<Ahead<'a>>,
+) -> Result<Next<'a>, AllocError>
+    requires { Sees pieces.old ahead }
     ensures follows { IfOk result (λ next. (text : List ℕ) →
         Standing limit text progress pieces.old → Follows limit text next pieces.new) }
     ensures shorter { IfOk result (λ next. IsShorter next pieces.old pieces.new) }
+    ensures sees { IfOk result (λ next. SeesOn next pieces.new) }
 {
-    match pieces.read(alloc, wants(&progress.stage))? {
+    let operand = operand_at(&progress.stage, ahead);
+    match pieces.read(alloc, operand, ahead)? {
         Found::Nothing => Ok(Next::Ends(QueryReading::Nothing)),
         Found::End => Ok(Next::Ends(end(alloc, limit, progress)?)),
         Found::Token(token) => {
-            let second = pieces.second();
-            match take(alloc, limit, progress, token, second)? {
+            let seen = pieces.ahead();
+            match take(alloc, limit, progress, token, second(seen))? {
                 None => Ok(Next::Ends(QueryReading::Nothing)),
-                Some(further) => Ok(Next::Onto(further)),
+                Some(further) => Ok(Next::Onto(further, seen)),
             }
         }
     }
@@ -169,10 +186,14 @@ pub fn read_query(alloc: Global, text: &str, limit: u16) -> Result<QueryReading,
         is_deep: false,
         declared: List::new(alloc),
     };
+    let mut ahead = pieces.ahead();
     loop {
-        match read_on(alloc, limit, &mut pieces, progress)? {
+        match read_on(alloc, limit, &mut pieces, progress, ahead)? {
             Next::Ends(reading) => return Ok(reading),
-            Next::Onto(further) => progress = further,
+            Next::Onto(further, seen) => {
+                progress = further;
+                ahead = seen;
+            }
         }
     }
 }

@@ -9,20 +9,22 @@ pub returns-in-Nothing : goal.returns-in-Nothing
 returns-in-Nothing c =
     record {
       follows = λ text s.
-          stuck c.args.limit text c.args.progress c.args.pieces.now _ c.wants.ensures s
-          (subst (λ z. Answers c.wants.result c.args.pieces.now z c.read.new.self) c.in-Nothing.is
+          stuck c.args.limit text c.args.progress c.args.pieces.now _ (c.operand_at-operand.ensures c.args.pieces.now c.requires) s
+          (subst (λ z. Answers c.operand_at-operand.result c.args.pieces.now z c.read.new.self) c.in-Nothing.is
           c.in_ok-read.ensures.answers);
       shorter = tt;
+      sees = tt;
     }
 
-pub returns-in_ok-end-in-End : goal.returns-in_ok-end-in-End
-returns-in_ok-end-in-End c =
+pub returns-in-End : goal.returns-in-End
+returns-in-End c =
     record {
       follows = λ text s.
           ending c.args.limit text c.args.progress c.args.pieces.now _ s
-          (subst (λ z. Answers c.wants.result c.args.pieces.now z c.read.new.self) c.in-End.is
+          (subst (λ z. Answers c.operand_at-operand.result c.args.pieces.now z c.read.new.self) c.in-End.is
           c.in_ok-read.ensures.answers) c.in_ok-end-in-End.ensures;
       shorter = tt;
+      sees = tt;
     }
 
 pub returns-in-None : goal.returns-in-None
@@ -30,24 +32,26 @@ returns-in-None c =
     record {
       follows = λ text s.
           taken_none c.args.limit text c.args.progress c.args.pieces.now c.read.new.self
-          c.wants.result c.in-Token.token c.second-second.result _ c.wants.ensures s
-          (subst (λ z. Answers c.wants.result c.args.pieces.now z c.read.new.self) c.in-Token.is
+          c.operand_at-operand.result c.in-Token.token c.second.result _ (c.operand_at-operand.ensures c.args.pieces.now c.requires) s
+          (subst (λ z. Answers c.operand_at-operand.result c.args.pieces.now z c.read.new.self) c.in-Token.is
           c.in_ok-read.ensures.answers)
-          c.second-second.ensures c.in_ok-take-in-Token.ensures c.in-None.is;
+          (λ us split. c.second.ensures c.read.new.self us c.ahead-seen.ensures split) c.in_ok-take-in-Token.ensures c.in-None.is;
       shorter = tt;
+      sees = tt;
     }
 
-pub returns-in-Some : goal.returns-in-Some
-returns-in-Some c =
-    let r : Reads c.wants.result c.args.pieces.now c.in-Token.token c.read.new.self =
-    subst (λ z. Answers c.wants.result c.args.pieces.now z c.read.new.self) c.in-Token.is
+pub returns : goal.returns
+returns c =
+    let r : Reads c.operand_at-operand.result c.args.pieces.now c.in-Token.token c.read.new.self =
+    subst (λ z. Answers c.operand_at-operand.result c.args.pieces.now z c.read.new.self) c.in-Token.is
     c.in_ok-read.ensures.answers in
     record {
       follows = λ text s.
           taken_some c.args.limit text c.args.progress c.args.pieces.now c.read.new.self
-          c.wants.result c.in-Token.token c.second-second.result _ c.in-Some.further c.wants.ensures
+          c.operand_at-operand.result c.in-Token.token c.second.result _ c.in-Some.further (c.operand_at-operand.ensures c.args.pieces.now c.requires)
           s r
-          c.second-second.ensures c.in_ok-take-in-Token.ensures c.in-Some.is;
+          (λ us split. c.second.ensures c.read.new.self us c.ahead-seen.ensures split) c.in_ok-take-in-Token.ensures c.in-Some.is;
       shorter =
-          reads_shorter c.wants.result c.args.pieces.now c.in-Token.token c.read.new.self r;
+          reads_shorter c.operand_at-operand.result c.args.pieces.now c.in-Token.token c.read.new.self r;
+      sees = c.ahead-seen.ensures;
     }
