@@ -1,0 +1,15 @@
+pub mod Swapped
+pub mod Rebuilt
+pub mod Reread
+pub mod Nests
+pub mod Found
+pub mod Shapes
+pub mod Rolled
+pub mod Fits
+pub mod Parts
+pub mod Joined
+pub mod Made
+pub mod Chained
+pub mod Good
+pub mod Grown
+pub mod Whole
