@@ -24,10 +24,10 @@ any-more f (x ∷ xs) y = let ih = any-more f xs y in elim (f x) as (λ b. (b ||
 has-more : (found : List ℕ) (i j : ℕ) → has (found ++ i ∷ []) j ≡ (has found j || nat_eq j i)
 has-more found i j = any-more (nat_eq j) found i
 
-same_place : (i j : ℕ) → nat_eq i j ≡ true → i ≡ j
+pub same_place : (i j : ℕ) → nat_eq i j ≡ true → i ≡ j
 same_place i j e = grind (arith, nat_tests, e)
 
-nat_eq-same : (n : ℕ) → nat_eq n n ≡ true
+pub nat_eq-same : (n : ℕ) → nat_eq n n ≡ true
 nat_eq-same n = search rules
 
 -- a place that is there stays
@@ -46,7 +46,7 @@ of_more {Y} found i j e here last =
     go refl f
 
 -- all that is found is reached
-abbrev AllReached : Graph → ℕ → List ℕ → Type 0
+abbrev pub AllReached : Graph → ℕ → List ℕ → Type 0
 AllReached g from found = (j : ℕ) → has found j ≡ true → Reaches g from j
 
 sound_place : (g : Graph) (from i : ℕ) (found : List ℕ) → AllReached g from found → Reaches g from i → AllReached g from (with_place found i)
@@ -62,10 +62,10 @@ sound_inner g from i size found all r =
     let P : Bool → Type 0 = λ b. AllReached g from (if b then with_place found i else found) in
     elim (nat_lt i size) as P [ true ↦ sound_place g from i found all r | false ↦ all ]
 
-head_is : (i : ℕ) (others : List ℕ) → has (i ∷ others) i ≡ true
+pub head_is : (i : ℕ) (others : List ℕ) → has (i ∷ others) i ≡ true
 head_is i others = rw (nat_eq-same i) refl
 
-in_tail : (i j : ℕ) (others : List ℕ) → has others j ≡ true → has (i ∷ others) j ≡ true
+pub in_tail : (i j : ℕ) (others : List ℕ) → has others j ≡ true → has (i ∷ others) j ≡ true
 in_tail i j others e = rw e (elim (nat_eq j i) as (λ b. (b || true) ≡ true) [ true ↦ refl | false ↦ refl ])
 
 sound_places : (g : Graph) (from size : ℕ) (found places : List ℕ) → AllReached g from found → ((j : ℕ) → has places j ≡ true → Reaches g from j) → AllReached g from (with_places size found places)
@@ -94,7 +94,7 @@ sound_turn g from next found all j e = ⊎_elim
     absurd (no_true (sym no))))
     (cases_lt next (length found))
 
-sound : (k : ℕ) (g : Graph) (from next : ℕ) (found : List ℕ) → AllReached g from found → AllReached g from (walked k g next found)
+pub sound : (k : ℕ) (g : Graph) (from next : ℕ) (found : List ℕ) → AllReached g from found → AllReached g from (walked k g next found)
 sound zero g from next found all = all
 sound (suc k) g from next found all =
     sound k g from (suc next) (with_places (length g) found (led_to g (get_or found next (length g))))
@@ -141,6 +141,47 @@ few_place n i found h few =
 
 below : (i n : ℕ) → nat_lt i n ≡ true → i < n
 below i n e = grind (arith, nat_tests, e)
+
+-- no place past the graph is found
+abbrev AllInner : ℕ → List ℕ → Type 0
+AllInner n found = (j : ℕ) → has found j ≡ true → j < n
+
+inner_place : (n i : ℕ) (found : List ℕ) → i < n → AllInner n found → AllInner n (with_place found i)
+inner_place n i found h all =
+    let P : Bool → Type 0 = λ b. AllInner n (if b then found else found ++ i ∷ []) in
+    elim (has found i) as P [
+      | true ↦ all
+      | false ↦ λ j e. of_more found i j e (all j) (λ same. omega (arith, same, h))
+    ]
+
+inner_inner : (n i : ℕ) (found : List ℕ) → AllInner n found → AllInner n (with_inner n found i)
+inner_inner n i found all =
+    let P : Bool → Type 0 = λ b. nat_lt i n ≡ b → AllInner n (if b then with_place found i else found) in
+    let go : P (nat_lt i n) = elim (nat_lt i n) as P [ true ↦ λ e. inner_place n i found (below i n e) all | false ↦ λ e. all ] in
+    go refl
+
+inner_places : (n : ℕ) (found places : List ℕ) → AllInner n found → AllInner n (with_places n found places)
+inner_places n found [] all = all
+inner_places n found (i ∷ others) all = inner_places n (with_inner n found i) others (inner_inner n i found all)
+
+inner_walked : (k : ℕ) (g : Graph) (next : ℕ) (found : List ℕ) → AllInner (length g) found → AllInner (length g) (walked k g next found)
+inner_walked zero g next found all = all
+inner_walked (suc k) g next found all =
+    inner_walked k g (suc next) (with_places (length g) found (led_to g (get_or found next (length g))))
+    (inner_places (length g) found (led_to g (get_or found next (length g))) all)
+
+inner_first : (n from : ℕ) → from < n → AllInner n (from ∷ [])
+inner_first n from h j e =
+    let P : Bool → Type 0 = λ b. nat_eq j from ≡ b → (b || false) ≡ true → j < n in
+    let go : P (nat_eq j from) = elim (nat_eq j from) as P [
+      | true ↦ λ s k. (let same = same_place j from s in omega (arith, same, h))
+      | false ↦ λ s k. absurd (no_true (sym k))
+    ] in
+    go refl e
+
+pub all_inner : (g : Graph) (from : ℕ) → from < length g → (j : ℕ) → has (reached_from g from) j ≡ true → j < length g
+unfolding reached_from
+all_inner g from h = inner_walked (length g) g 0 (from ∷ []) (inner_first (length g) from h)
 
 few_inner : (n i : ℕ) (found : List ℕ) → AreFew n found → AreFew n (with_inner n found i)
 few_inner n i found few =
@@ -280,7 +321,7 @@ complete g from found first few closed _ (further i j r e) h = ⊎_elim
     (λ ge. (let no : has [] j ≡ true = rw (nothing_past g i ge) at e in absurd (no_true (sym no))))
     (cases_lt i (length g))
 
-reached_at_first : (g : Graph) (from : ℕ) → AllReached g from (from ∷ [])
+pub reached_at_first : (g : Graph) (from : ℕ) → AllReached g from (from ∷ [])
 reached_at_first g from j e =
     let P : Bool → Type 0 = λ b. nat_eq j from ≡ b → (b || false) ≡ true → Reaches g from j in
     let go : P (nat_eq j from) = elim (nat_eq j from) as P [
@@ -288,6 +329,11 @@ reached_at_first g from j e =
       | false ↦ λ s k. absurd (no_true (sym k))
     ] in
     go refl e
+
+-- a walk finds nothing that is not reached
+pub all_reached : (g : Graph) (from : ℕ) → AllReached g from (reached_from g from)
+unfolding reached_from
+all_reached g from = sound (length g) g from 0 (from ∷ []) (reached_at_first g from)
 
 pub are_reached : (g : Graph) (from : ℕ) (found : List ℕ) → found ≡ reached_from g from → from < length g → AreReached g from found
 unfolding reached_from
