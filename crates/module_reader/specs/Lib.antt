@@ -1,3 +1,4 @@
+pub mod InForce
 pub mod Links
 pub mod Mentions
 pub mod Modules

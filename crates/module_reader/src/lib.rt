@@ -11,6 +11,7 @@
 //! in mode 1; its modes are the default mode and `m`.
 #![tactic(auto, using(expr_names::proofs::Follow::fault_first, expr_names::proofs::Follow::fault_next))]
 
+mod in_force;
 mod laws;
 mod links;
 mod mentions;

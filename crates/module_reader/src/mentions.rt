@@ -9,11 +9,12 @@ ghost use Rattle.module_reader.specs.Mentions.{listed_modes, chosen_mode, called
 ghost use Rattle.module_reader.specs.Mentions.{own_names, with_names, walk, walks};
 ghost use Rattle.module_reader.specs.Mentions.{is_declaration, top_walk};
 
+use crate::in_force::InForce;
 use bound_prefixes::BoundPrefixes;
 use expr_names::ResolveFault;
 use sheet_nodes::Node;
 use sheet_table::{XslElement, attribute, is_in_xslt, xsl_element};
-use sheet_texts::{NameTable, bound_within};
+use sheet_texts::NameTable;
 use sheet_values::{ModeChoice, Modes, mode_choice, mode_list, qname};
 use std::alloc::{AllocError, Global};
 use xt_names::{ExprName, List, Name};
@@ -80,16 +81,18 @@ fn named(alloc: Global, name: Option<ExprName>) -> Result<List<ExprName>, AllocE
 
 fn listed_modes(
     alloc: Global,
-    bound: &BoundPrefixes,
+    around: &mut InForce,
     attributes: &[Attribute],
 ) -> Result<List<ExprName>, AllocError>
-    ensures { IfOk result (λ names. names
-        ≡ listed_modes bound.now (attribute attributes.now (codes "mode"))) }
+    ensures names { IfOk result (λ names. names
+        ≡ listed_modes around.old (attribute attributes.now (codes "mode"))) }
+    ensures same { OnOk result (around.new ≡ around.old) }
 {
     match attribute(attributes, "mode") {
         None => Ok(List::new(alloc)),
         Some(text) => {
-            let modes = kept(mode_list(alloc, bound, text))?;
+            let bound = around.prefixes()?;
+            let modes = kept(mode_list(alloc, &bound, text))?;
             Ok(listed(alloc, modes))
         }
     }
@@ -97,16 +100,18 @@ fn listed_modes(
 
 fn chosen_mode(
     alloc: Global,
-    bound: &BoundPrefixes,
+    around: &mut InForce,
     attributes: &[Attribute],
 ) -> Result<List<ExprName>, AllocError>
-    ensures { IfOk result (λ names. names
-        ≡ chosen_mode bound.now (attribute attributes.now (codes "mode"))) }
+    ensures names { IfOk result (λ names. names
+        ≡ chosen_mode around.old (attribute attributes.now (codes "mode"))) }
+    ensures same { OnOk result (around.new ≡ around.old) }
 {
     match attribute(attributes, "mode") {
         None => Ok(List::new(alloc)),
         Some(text) => {
-            let choice = kept(mode_choice(alloc, bound, text))?;
+            let bound = around.prefixes()?;
+            let choice = kept(mode_choice(alloc, &bound, text))?;
             chosen(alloc, choice)
         }
     }
@@ -114,16 +119,18 @@ fn chosen_mode(
 
 fn called_name(
     alloc: Global,
-    bound: &BoundPrefixes,
+    around: &mut InForce,
     attributes: &[Attribute],
 ) -> Result<List<ExprName>, AllocError>
-    ensures { IfOk result (λ names. names
-        ≡ called_name bound.now (attribute attributes.now (codes "name"))) }
+    ensures names { IfOk result (λ names. names
+        ≡ called_name around.old (attribute attributes.now (codes "name"))) }
+    ensures same { OnOk result (around.new ≡ around.old) }
 {
     match attribute(attributes, "name") {
         None => Ok(List::new(alloc)),
         Some(text) => {
-            let name = kept(qname(alloc, bound, text))?;
+            let bound = around.prefixes()?;
+            let name = kept(qname(alloc, &bound, text))?;
             named(alloc, name)
         }
     }
@@ -134,18 +141,20 @@ fn own_names(
     alloc: Global,
     mention: Mention,
     element: Option<XslElement>,
-    bound: &BoundPrefixes,
+    around: &mut InForce,
     attributes: &[Attribute],
 ) -> Result<List<ExprName>, AllocError>
-    ensures { IfOk result (λ names. names ≡ own_names mention element bound.now attributes.now) }
+    ensures names { IfOk result
+        (λ names. names ≡ own_names mention element around.old attributes.now) }
+    ensures same { OnOk result (around.new ≡ around.old) }
 {
     match (mention, element) {
-        (Mention::Modes, Some(XslElement::Template)) => listed_modes(alloc, bound, attributes),
+        (Mention::Modes, Some(XslElement::Template)) => listed_modes(alloc, around, attributes),
         (Mention::Modes, Some(XslElement::ApplyTemplates)) => {
-            chosen_mode(alloc, bound, attributes)
+            chosen_mode(alloc, around, attributes)
         }
         (Mention::Called, Some(XslElement::CallTemplate)) => {
-            called_name(alloc, bound, attributes)
+            called_name(alloc, around, attributes)
         }
         _ => Ok(List::new(alloc)),
     }
@@ -164,15 +173,16 @@ fn add_names(table: &mut NameTable, names: &[ExprName]) -> Result<(), AllocError
 fn add_own(
     alloc: Global,
     mention: Mention,
-    bound: &BoundPrefixes,
+    around: &mut InForce,
     name: &Name,
     attributes: &[Attribute],
     table: &mut NameTable,
 ) -> Result<(), AllocError>
-    ensures { OnOk result (table.new ≡ with_names table.old
-        (own_names mention (xsl_element name.now) bound.now attributes.now)) }
+    ensures table { OnOk result (table.new ≡ with_names table.old
+        (own_names mention (xsl_element name.now) around.old attributes.now)) }
+    ensures same { OnOk result (around.new ≡ around.old) }
 {
-    let names = own_names(alloc, mention, xsl_element(name), bound, attributes)?;
+    let names = own_names(alloc, mention, xsl_element(name), around, attributes)?;
     add_names(table, names.as_slice())
 }
 
@@ -181,14 +191,15 @@ fn add_own(
 fn add_all(
     alloc: Global,
     mention: Mention,
-    bound: &BoundPrefixes,
+    around: &mut InForce,
     nodes: &[Node],
     table: &mut NameTable,
 ) -> Result<(), AllocError>
-    ensures { OnOk result (table.new ≡ walks mention nodes.now bound.now table.old) }
+    ensures table { OnOk result (table.new ≡ walks mention nodes.now around.old table.old) }
+    ensures same { OnOk result (around.new ≡ around.old) }
 {
     for node in nodes {
-        add_node(alloc, mention, bound, node, table)?;
+        add_node(alloc, mention, around, node, table)?;
     }
     Ok(())
 }
@@ -197,17 +208,29 @@ fn add_all(
 fn add_node(
     alloc: Global,
     mention: Mention,
-    bound: &BoundPrefixes,
+    around: &mut InForce,
     node: &Node,
     table: &mut NameTable,
 ) -> Result<(), AllocError>
-    ensures { OnOk result (table.new ≡ walk mention node.now bound.now table.old) }
+    ensures table { OnOk result (table.new ≡ walk mention node.now around.old table.old) }
+    ensures same { OnOk result (around.new ≡ around.old) }
 {
     match node {
         Node::Elem(own, name, attributes, kids) => {
-            let inner = bound_within(alloc, own.get(), bound)?;
-            add_own(alloc, mention, &inner, name, attributes.as_slice(), table)?;
-            add_all(alloc, mention, &inner, kids.get().as_slice(), table)
+            if own.get().is_empty() {
+                add_own(alloc, mention, around, name, attributes.as_slice(), table)?;
+                return add_all(alloc, mention, around, kids.get().as_slice(), table);
+            }
+            let mut inner = around.within(own)?;
+            add_own(
+                alloc,
+                mention,
+                &mut inner,
+                name,
+                attributes.as_slice(),
+                table,
+            )?;
+            add_all(alloc, mention, &mut inner, kids.get().as_slice(), table)
         }
         Node::Chars(_) => Ok(()),
     }
@@ -227,15 +250,15 @@ fn is_declaration(node: &Node) -> bool
 pub(crate) fn add_tops(
     alloc: Global,
     mention: Mention,
-    bound: &BoundPrefixes,
+    around: &mut InForce,
     nodes: &[Node],
     table: &mut NameTable,
 ) -> Result<(), AllocError>
-    ensures { OnOk result (table.new ≡ top_walk mention nodes.now bound.now table.old) }
+    ensures { OnOk result (table.new ≡ top_walk mention nodes.now around.old table.old) }
 {
     for node in nodes {
         if is_declaration(node) {
-            add_node(alloc, mention, bound, node, table)?;
+            add_node(alloc, mention, around, node, table)?;
         }
     }
     Ok(())

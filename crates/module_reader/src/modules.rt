@@ -17,6 +17,7 @@ ghost use Rattle.module_reader.specs.Modules.{CanBeRead, module_nodes, with_mode
 ghost use Rattle.module_reader.specs.Modules.{parts_faults, parts_value};
 ghost use Rattle.module_reader.specs.Modules.{module_faults, module_value};
 
+use crate::in_force::InForce;
 use crate::links::document_content;
 use crate::mentions::{Mention, add_tops};
 use bound_prefixes::BoundPrefixes;
@@ -171,8 +172,8 @@ fn add_root(
 {
     match node {
         Node::Elem(own, _, _, kids) => {
-            let bound = root_bound(alloc, own.get())?;
-            add_tops(alloc, mention, &bound, kids.get().as_slice(), table)
+            let mut around = InForce::new(alloc, root_bound(alloc, own.get())?);
+            add_tops(alloc, mention, &mut around, kids.get().as_slice(), table)
         }
         Node::Chars(_) => Ok(()),
     }

@@ -3,5 +3,8 @@ use Rattle.module_reader.specs.Mentions.{walks}
 use Rattle.module_reader.proofs.mentions.+mentions.Given as goal
 
 abbrev pub invariant-add_all-loop-node : goal.invariant-add_all-loop-node
-invariant-add_all-loop-node l =
-    walks l.mention (drop l.node-index l.nodes) l.bound l.table ≡ walks l.mention l.nodes l.bound l.initial.table
+invariant-add_all-loop-node l = record {
+  table_is : walks l.mention (drop l.node-index l.nodes) l.around l.table
+      ≡ walks l.mention l.nodes l.initial.around l.initial.table;
+  same : l.around ≡ l.initial.around;
+}
