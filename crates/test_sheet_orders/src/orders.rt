@@ -4,7 +4,11 @@ use std::alloc::AllocGlobal;
 use std::process::Abort;
 use xt_names::List;
 
-fn with_needs(rt: &(impl Abort + AllocGlobal), graph: &mut Vec<List<usize>>, needs: &[usize]) {
+pub(crate) fn with_needs(
+    rt: &(impl Abort + AllocGlobal),
+    graph: &mut Vec<List<usize>>,
+    needs: &[usize],
+) {
     let mut made = List::new(rt.alloc());
     for need in needs {
         made.push(*need).expect(rt, "memory");
