@@ -4,7 +4,8 @@
 //! value names, and those that are named in what it reaches. It reaches the functions and templates
 //! that it calls, and the rules of the modes in which it applies templates, and all that these reach.
 //! The mode `#current` is the default mode in the global itself, in functions, and in templates that
-//! these call by name; elsewhere the mode that it stands for is reached already.
+//! these call by name; elsewhere the mode that it stands for is reached already. `needed_order` puts
+//! the globals in the order in which they are evaluated.
 //!
 //! Example: where `x` is `f:a()`, the function `f:a` applies templates in the default mode, and a rule
 //! of that mode names `$y`, `x` depends on `y`.
@@ -15,4 +16,4 @@ mod rows;
 mod shapes;
 mod tables;
 
-pub use needs::global_needs;
+pub use needs::{global_needs, needed_order};

@@ -1,10 +1,12 @@
 // On which globals each depends.
 ghost use Rattle.std.specs.Prelude.{◌≡◌, ◌++◌, IfOk, OnOk, map, length};
-ghost use Rattle.global_needs.specs.Needs.{graph_of, target, targets, needs_of, needs_from, needs};
+ghost use Rattle.global_order.specs.Order.{order_of};
+ghost use Rattle.graph_orders.specs.Needs.{needs_from};
+ghost use Rattle.global_needs.specs.Needs.{graph_of, needs};
 
 use crate::rows::{push_ends, push_functions, push_globals, push_rules, push_templates};
 use crate::shapes::{Shape, measured};
-use reached_places::reached;
+use graph_orders::{needs_by, order_by};
 use std::alloc::{AllocError, Global};
 use xt_names::List;
 use xt_sheets::Sheet;
@@ -23,53 +25,6 @@ fn graph(alloc: Global, shape: &Shape, sheet: &Sheet) -> Result<Vec<List<usize>>
     Ok(graph)
 }
 
-fn push_target(found: &mut List<usize>, at: usize, place: usize) -> Result<(), AllocError>
-    ensures { OnOk result (found.new ≡ found.old ++ target at place) }
-{
-    if place < at {
-        Ok(())
-    } else {
-        found.push(place - at)
-    }
-}
-
-fn targets(alloc: Global, at: usize, places: &[usize]) -> Result<List<usize>, AllocError>
-    ensures { IfOk result (λ found. found ≡ targets at places.now) }
-{
-    let mut found = List::new(alloc);
-    for place in places {
-        push_target(&mut found, at, *place)?;
-    }
-    Ok(found)
-}
-
-fn needs_of(
-    alloc: Global,
-    graph: &[List<usize>],
-    at: usize,
-    global: usize,
-) -> Result<List<usize>, AllocError>
-    ensures { IfOk result (λ found. found ≡ needs_of graph.now at global) }
-{
-    let places = reached(alloc, graph, global)?;
-    targets(alloc, at, places.as_slice())
-}
-
-fn needs_from(
-    alloc: Global,
-    graph: &[List<usize>],
-    at: usize,
-    count: usize,
-) -> Result<List<List<usize>>, AllocError>
-    ensures { IfOk result (λ all. all ≡ needs_from count 0 graph.now at) }
-{
-    let mut all = List::new(alloc);
-    for global in 0..count {
-        all.push(needs_of(alloc, graph, at, global)?)?;
-    }
-    Ok(all)
-}
-
 /// For each global variable and parameter, in order, the places of those on which it depends, each
 /// once (XSLT 2.0, 9.5). No two globals, and no two functions with as many parameters, have one name,
 /// as in every stylesheet that breaks no rule.
@@ -78,7 +33,22 @@ pub fn global_needs(alloc: Global, sheet: &Sheet) -> Result<List<List<usize>>, A
 {
     let shape = measured(alloc, sheet)?;
     let graph = graph(alloc, &shape, sheet)?;
-    needs_from(
+    needs_by(
+        alloc,
+        graph.as_slice(),
+        shape.globals_at,
+        sheet.globals.len(),
+    )
+}
+
+/// The places of the globals in the order in which they are evaluated: that which `order` of
+/// `global_order` gives of what `global_needs` tells, without the list of that (XSLT 2.0, 9.5).
+pub fn needed_order(alloc: Global, sheet: &Sheet) -> Result<List<usize>, AllocError>
+    ensures { IfOk result (λ order. order ≡ order_of (needs sheet.now)) }
+{
+    let shape = measured(alloc, sheet)?;
+    let graph = graph(alloc, &shape, sheet)?;
+    order_by(
         alloc,
         graph.as_slice(),
         shape.globals_at,

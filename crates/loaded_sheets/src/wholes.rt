@@ -12,8 +12,7 @@ ghost use Rattle.loaded_sheets.specs.Wholes.{parameters_in, called_parameters, w
 ghost use Rattle.loaded_sheets.specs.Wholes.{as_faults, wide_faults, with_order, in_order};
 
 use expr_names::ResolveFault;
-use global_needs::global_needs;
-use global_order::order;
+use global_needs::needed_order;
 use sheet_assembly::{assemble, ordered};
 use sheet_declarations::Declaration;
 use sheet_levels::SheetLevel;
@@ -122,8 +121,7 @@ fn check_whole(
 fn evaluation_order(alloc: Global, sheet: &Sheet) -> Result<List<usize>, AllocError>
     ensures { IfOk result (λ order. order ≡ evaluation_order sheet.now) }
 {
-    let needs = global_needs(alloc, sheet)?;
-    order(alloc, needs.as_slice())
+    needed_order(alloc, sheet)
 }
 
 /// The codes of all rules that the declarations break together.
