@@ -3,38 +3,18 @@ use Rattle.std.proofs.Common.{◌≡◌, ℕ, List, [], ◌∷◌, ◌++◌, Boo
 use Rattle.std.proofs.Common.{ap, ◌∙◌, nat_eq, if◌then◌else◌, drop, length, ◌+◌, ◌<◌, get_or}
 use Rattle.std.proofs.lemmas.Bool.{and_parts}
 use Rattle.std.proofs.lemmas.Bool.Decides.{Decides-eqb}
-use Rattle.std.proofs.lemmas.Slice.Eq.{bytes_eq-Decides}
 use Rattle.std.proofs.lemmas.List.Folds.{list_any-append}
 use Rattle.xt_names.proofs.ListLemmas.{drop_at}
-use Rattle.std.specs.Str.{bytes_eq}
-use Rattle.xt_names.specs.declared.names.ExprName.{ExprName}
 use Rattle.name_rules.specs.declared.functions.Signature.{Signature}
-use Rattle.name_rules.specs.Scopes.{same_name, same_signature, signature}
+use Rattle.name_rules.specs.Scopes.{same_signature}
 use Rattle.sheet_declarations.specs.declared.lists.Declaration.{Declaration}
 use Rattle.sheet_declarations.specs.Counts.{Declared, a_global, a_function, a_template, nothing, declared_by, replaces}
+use Rattle.sheet_declarations.proofs.Sames.{same_signature_is, swap_or, absorbed}
 use Rattle.wide_rules.specs.declared.placed.Placed.{Placed}
 use Rattle.wide_rules.specs.declared.doubles.Seen.{Seen}
 use Rattle.wide_rules.specs.declared.doubles.Doubles.{Doubles}
 use Rattle.wide_rules.specs.Doubles.{placed, same_placed, has_placed, with_placed, has_declared, with_declared}
 use Rattle.wide_rules.specs.Doubles.{with_double, stands_again, doubles_of, seen_of}
-
-abbrev named : List ℕ → List ℕ → ExprName
-named uri local = record { uri = uri; local = local }
-
--- names that are found the same are the same
-same_name_is : (a b : ExprName) → same_name a b ≡ true → a ≡ b
-same_name_is a b h =
-    let t = and_parts (bytes_eq a.uri b.uri) (bytes_eq a.local b.local) h in
-    let u : a.uri ≡ b.uri = (bytes_eq-Decides a.uri b.uri).0 t.0 in
-    let l : a.local ≡ b.local = (bytes_eq-Decides a.local b.local).0 t.1 in
-    ap (λ (uri : List ℕ). named uri a.local) u ∙ ap (λ (local : List ℕ). named b.uri local) l
-
-same_signature_is : (a b : Signature) → same_signature a b ≡ true → a ≡ b
-same_signature_is a b h =
-    let t = and_parts (same_name a.name b.name) (nat_eq a.arity b.arity) h in
-    let n : a.name ≡ b.name = same_name_is a.name b.name t.0 in
-    let k : a.arity ≡ b.arity = (Decides-eqb a.arity b.arity).0 t.1 in
-    ap (λ (name : ExprName). signature name a.arity) n ∙ ap (λ (arity : ℕ). signature b.name arity) k
 
 same_placed_is : (a b : Placed) → same_placed a b ≡ true → a ≡ b
 same_placed_is a b h =
@@ -42,18 +22,6 @@ same_placed_is a b h =
     let s : a.signature ≡ b.signature = same_signature_is a.signature b.signature t.0 in
     let l : a.level ≡ b.level = (Decides-eqb a.level b.level).0 t.1 in
     ap (λ (x : Signature). placed x a.level) s ∙ ap (λ (level : ℕ). placed b.signature level) l
-
-swap_or : (p q : Bool) → (p || (q || false)) ≡ (q || p)
-swap_or true true = refl
-swap_or true false = refl
-swap_or false true = refl
-swap_or false false = refl
-
-absorbed : (p q : Bool) → (q ≡ true → p ≡ true) → p ≡ (q || p)
-absorbed true true h = refl
-absorbed true false h = refl
-absorbed false true h = h refl
-absorbed false false h = refl
 
 -- one more name
 has-with : (known : List Placed) (s t : Placed)
