@@ -1,5 +1,5 @@
 // Whether expressions and their parts nest within a limit.
-ghost use Rattle.std.specs.Prelude.{◌≡◌, nat_le, map, option_map};
+ghost use Rattle.std.specs.Prelude.{◌≡◌, ◌+◌, nat_le, map, option_map};
 ghost use Rattle.xt_forms.specs.Nest.{nest_of, greatest, if_any, arm_nest_of, bind_nest_of};
 ghost use Rattle.xt_forms.specs.Nest.{clause_nest_of, order_nest_of, name_nest_of, attr_nest_of};
 ghost use Rattle.xt_forms.specs.Nest.{part_nest_of, flwor_nest_of};
@@ -18,14 +18,19 @@ pub fn nests_within(e: &Expr, limit: u32) -> bool
     if limit == 0 {
         return false;
     }
-    let left = limit - 1;
+    form_within(e, limit - 1)
+}
+
+/// Whether the parts of the expression have at most so many levels.
+#[cycle(within)]
+#[tactic(auto, using(crate::proofs::Bounds::levels))]
+fn form_within(e: &Expr, left: u32) -> bool
+    ensures { result ≡ nat_le (nest_of e.now) (1 + left) }
+{
     match e {
         Expr::Int(_) | Expr::Str(_) | Expr::Var(_) | Expr::Context | Expr::Root => true,
-        Expr::Comma(all)
-        | Expr::Or(all)
-        | Expr::And(all)
-        | Expr::Step(_, _, all)
-        | Expr::Call(_, all) => all_within(all.get().as_slice(), left),
+        Expr::Comma(all) | Expr::Or(all) | Expr::And(all) => all_within(all.get().as_slice(), left),
+        Expr::Step(_, _, all) | Expr::Call(_, all) => all_within(all.get().as_slice(), left),
         Expr::If(arms, other) => {
             arms_within(arms.get().as_slice(), left) && nests_within(other.get(), left)
         }
@@ -33,26 +38,20 @@ pub fn nests_within(e: &Expr, limit: u32) -> bool
         Expr::Quant(_, binds, test) => {
             binds_within(binds.get().as_slice(), left) && nests_within(test.get(), left)
         }
-        Expr::General(_, a, b)
-        | Expr::Value(_, a, b)
-        | Expr::Arith(_, a, b)
-        | Expr::Is(a, b)
-        | Expr::Before(a, b)
-        | Expr::After(a, b)
-        | Expr::Range(a, b)
-        | Expr::Union(a, b)
-        | Expr::Intersect(a, b)
-        | Expr::Except(a, b)
-        | Expr::Slash(a, b) => nests_within(a.get(), left) && nests_within(b.get(), left),
-        Expr::Minus(a)
-        | Expr::Plus(a)
-        | Expr::DocC(a)
-        | Expr::TextC(a)
-        | Expr::CommentC(a)
-        | Expr::InstanceOf(a, _)
-        | Expr::Treat(a, _)
-        | Expr::Castable(a, _, _)
-        | Expr::Cast(a, _, _) => nests_within(a.get(), left),
+        Expr::General(_, a, b) | Expr::Value(_, a, b) | Expr::Arith(_, a, b) => {
+            nests_within(a.get(), left) && nests_within(b.get(), left)
+        }
+        Expr::Is(a, b) | Expr::Before(a, b) | Expr::After(a, b) | Expr::Range(a, b) => {
+            nests_within(a.get(), left) && nests_within(b.get(), left)
+        }
+        Expr::Union(a, b) | Expr::Intersect(a, b) | Expr::Except(a, b) | Expr::Slash(a, b) => {
+            nests_within(a.get(), left) && nests_within(b.get(), left)
+        }
+        Expr::Minus(a) | Expr::Plus(a) | Expr::DocC(a) | Expr::TextC(a) | Expr::CommentC(a) => {
+            nests_within(a.get(), left)
+        }
+        Expr::InstanceOf(a, _) | Expr::Treat(a, _) => nests_within(a.get(), left),
+        Expr::Castable(a, _, _) | Expr::Cast(a, _, _) => nests_within(a.get(), left),
         Expr::Filter(of, tests) => {
             nests_within(of.get(), left) && all_within(tests.get().as_slice(), left)
         }
