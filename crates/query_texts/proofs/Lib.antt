@@ -1,4 +1,5 @@
 pub mod SuitLemmas
 pub mod OrderLemmas
 pub mod StandingLemmas
+pub mod BodyLemmas
 pub mod OneLemmas

@@ -36,13 +36,10 @@ use Rattle.query_texts.specs.declared.texts.Progress.{Progress}
 use Rattle.query_texts.specs.Orders.{placed}
 use Rattle.query_texts.specs.Texts.{SpellsText, spelled, declared_nest, ReadAs}
 use Rattle.query_texts.specs.Standings.{behind_all, if_follows, AreKept, Here}
-use Rattle.query_texts.specs.Standings.{Standing, Judged, Takes, Closes}
+use Rattle.query_texts.specs.Standings.{Standing, Judged, Takes, Closes, progress}
 use Rattle.query_texts.proofs.OrderLemmas.{nest_all, nil, placed_on, placed_none, late_on}
 use Rattle.query_texts.proofs.OrderLemmas.{kept_more, kept_deep, all_follow}
 use Rattle.query_texts.proofs.SuitLemmas.{Suits, suits, reads_before}
-
-abbrev pub progress : Stage → Order → Bool → List Declared → Progress
-progress s o b xs = record { stage = s; order = o; is_deep = b; declared = xs }
 
 -- before the first token
 same_query : (o : Option RawQuery) → o ≡ option_map (behind_all []) o

@@ -1,3 +1,4 @@
 pub mod Orders
 pub mod Texts
 pub mod Standings
+pub mod Bodies

@@ -1,6 +1,6 @@
 -- Where the reading of a text stands.
 use Rattle.std.specs.Prelude.{◌≡◌, ◌<◌, ◌≤◌, ℕ, Bool, true, false, List, ◌++◌, length}
-use Rattle.std.specs.Prelude.{Option, Some, None, option_map, option_and_then, if◌then◌else◌}
+use Rattle.std.specs.Prelude.{Option, Some, None, Result, Ok, Err, option_map, option_and_then, if◌then◌else◌}
 use Rattle.expr_terms.specs.declared.tokens.Token.{Token}
 use Rattle.query_grammar.specs.declared.declared.Declared.{Declared}
 use Rattle.query_grammar.specs.declared.declared.RawQuery.{RawQuery}
@@ -10,11 +10,15 @@ use Rattle.query_pieces.specs.declared.contexts.Before.TheVariants.{Slash as sla
 use Rattle.query_pieces.specs.Points.{Point, start}
 use Rattle.query_pieces.specs.Aheads.{Sees}
 use Rattle.query_pieces.specs.Readings.{Splits}
+use Rattle.expr_reader.specs.declared.running.Reader.{Reader}
+use Rattle.query_steps.specs.declared.stages.Stage.{Stage}
+use Rattle.query_steps.specs.declared.stages.Stage.TheVariants.{Body}
 use Rattle.query_steps.specs.Stands.{IsKept, Stands}
 use Rattle.query_texts.specs.declared.orders.Order.{Order}
 use Rattle.query_texts.specs.declared.readings.QueryReading.{QueryReading}
 use Rattle.query_texts.specs.declared.readings.QueryReading.TheVariants as reading
 use Rattle.query_texts.specs.declared.texts.Progress.{Progress}
+use Rattle.query_texts.specs.declared.texts.BodyProgress.{BodyProgress}
 use Rattle.query_texts.specs.declared.texts.Next.{Next}
 use Rattle.query_texts.specs.declared.texts.Next.TheVariants as next
 use Rattle.query_texts.specs.Orders.{may_follow}
@@ -97,3 +101,15 @@ IsShorter (next.Onto g a) p q = length q.rest < length p.rest
 abbrev pub SeesOn : Next → Point → Type 0
 SeesOn (next.Ends r) p = Unit {0}
 SeesOn (next.Onto g a) p = Sees p a
+
+abbrev pub progress : Stage → Order → Bool → List Declared → Progress
+progress s o b xs = record { stage = s; order = o; is_deep = b; declared = xs }
+
+-- what is read of the body, or the stage that is none of the body
+abbrev pub Parted : Stage → Result Reader Stage → Type 0
+Parted s (Ok r) = s ≡ Body r
+Parted s (Err t) = s ≡ t
+
+abbrev pub Bodily : Progress → Result BodyProgress Progress → Type 0
+Bodily g (Ok b) = g ≡ progress (Body b.reader) b.order b.is_deep b.declared
+Bodily g (Err h) = g ≡ h

@@ -9,6 +9,7 @@
 //! Example: `declare variable $a := 1; $a + 1` is a query with one declaration.
 #![tactic(auto)]
 
+mod bodies;
 mod laws;
 mod orders;
 mod readings;

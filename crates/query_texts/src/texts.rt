@@ -5,17 +5,19 @@ ghost use Rattle.expr_terms.specs.declared.tokens.Token.{Token as Term};
 ghost use Rattle.expr_terms.specs.Choices.{second_of};
 ghost use Rattle.query_grammar.specs.Machine.{Mode, read_query, wants};
 ghost use Rattle.query_steps.specs.Stands.{Stands};
+ghost use Rattle.query_steps.specs.declared.stages.Stage.TheVariants.{Body};
 ghost use Rattle.query_pieces.specs.declared.contexts.Before.{Before};
 ghost use Rattle.query_pieces.specs.Points.{Point, before_of};
 ghost use Rattle.query_pieces.specs.Aheads.{Sees};
 ghost use Rattle.query_pieces.specs.Readings.{Reads};
 ghost use Rattle.query_texts.specs.Texts.{ReadAs};
 ghost use Rattle.query_texts.specs.Standings.{Here, Standing, Judged, Takes, Closes, Follows};
-ghost use Rattle.query_texts.specs.Standings.{IsShorter, SeesOn};
+ghost use Rattle.query_texts.specs.Standings.{IsShorter, SeesOn, Parted, Bodily, progress};
 
+use crate::bodies::body_rest;
 use crate::orders::{Order, placed};
 use crate::readings::QueryReading;
-use expr_reader::Reading;
+use expr_reader::{Reader, Reading};
 use expr_terms::{Second, Token};
 use query_grammar::{Declared, RawQuery};
 use query_pieces::{Ahead, Found, Pieces, asks, second};
@@ -31,6 +33,15 @@ struct Progress {
     /// Whether an expression has nested deeper than the limit.
     is_deep: bool,
     /// The declarations, as long as none has.
+    declared: List<Declared>,
+}
+
+/// How far the body of a query is read, and what stands before it.
+#[derive(Drop)]
+struct BodyProgress {
+    reader: Reader,
+    order: Order,
+    is_deep: bool,
     declared: List<Declared>,
 }
 
@@ -171,6 +182,109 @@ fn read_on<'a>(
     }
 }
 
+/// Reads the body, of which this is read, to the end of the text.
+fn body_on<'a>(
+    alloc: Global,
+    limit: u16,
+    pieces: &mut Pieces<'a>,
+    body: BodyProgress,
+    ahead: Option<Ahead<'a>>,
+) -> Result<Next<'a>, AllocError>
+    requires { Sees pieces.old ahead }
+    ensures follows { IfOk result (λ next. (text : List ℕ) →
+        Standing limit text (progress (Body body.reader) body.order body.is_deep body.declared)
+        pieces.old → Follows limit text next pieces.new) }
+    ensures shorter { IfOk result (λ next. IsShorter next pieces.old pieces.new) }
+    ensures sees { IfOk result (λ next. SeesOn next pieces.new) }
+{
+    let BodyProgress {
+        reader,
+        order,
+        is_deep,
+        declared,
+    } = body;
+    match body_rest(alloc, pieces, reader, ahead) {
+        Err(e) => {
+            drop(declared);
+            Err(e)
+        }
+        Ok(None) => {
+            drop(declared);
+            Ok(Next::Ends(QueryReading::Nothing))
+        }
+        Ok(Some(reader)) => {
+            let progress = Progress {
+                stage: Stage::Body(reader),
+                order,
+                is_deep,
+                declared,
+            };
+            Ok(Next::Ends(end(alloc, limit, progress)?))
+        }
+    }
+}
+
+/// What is read of the body, where it is the body that is read.
+fn body_of(stage: Stage) -> Result<Reader, Stage>
+    ensures { Parted stage result }
+{
+    match stage {
+        Stage::Body(reader) => Ok(reader),
+        Stage::Front => Err(Stage::Front),
+        Stage::Held(first, behind) => Err(Stage::Held(first, behind)),
+        Stage::Head(opening, tokens) => Err(Stage::Head(opening, tokens)),
+        Stage::Value(variable, reader) => Err(Stage::Value(variable, reader)),
+        Stage::Inner(signature, reader) => Err(Stage::Inner(signature, reader)),
+        Stage::Closed(last) => Err(Stage::Closed(last)),
+    }
+}
+
+/// How far the body is read, where it is the body that is read.
+fn in_body(progress: Progress) -> Result<BodyProgress, Progress>
+    ensures { Bodily progress result }
+{
+    let Progress {
+        stage,
+        order,
+        is_deep,
+        declared,
+    } = progress;
+    match body_of(stage) {
+        Ok(reader) => Ok(BodyProgress {
+            reader,
+            order,
+            is_deep,
+            declared,
+        }),
+        Err(stage) => Err(Progress {
+            stage,
+            order,
+            is_deep,
+            declared,
+        }),
+    }
+}
+
+/// Reads on: the body to the end of the text where it stands, and else one token.
+fn go_on<'a>(
+    alloc: Global,
+    limit: u16,
+    pieces: &mut Pieces<'a>,
+    progress: Progress,
+    ahead: Option<Ahead<'a>>,
+) -> Result<Next<'a>, AllocError>
+    requires { Sees pieces.old ahead }
+    ensures follows { IfOk result (λ next. (text : List ℕ) →
+        Standing limit text progress pieces.old → Follows limit text next pieces.new) }
+    ensures shorter { IfOk result (λ next. IsShorter next pieces.old pieces.new) }
+    ensures sees { IfOk result (λ next. SeesOn next pieces.new) }
+{
+    match in_body(progress) {
+        Ok(body) => body_on(alloc, limit, pieces, body, ahead),
+        Err(progress) => read_on(alloc, limit, pieces, progress, ahead),
+    }
+}
+
 /// The query that the text spells, where each of its expressions (its body, the initialisers and
 /// the bodies of functions) nests no deeper than the limit. Nothing is told exactly where it spells
 /// no query, and TooDeep exactly where it spells one with an expression that nests deeper.
@@ -188,7 +302,7 @@ pub fn read_query(alloc: Global, text: &str, limit: u16) -> Result<QueryReading,
     };
     let mut ahead = pieces.ahead();
     loop {
-        match read_on(alloc, limit, &mut pieces, progress, ahead)? {
+        match go_on(alloc, limit, &mut pieces, progress, ahead)? {
             Next::Ends(reading) => return Ok(reading),
             Next::Onto(further, seen) => {
                 progress = further;

@@ -2,8 +2,8 @@ use Rattle.std.proofs.Common.{sym, false, subst}
 use Rattle.std.specs.Str.{chars}
 use Rattle.query_steps.specs.declared.stages.Stage.TheVariants as stage
 use Rattle.query_texts.specs.declared.orders.Order.TheVariants.{First}
-use Rattle.query_texts.specs.Standings.{Standing, Follows, IsShorter, SeesOn}
-use Rattle.query_texts.proofs.StandingLemmas.{begins, progress}
+use Rattle.query_texts.specs.Standings.{Standing, Follows, IsShorter, SeesOn, progress}
+use Rattle.query_texts.proofs.StandingLemmas.{begins}
 use Rattle.query_texts.proofs.texts.read_query.Goals as goal
 
 pub loop-pieces-init : goal.loop-pieces-init
@@ -17,20 +17,20 @@ loop-pieces-init c = (
 
 pub loop-pieces-preserved : goal.loop-pieces-preserved
 loop-pieces-preserved c = (
-  subst (λ z. Follows c.args.limit (chars c.args.text.now) z c.read_on.new.pieces) c.in-Onto.is
+  subst (λ z. Follows c.args.limit (chars c.args.text.now) z c.go_on.new.pieces) c.in-Onto.is
       (c.in_ok-reading.ensures.follows (chars c.args.text.now) c.loop-pieces.invariant.0),
-  subst (λ z. SeesOn z c.read_on.new.pieces) c.in-Onto.is c.in_ok-reading.ensures.sees,
+  subst (λ z. SeesOn z c.go_on.new.pieces) c.in-Onto.is c.in_ok-reading.ensures.sees,
 )
 
 pub loop-pieces-smaller : goal.loop-pieces-smaller
 loop-pieces-smaller c =
-    subst (λ z. IsShorter z c.loop-pieces.pieces c.read_on.new.pieces) c.in-Onto.is
+    subst (λ z. IsShorter z c.loop-pieces.pieces c.go_on.new.pieces) c.in-Onto.is
     c.in_ok-reading.ensures.shorter
 
 pub returns-in-Ends : goal.returns-in-Ends
 returns-in-Ends c =
-    subst (λ z. Follows c.args.limit (chars c.args.text.now) z c.read_on.new.pieces) c.in-Ends.is
+    subst (λ z. Follows c.args.limit (chars c.args.text.now) z c.go_on.new.pieces) c.in-Ends.is
     (c.in_ok-reading.ensures.follows (chars c.args.text.now) c.loop-pieces.invariant.0)
 
-pub read_on-requires : goal.read_on-requires
-read_on-requires c = c.loop-pieces.invariant.1
+pub go_on-requires : goal.go_on-requires
+go_on-requires c = c.loop-pieces.invariant.1
