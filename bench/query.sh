@@ -1,8 +1,9 @@
 #!/usr/bin/env bash
 # Compares the reading of a long query: the user time in seconds and the peak memory in kilobytes of `xslt2xq query`, of
 # `basex` and of `xmlpatterns`, where they are installed, on a comma list of COUNT small expressions (bench/list.py) that
-# is read and not evaluated, and a document of one element; and beside it those of `xslt2xq transform` on a document of as
-# many bytes. Each is the best of three runs.
+# is read and not evaluated, and a document of one element; and beside it those of `xslt2xq transform` on two documents of
+# as many bytes: a catalogue, which is mostly words, and small elements, of about as many bytes each as an expression has.
+# Each is the best of three runs.
 #
 # usage: bench/query.sh COUNT    1000000 expressions make some 10 MB
 set -eu
@@ -33,4 +34,9 @@ fi
 if command -v xmlpatterns >/dev/null; then
     measure xmlpatterns xmlpatterns "$query" "$document"
 fi
-"$top/bench/read.sh" "$(wc -c <"$query")"
+size=$(wc -c <"$query")
+"$top/bench/read.sh" "$size"
+mkdir -p "$data/elements-$size"
+elements=$data/elements-$size/d.xml
+[[ -s $elements ]] || python3 "$top/bench/elements.py" "$size" "$elements"
+"$top/bench/read.sh" "$elements"
