@@ -4,3 +4,4 @@ pub mod Stretches
 pub mod Reached
 pub mod RightOrders
 pub mod Told
+pub mod BehindLemmas

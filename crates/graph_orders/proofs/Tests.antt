@@ -16,6 +16,16 @@ no_true e = cc
 pub is_less : (a b : ℕ) → nat_lt a b ≡ true → a < b
 is_less a b e = grind (arith, nat_tests, e)
 
+pub test_less : (a b : ℕ) → a < b → nat_lt a b ≡ true
+test_less a b h = grind (arith, nat_tests, h)
+
+pub test_not_less : (a b : ℕ) → b ≤ a → nat_lt a b ≡ false
+test_not_less a b h = grind (arith, nat_tests, h)
+
+pub not_true : (b : Bool) → (b ≡ true → ⊥) → b ≡ false
+not_true true h = absurd (h refl)
+not_true false h = refl
+
 pub is_not_less : (a b : ℕ) → not (nat_lt a b) ≡ true → b ≤ a
 is_not_less a b =
     let P : Bool → Type 0 = λ t. nat_lt a b ≡ t → not t ≡ true → b ≤ a in
@@ -42,7 +52,7 @@ each_passes f (x ∷ xs) i h e =
     let t = and_parts (f x) (list_all f xs) h in
     of_cons x i xs e (λ same. ap f same ∙ t.0) (λ k. each_passes f xs i t.1 k)
 
-both : (a b : Bool) → a ≡ true → b ≡ true → (a && b) ≡ true
+pub both : (a b : Bool) → a ≡ true → b ≡ true → (a && b) ≡ true
 both true true p q = refl
 both true false p q = absurd (no_true (sym q))
 both false b p q = absurd (no_true (sym p))

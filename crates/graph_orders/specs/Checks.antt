@@ -1,7 +1,8 @@
 -- What tells that an order of the first places of a graph is that of what they reach. Beside the
--- order stand `places`, where each stands in it; `latest`, for each place of the graph the number
--- of the last in the order that it reaches, from 1, and 0 where it reaches none; and `steps`, which
--- grow less on the way to that one.
+-- order stand `places`, where each stands in it, and for one that is left out a number past its end;
+-- `latest`, for each place of the graph the number of the last in the order that it reaches, from 1,
+-- a greater number where it reaches one that is left out, and 0 where it reaches none; and `steps`,
+-- which grow less on the way to that one.
 use Rattle.std.specs.Prelude.{◌≡◌, ◌<◌, ◌≤◌, ◌+◌, ◌-◌, ℕ, zero, suc, List, Bool, true, not, length}
 use Rattle.std.specs.Prelude.{[], ◌∷◌, ◌++◌, ◌&&◌, ◌||◌, nat_eq, nat_lt, get_or, set, if◌then◌else◌}
 use Rattle.std.specs.List.{list_any, list_all}
@@ -22,6 +23,11 @@ all_from (suc k) i test = test i && all_from k (suc i) test
 
 abbrev pub is_placed : ℕ → List ℕ → List ℕ → ℕ → Bool
 is_placed count from to i = nat_lt (at_in from i) count && nat_eq (at_in to (at_in from i)) i
+
+-- one of so many stands at its place in the order, or is left out
+abbrev pub has_place : ℕ → List ℕ → List ℕ → ℕ → Bool
+has_place most places order i =
+    not (nat_lt (at_in places i) most) || nat_eq (at_in order (at_in places i)) i
 
 abbrev pub is_after : ℕ → ℕ → Bool
 is_after place late = nat_lt 0 late && nat_eq (late - 1) place
@@ -45,15 +51,19 @@ leads_on g latest steps v = list_any (is_on_the_way latest steps v) (led_to g v)
 abbrev pub leads_to_latest : Graph → List ℕ → List ℕ → ℕ → Bool
 leads_to_latest g latest steps v = nat_eq (at_in latest v) 0 || leads_on g latest steps v
 
-abbrev pub is_in_time : List ℕ → List ℕ → ℕ → Bool
-is_in_time places latest i = not (nat_lt (at_in places i) (at_in latest i))
+-- one of the order does not stand before its latest, and one that is left out has none in the order
+abbrev pub is_in_time : ℕ → List ℕ → List ℕ → ℕ → Bool
+is_in_time most places latest i =
+    if nat_lt (at_in places i) most
+    then not (nat_lt (at_in places i) (at_in latest i))
+    else nat_lt most (at_in latest i)
 
--- each stands at its place, and not before its latest
+-- each stands at its place, or in none, and not before its latest
 abbrev pub is_in_order : ℕ → List ℕ → List ℕ → List ℕ → Bool
 is_in_order count order places latest =
-    all_from count 0 (is_placed count order places)
-    && (all_from count 0 (is_placed count places order)
-    && all_from count 0 (is_in_time places latest))
+    all_from (length order) 0 (is_placed count order places)
+    && (all_from count 0 (has_place (length order) places order)
+    && all_from count 0 (is_in_time (length order) places latest))
 
 -- the latest of each place is one that it reaches, and it reaches no later one
 abbrev pub is_latest : Graph → ℕ → ℕ → List ℕ → List ℕ → List ℕ → Bool
@@ -85,12 +95,12 @@ pub record IsOnTheWay (g : Graph) (latest steps : List ℕ) (v : ℕ) : Type 0 w
 -- all that is to be told
 pub record IsTold (g : Graph) (at count : ℕ) (order places latest steps : List ℕ) : Type 0 where
   pub size : at + count ≡ length g
-  pub order_size : length order ≡ count
+  pub order_size : length order ≤ count
   pub latest_size : length latest ≡ length g
-  pub stands : (t : ℕ) → t < count → is_placed count order places t ≡ true
-  pub placed : (i : ℕ) → i < count → is_placed count places order i ≡ true
+  pub stands : (t : ℕ) → t < length order → is_placed count order places t ≡ true
+  pub placed : (i : ℕ) → i < count → has_place (length order) places order i ≡ true
   pub ends : (x : ℕ) → x < count → is_end at places latest x ≡ true
   pub no_later : (v : ℕ) → v < length g → leads_no_later g latest v ≡ true
   pub shown : (v : ℕ) → v < at → leads_to_latest g latest steps v ≡ true
-  pub in_time : (i : ℕ) → i < count → is_in_time places latest i ≡ true
-  pub least : AreLeast order latest count
+  pub in_time : (i : ℕ) → i < count → is_in_time (length order) places latest i ≡ true
+  pub least : AreLeast order latest (length order)

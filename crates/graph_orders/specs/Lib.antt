@@ -1,2 +1,3 @@
 pub mod Checks
 pub mod Needs
+pub mod Behind

@@ -1,7 +1,7 @@
 // Tests that only the right order passes.
 ghost use Rattle.std.specs.Prelude.{◌≡◌, ◌<◌, ◌≤◌, ◌+◌, ◌^◌, ℕ, IfOk, IsTrue, length};
 ghost use Rattle.reached_places.specs.Walks.{led_to};
-ghost use Rattle.graph_orders.specs.Checks.{at_in, all_from, is_placed, is_after, is_end};
+ghost use Rattle.graph_orders.specs.Checks.{at_in, all_from, is_placed, has_place, is_after, is_end};
 ghost use Rattle.graph_orders.specs.Checks.{is_no_later, leads_no_later, is_on_the_way};
 ghost use Rattle.graph_orders.specs.Checks.{leads_on, leads_to_latest, is_in_time, AreBelow, Begins};
 ghost use Rattle.graph_orders.specs.Checks.{is_in_order, is_latest, AreLeast, IsTold};
@@ -13,7 +13,7 @@ use xt_names::List;
 #[derive(Drop)]
 pub(crate) struct Guess {
     pub(crate) order: Vec<usize>,
-    /// For each that is put in order, its place there.
+    /// For each that is put in order, its place there, and for each other one the end of the order.
     pub(crate) places: Vec<usize>,
     /// For each place of the graph, the place in the order of the last that it reaches, from 1.
     pub(crate) latest: Vec<usize>,
@@ -32,18 +32,36 @@ pub(crate) fn at_in(numbers: &[usize], place: usize) -> usize
     }
 }
 
-fn is_placed(count: usize, from: &[usize], to: &[usize], place: usize) -> bool
-    ensures { result ≡ is_placed count from.now to.now place }
+fn is_placed(count: usize, order: &[usize], places: &[usize], place: usize) -> bool
+    ensures { result ≡ is_placed count order.now places.now place }
 {
-    let other = at_in(from, place);
-    other < count && at_in(to, other) == place
+    let one = at_in(order, place);
+    one < count && at_in(places, one) == place
 }
 
-fn all_placed(count: usize, from: &[usize], to: &[usize]) -> bool
-    ensures { result ≡ all_from count 0 (is_placed count from.now to.now) }
+fn all_placed(count: usize, order: &[usize], places: &[usize]) -> bool
+    ensures { result ≡ all_from (length order.now) 0 (is_placed count order.now places.now) }
 {
-    for place in 0..count {
-        if !is_placed(count, from, to, place) {
+    for place in 0..order.len() {
+        if !is_placed(count, order, places, place) {
+            return false;
+        }
+    }
+    true
+}
+
+fn has_place(most: usize, places: &[usize], order: &[usize], one: usize) -> bool
+    ensures { result ≡ has_place most places.now order.now one }
+{
+    let place = at_in(places, one);
+    !(place < most) || at_in(order, place) == one
+}
+
+fn all_have_place(count: usize, places: &[usize], order: &[usize]) -> bool
+    ensures { result ≡ all_from count 0 (has_place (length order.now) places.now order.now) }
+{
+    for one in 0..count {
+        if !has_place(order.len(), places, order, one) {
             return false;
         }
     }
@@ -141,17 +159,23 @@ fn all_lead_to_latest(graph: &[List<usize>], at: usize, latest: &[usize], steps:
     true
 }
 
-fn is_in_time(places: &[usize], latest: &[usize], one: usize) -> bool
-    ensures { result ≡ is_in_time places.now latest.now one }
+fn is_in_time(most: usize, places: &[usize], latest: &[usize], one: usize) -> bool
+    ensures { result ≡ is_in_time most places.now latest.now one }
 {
-    !(at_in(places, one) < at_in(latest, one))
+    let place = at_in(places, one);
+    let late = at_in(latest, one);
+    if place < most {
+        !(place < late)
+    } else {
+        most < late
+    }
 }
 
-fn all_in_time(count: usize, places: &[usize], latest: &[usize]) -> bool
-    ensures { result ≡ all_from count 0 (is_in_time places.now latest.now) }
+fn all_in_time(count: usize, most: usize, places: &[usize], latest: &[usize]) -> bool
+    ensures { result ≡ all_from count 0 (is_in_time most places.now latest.now) }
 {
     for one in 0..count {
-        if !is_in_time(places, latest, one) {
+        if !is_in_time(most, places, latest, one) {
             return false;
         }
     }
@@ -173,16 +197,12 @@ fn begin_of(order: &[usize], begins: &[usize], low: usize, place: usize) -> usiz
 }
 
 /// Whether none stands behind a greater one that could have stood there.
-fn are_least(
-    alloc: Global,
-    count: usize,
-    order: &[usize],
-    latest: &[usize],
-) -> Result<bool, AllocError>
-    ensures { IfOk result (λ least. IsTrue least → AreLeast order.now latest.now count) }
+fn are_least(alloc: Global, order: &[usize], latest: &[usize]) -> Result<bool, AllocError>
+    ensures { IfOk result
+        (λ least. IsTrue least → AreLeast order.now latest.now (length order.now)) }
 {
     let mut begins = Vec::new(alloc);
-    for place in 0..count {
+    for place in 0..order.len() {
         let low = at_in(latest, at_in(order, place));
         let begin = begin_of(order, begins.as_slice(), low, place);
         if begin > low {
@@ -201,11 +221,11 @@ fn sizes_are(
     latest: &[usize],
 ) -> bool
     ensures size { IsTrue result → at + count ≡ length graph.now }
-    ensures order { IsTrue result → length order.now ≡ count }
+    ensures order { IsTrue result → length order.now ≤ count }
     ensures latest { IsTrue result → length latest.now ≡ length graph.now }
 {
     let size = graph.len();
-    at <= size && size - at == count && order.len() == count && latest.len() == size
+    at <= size && size - at == count && order.len() <= count && latest.len() == size
 }
 
 fn is_in_order(count: usize, order: &[usize], places: &[usize], latest: &[usize]) -> bool
@@ -214,10 +234,10 @@ fn is_in_order(count: usize, order: &[usize], places: &[usize], latest: &[usize]
     if !all_placed(count, order, places) {
         return false;
     }
-    if !all_placed(count, places, order) {
+    if !all_have_place(count, places, order) {
         return false;
     }
-    all_in_time(count, places, latest)
+    all_in_time(count, order.len(), places, latest)
 }
 
 fn is_latest(
@@ -263,5 +283,5 @@ pub(crate) fn is_told(
     if !is_latest(graph, at, count, places, latest, steps) {
         return Ok(false);
     }
-    are_least(alloc, count, order, latest)
+    are_least(alloc, order, latest)
 }

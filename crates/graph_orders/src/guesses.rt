@@ -146,7 +146,8 @@ fn ordered(
     Ok(order)
 }
 
-/// What is reached last, found by walks backwards from the last in the order to the first.
+/// What is reached last, found by walks backwards from those that are left out of the order, and
+/// then from the last in the order to the first.
 #[derive(Drop)]
 struct Back {
     latest: Vec<usize>,
@@ -197,11 +198,29 @@ fn turn_back(
     Ok(())
 }
 
+/// Begins with those that are left out of the order: whatever reaches them is left out too.
+fn begin_back(
+    state: &mut Back,
+    at: usize,
+    order: &[usize],
+    places: &[usize],
+) -> Result<(), AllocError> {
+    for one in 0..places.len() {
+        if at_in(places, one) >= order.len() {
+            let place = at.saturating_add(one);
+            put(&mut state.latest, place, order.len().saturating_add(1));
+            state.found.push(place)?;
+        }
+    }
+    Ok(())
+}
+
 fn walk_back(
     alloc: Global,
     back: &[List<usize>],
     at: usize,
     order: &[usize],
+    places: &[usize],
 ) -> Result<Back, AllocError> {
     let size = back.len();
     let mut state = Back {
@@ -211,14 +230,19 @@ fn walk_back(
         looked: 0,
         left: order.len(),
     };
+    begin_back(&mut state, at, order, places)?;
     for turns in 0..size.saturating_mul(2) {
         turn_back(&mut state, back, at, order)?;
     }
     Ok(state)
 }
 
+/// For each that is put in order, its place there, and for each other one the end of the order.
 fn places(alloc: Global, count: usize, order: &[usize]) -> Result<Vec<usize>, AllocError> {
-    let mut made = zeros(alloc, count)?;
+    let mut made = Vec::new(alloc);
+    for turns in 0..count {
+        made.push(order.len())?;
+    }
     for place in 0..order.len() {
         put(&mut made, at_in(order, place), place);
     }
@@ -234,8 +258,14 @@ pub(crate) fn guess(
 ) -> Result<Guess, AllocError> {
     let back = backwards(alloc, graph)?;
     let order = ordered(alloc, graph, back.as_slice(), at, count)?;
-    let Back { latest, steps, .. } = walk_back(alloc, back.as_slice(), at, order.as_slice())?;
     let places = places(alloc, count, order.as_slice())?;
+    let Back { latest, steps, .. } = walk_back(
+        alloc,
+        back.as_slice(),
+        at,
+        order.as_slice(),
+        places.as_slice(),
+    )?;
     Ok(Guess {
         order,
         places,

@@ -3,6 +3,7 @@ use crate::orders::with_needs;
 use graph_orders::order_by;
 use std::alloc::AllocGlobal;
 use std::process::Abort;
+use xt_names::List;
 
 // Whether this is the order of so many first places, which the places from `at` on stand for.
 fn is_order(
@@ -61,30 +62,57 @@ fn circles(rt: HostRuntime) {
         ),
         "two, through others"
     );
+    assert!(rt;
+        is_order(
+            &rt,
+            &[&[7], &[5, 6], &[6], &[], &[5], &[], &[], &[], &[], &[]],
+            5,
+            5,
+            &[3]
+        ),
+        "two that each lead to itself, and others that lead to them"
+    );
+    assert!(rt;
+        is_order(
+            &rt,
+            &[&[8], &[6], &[9], &[], &[], &[], &[], &[], &[], &[]],
+            5,
+            5,
+            &[3, 0, 4, 2]
+        ),
+        "one that leads to itself, between others"
+    );
     assert!(rt; is_order(&rt, &[&[9], &[2]], 1, 1, &[0]), "no such places");
 }
 
-// As many places as there are lead to one, and that to itself and to what stands for as many others.
-#[test]
-fn forty_thousand_through_one(rt: HostRuntime) {
+// The order where half of as many places lead to one, and that to itself and to what stands for the
+// places from this one on.
+fn through_one(rt: &(impl Abort + AllocGlobal), from: usize) -> List<usize> {
     let mut graph = Vec::new(rt.alloc());
     for place in 0..20_000 {
-        with_needs(&rt, &mut graph, &[40_000]);
+        with_needs(rt, &mut graph, &[40_000]);
     }
     for place in 0..20_000 {
-        with_needs(&rt, &mut graph, &[]);
+        with_needs(rt, &mut graph, &[]);
     }
     let mut others = Vec::new(rt.alloc());
-    others.push(40_000).expect(&rt, "memory");
-    for place in 60_001..80_001 {
-        others.push(place).expect(&rt, "memory");
+    others.push(40_000).expect(rt, "memory");
+    for place in from..40_000 {
+        others.push(40_001 + place).expect(rt, "memory");
     }
-    with_needs(&rt, &mut graph, others.as_slice());
+    with_needs(rt, &mut graph, others.as_slice());
     drop(others);
     for place in 0..40_000 {
-        with_needs(&rt, &mut graph, &[]);
+        with_needs(rt, &mut graph, &[]);
     }
-    let found = order_by(rt.alloc(), graph.as_slice(), 40_001, 40_000).expect(&rt, "memory");
+    let found = order_by(rt.alloc(), graph.as_slice(), 40_001, 40_000).expect(rt, "memory");
+    drop(graph);
+    found
+}
+
+#[test]
+fn forty_thousand_through_one(rt: HostRuntime) {
+    let found = through_one(&rt, 20_000);
     assert_eq!(rt; found.len(), 40_000);
     assert!(rt;
         found.as_slice().get(0) == Some(&20_000),
@@ -95,5 +123,19 @@ fn forty_thousand_through_one(rt: HostRuntime) {
         "and then the others"
     );
     drop(found);
-    drop(graph);
+}
+
+#[test]
+fn forty_thousand_with_circles(rt: HostRuntime) {
+    let found = through_one(&rt, 0);
+    assert_eq!(rt; found.len(), 20_000);
+    assert!(rt;
+        found.as_slice().get(0) == Some(&20_000),
+        "those that lead nowhere"
+    );
+    assert!(rt;
+        found.as_slice().get(19_999) == Some(&39_999),
+        "to the last"
+    );
+    drop(found);
 }

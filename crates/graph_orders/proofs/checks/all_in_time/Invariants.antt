@@ -4,4 +4,5 @@ use Rattle.graph_orders.proofs.checks.all_in_time.Given as goal
 
 abbrev pub invariant-loop-one : goal.invariant-loop-one
 invariant-loop-one l =
-    all_from (l.count - l.one) l.one (is_in_time l.places l.latest) ≡ all_from l.count 0 (is_in_time l.places l.latest)
+    all_from (l.count - l.one) l.one (is_in_time l.most l.places l.latest)
+    ≡ all_from l.count 0 (is_in_time l.most l.places l.latest)
