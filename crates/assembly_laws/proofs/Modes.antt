@@ -19,7 +19,7 @@ use Rattle.sheet_declarations.specs.Counts.{counted_of}
 use Rattle.sheet_assembly.specs.Named.{each_by, is_marked, behind}
 use Rattle.sheet_assembly.specs.Templates.{standing_template, standing_in, standing_if, place_of}
 use Rattle.sheet_assembly.specs.Templates.{one_more, modes_of, rule_of, rules_of, number_in, name_if}
-use Rattle.sheet_closure.specs.Numbers.{all_below}
+use Rattle.graph_orders.specs.Behind.{all_below}
 use Rattle.assembly_laws.specs.Laws.{has_modes, declares_modes, RulesHaveModes}
 
 range_below : (n from most : ℕ) → from + n ≤ most

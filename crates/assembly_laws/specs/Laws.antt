@@ -25,7 +25,7 @@ use Rattle.sheet_assembly.specs.Sheets.{Parts, sheet_of}
 use Rattle.name_rules.specs.Scopes.{names_differ}
 use Rattle.global_order.specs.Order.{Graph, IsInOrder}
 use Rattle.sheet_closure.specs.Declared.{are_new_functions, global_name}
-use Rattle.sheet_closure.specs.Numbers.{all_below}
+use Rattle.graph_orders.specs.Behind.{all_below}
 
 -- each rule has a template
 abbrev pub RulesHaveTemplates : Type 0

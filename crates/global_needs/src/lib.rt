@@ -5,7 +5,8 @@
 //! that it calls, and the rules of the modes in which it applies templates, and all that these reach.
 //! The mode `#current` is the default mode in the global itself, in functions, and in templates that
 //! these call by name; elsewhere the mode that it stands for is reached already. `needed_order` puts
-//! the globals in the order in which they are evaluated.
+//! the globals in the order in which they are evaluated, and `globals_stand_behind` tells whether
+//! each stands behind those on which it depends.
 //!
 //! Example: where `x` is `f:a()`, the function `f:a` applies templates in the default mode, and a rule
 //! of that mode names `$y`, `x` depends on `y`.
@@ -16,4 +17,4 @@ mod rows;
 mod shapes;
 mod tables;
 
-pub use needs::{global_needs, needed_order};
+pub use needs::{global_needs, globals_stand_behind, needed_order};

@@ -5,10 +5,8 @@ use Rattle.std.specs.List.{list_all}
 use Rattle.xt_sheets.specs.declared.sheets.Level.{Level}
 use Rattle.xt_sheets.specs.declared.sheets.Rule.{Rule}
 use Rattle.xt_sheets.specs.declared.sheets.Sheet.{Sheet}
+use Rattle.graph_orders.specs.Behind.{all_below, are_behind}
 use Rattle.global_needs.specs.Needs.{needs}
-
-abbrev pub all_below : ℕ → List ℕ → Bool
-all_below most numbers = list_all (λ n. nat_lt n most) numbers
 
 -- its template and its modes are there, and its precedence is that of a level
 unfoldable pub is_rule_of : ℕ → ℕ → ℕ → Rule → Bool
@@ -28,11 +26,6 @@ has_numbers s =
     nat_lt 0 (length s.modes)
     && (are_levels 0 s.levels
     && list_all (is_rule_of (length s.templates) (length s.modes) (length s.levels)) s.rules)
-
--- each depends on globals before it alone; so many stand before the first of these
-abbrev pub are_behind : ℕ → List (List ℕ) → Bool
-are_behind before [] = true
-are_behind before (row ∷ rows) = all_below before row && are_behind (before + 1) rows
 
 -- every global stands behind those on which it depends
 unfoldable pub has_order : Sheet → Bool

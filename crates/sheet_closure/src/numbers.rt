@@ -1,12 +1,11 @@
 // Places, levels and numbers, and the order of globals.
 ghost use Rattle.std.specs.Prelude.{◌≡◌, ◌+◌, ◌&&◌, nat_le, IfOk};
 ghost use Rattle.std.specs.List.{list_all};
-ghost use Rattle.sheet_closure.specs.Numbers.{all_below, is_rule_of, are_levels, has_numbers};
-ghost use Rattle.sheet_closure.specs.Numbers.{are_behind, has_order};
+ghost use Rattle.graph_orders.specs.Behind.{all_below};
+ghost use Rattle.sheet_closure.specs.Numbers.{is_rule_of, are_levels, has_numbers, has_order};
 
-use global_needs::global_needs;
+use global_needs::globals_stand_behind;
 use std::alloc::AllocError;
-use xt_names::List;
 use xt_sheets::{Level, Rule, Sheet};
 
 fn are_modes(modes: usize, numbers: &[u32]) -> bool
@@ -77,33 +76,10 @@ pub(crate) fn has_numbers(sheet: &Sheet) -> bool
         )
 }
 
-fn all_below(most: usize, numbers: &[usize]) -> bool
-    ensures { result ≡ all_below most numbers.now }
-{
-    for number in numbers {
-        if !(*number < most) {
-            return false;
-        }
-    }
-    true
-}
-
-fn are_behind(rows: &[List<usize>]) -> bool
-    ensures { result ≡ are_behind 0 rows.now }
-{
-    for place in 0..rows.len() {
-        if !all_below(place, rows[place].as_slice()) {
-            return false;
-        }
-    }
-    true
-}
-
 /// Whether each global stands behind those on which it depends.
 #[tactic(auto, unfolding(crate::specs::Numbers::has_order))]
 pub(crate) fn has_order(sheet: &Sheet) -> Result<bool, AllocError>
     ensures { IfOk result (λ ordered. ordered ≡ has_order sheet.now) }
 {
-    let rows = global_needs(sheet.globals.allocator(), sheet)?;
-    Ok(are_behind(rows.as_slice()))
+    globals_stand_behind(sheet.globals.allocator(), sheet)
 }
