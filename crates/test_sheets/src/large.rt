@@ -2,6 +2,7 @@
 // sizes are such that it ends within a minute too.
 use crate::made::{is_said, load, repeated, sheet, sheet_gets};
 use import_tree::{SheetFault, load_sheet};
+use sheet_closure::sheet_closed;
 use std::alloc::AllocGlobal;
 use std::process::Abort;
 use xt_io::MemFiles;
@@ -86,6 +87,14 @@ fn keys(rt: HostRuntime) {
     drop(content);
 }
 
+// Whether the global of this name stands there.
+fn is_global(sheet: &Sheet, place: usize, name: &str) -> bool {
+    match sheet.globals.as_slice().get(place) {
+        Some(global) => global.bound.name.local.as_str() == name,
+        None => false,
+    }
+}
+
 // As many global variables, each of which names the last one, and as many functions, of which that
 // one calls one.
 #[test]
@@ -102,14 +111,65 @@ fn globals_and_functions(rt: HostRuntime) {
     let sheet = taken(&rt, all.as_str());
     assert!(rt; sheet.globals.len() == 5_001, "globals");
     assert!(rt; sheet.functions.len() == 5_000, "functions");
-    let is_first = match sheet.globals.as_slice() {
-        [] => false,
-        [first, ..] => first.bound.name.local.as_str() == "x",
-    };
-    assert!(rt; is_first, "x is evaluated first");
+    assert!(rt; is_global(&sheet, 0, "x"), "x is evaluated first");
     drop(sheet);
     drop(all);
     drop(content);
+}
+
+// As many global variables, each of which calls one function, which names as many others.
+#[test]
+fn globals_through_a_function(rt: HostRuntime) {
+    let callers = numbered(
+        &rt,
+        "<xsl:variable name='y",
+        "' select='p:f(",
+        ")'/>",
+        5_000,
+    );
+    let named = numbered(&rt, "<xsl:variable name='x", "' select='", "'/>", 5_000);
+    let names = numbered(&rt, " or $x", " = ", "", 5_000);
+    let all = format!(in rt.alloc();
+        "{callers}{named}<xsl:function name='p:f'><xsl:param name='a'/>\
+        <xsl:sequence select='false(){names}'/></xsl:function>"
+    );
+    let all = all.expect(&rt, "memory");
+    let sheet = taken(&rt, all.as_str());
+    assert!(rt; sheet.globals.len() == 10_000, "globals");
+    assert!(rt;
+        is_global(&sheet, 0, "x0"),
+        "those that are named are evaluated first"
+    );
+    assert!(rt; is_global(&sheet, 5_000, "y0"), "and then the others");
+    let is_closed = sheet_closed(&sheet).expect(&rt, "memory");
+    assert!(rt; is_closed, "closed");
+    drop(sheet);
+    drop(all);
+    drop(names);
+    drop(named);
+    drop(callers);
+}
+
+// As many global variables, each of which calls one function, which names all of them.
+#[test]
+fn globals_in_circles(rt: HostRuntime) {
+    let callers = numbered(
+        &rt,
+        "<xsl:variable name='y",
+        "' select='p:f(",
+        ")'/>",
+        5_000,
+    );
+    let names = numbered(&rt, " or $y", " = ", "", 5_000);
+    let all = format!(in rt.alloc();
+        "{callers}<xsl:function name='p:f'><xsl:param name='a'/>\
+        <xsl:sequence select='false(){names}'/></xsl:function>"
+    );
+    let all = all.expect(&rt, "memory");
+    drop(names);
+    drop(callers);
+    assert!(rt; sheet_gets(&rt, all.as_str(), "XTDE0640"), "circles");
+    drop(all);
 }
 
 // As many attributes in one tag.
@@ -149,13 +209,12 @@ fn declaring(rt: &(impl Abort + AllocGlobal), before: &str, behind: &str, count:
     made
 }
 
-// (where they are read each copies the bindings around it, so there are fewer of them)
 #[test]
 fn nested_declarations(rt: HostRuntime) {
     let passed = declaring(&rt, "<p:a>", "</p:a>", 1_997);
     assert!(rt; sheet_gets(&rt, passed.as_str(), ""), "passed over");
     drop(passed);
-    let read = declaring(&rt, "<xsl:template match='a'>", "</xsl:template>", 800);
+    let read = declaring(&rt, "<xsl:template match='a'>", "</xsl:template>", 1_997);
     assert!(rt; sheet_gets(&rt, read.as_str(), "XTLM0004"), "read");
     drop(read);
 }
