@@ -55,7 +55,8 @@ pub(crate) fn of_level(level: Level) -> u8
 }
 
 fn place_of_operation(op: ArithOp) -> u8
-    ensures { (p : PrefixesOf) (a b : ExprOf) → result ≡ (arithmetic op (form_of p a) (form_of p b)).place }
+    ensures { (p : PrefixesOf) (a b : ExprOf)
+        → result ≡ (arithmetic op (form_of p a) (form_of p b)).place }
 {
     match op {
         ArithOp::Add | ArithOp::Sub => of_level(Level::Adds),
@@ -176,46 +177,20 @@ pub(crate) fn is_unmarked(prefixes: &Prefixes, e: &Expr) -> bool
         Expr::Comma(items) => last_unmarked(prefixes, SINGLE, items.get().as_slice()),
         Expr::Or(items) => last_unmarked(prefixes, 14, items.get().as_slice()),
         Expr::And(items) => last_unmarked(prefixes, 13, items.get().as_slice()),
-        Expr::If(_, a) | Expr::Quant(_, _, a) => {
-            let last = is_unmarked(prefixes, a.get());
-            ends_unmarked(prefixes, SINGLE, a.get(), last)
+        Expr::If(_, a) | Expr::Quant(_, _, a) => part_unmarked(prefixes, SINGLE, a.get()),
+        Expr::Flwor(f) => part_unmarked(prefixes, SINGLE, f.body.get()),
+        Expr::General(_, _, b) | Expr::Value(_, _, b) => part_unmarked(prefixes, 12, b.get()),
+        Expr::Is(_, b) | Expr::Before(_, b) | Expr::After(_, b) => {
+            part_unmarked(prefixes, 12, b.get())
         }
-        Expr::Flwor(f) => {
-            let last = is_unmarked(prefixes, f.body.get());
-            ends_unmarked(prefixes, SINGLE, f.body.get(), last)
-        }
-        Expr::General(_, _, b)
-        | Expr::Value(_, _, b)
-        | Expr::Is(_, b)
-        | Expr::Before(_, b)
-        | Expr::After(_, b) => {
-            let last = is_unmarked(prefixes, b.get());
-            ends_unmarked(prefixes, 12, b.get(), last)
-        }
-        Expr::Range(_, b) => {
-            let last = is_unmarked(prefixes, b.get());
-            ends_unmarked(prefixes, 11, b.get(), last)
-        }
-        Expr::Arith(ArithOp::Add | ArithOp::Sub, _, b) => {
-            let last = is_unmarked(prefixes, b.get());
-            ends_unmarked(prefixes, 10, b.get(), last)
-        }
+        Expr::Range(_, b) => part_unmarked(prefixes, 11, b.get()),
+        Expr::Arith(ArithOp::Add | ArithOp::Sub, _, b) => part_unmarked(prefixes, 10, b.get()),
         Expr::Arith(ArithOp::Mul | ArithOp::Idiv | ArithOp::Mod, _, b) => {
-            let last = is_unmarked(prefixes, b.get());
-            ends_unmarked(prefixes, 9, b.get(), last)
+            part_unmarked(prefixes, 9, b.get())
         }
-        Expr::Union(_, b) => {
-            let last = is_unmarked(prefixes, b.get());
-            ends_unmarked(prefixes, 8, b.get(), last)
-        }
-        Expr::Intersect(_, b) | Expr::Except(_, b) => {
-            let last = is_unmarked(prefixes, b.get());
-            ends_unmarked(prefixes, 7, b.get(), last)
-        }
-        Expr::Minus(a) | Expr::Plus(a) => {
-            let last = is_unmarked(prefixes, a.get());
-            ends_unmarked(prefixes, SIGNS, a.get(), last)
-        }
+        Expr::Union(_, b) => part_unmarked(prefixes, 8, b.get()),
+        Expr::Intersect(_, b) | Expr::Except(_, b) => part_unmarked(prefixes, 7, b.get()),
+        Expr::Minus(a) | Expr::Plus(a) => part_unmarked(prefixes, SIGNS, a.get()),
         Expr::InstanceOf(_, kind) | Expr::Treat(_, kind) => is_bare(kind),
         Expr::Int(_) | Expr::Str(_) | Expr::Var(_) | Expr::Context | Expr::Root => false,
         Expr::Castable(_, _, _) | Expr::Cast(_, _, _) | Expr::Slash(_, _) => false,
@@ -223,6 +198,15 @@ pub(crate) fn is_unmarked(prefixes: &Prefixes, e: &Expr) -> bool
         Expr::ElemC(_, _) | Expr::AttrC(_, _) | Expr::PiC(_, _) => false,
         Expr::DocC(_) | Expr::TextC(_) | Expr::CommentC(_) | Expr::Direct(_, _, _) => false,
     }
+}
+
+/// Whether the part ends so where it stands: in parentheses it does not.
+#[cycle(unmarked)]
+fn part_unmarked(prefixes: &Prefixes, place: u8, part: &Expr) -> bool
+    ensures { result ≡ ends_unmarked place (form_of prefixes.now part.now) }
+{
+    let unmarked = is_unmarked(prefixes, part);
+    ends_unmarked(prefixes, place, part, unmarked)
 }
 
 /// Whether the last of two or more ends so.
