@@ -1,10 +1,11 @@
 // The rules, form by form.
-ghost use Rattle.std.specs.Prelude.{◌≡◌, ◌&&◌, map, option_map, IfOk};
+ghost use Rattle.std.specs.Prelude.{◌≡◌, ◌&&◌, true, map, option_map, IfOk};
 ghost use Rattle.expr_names.specs.Doubles.{names_differ};
 ghost use Rattle.clean_raws.specs.Keeps.{all, all_binds, all_attrs, attr_names, if_keeps};
 ghost use Rattle.clean_raws.specs.Keeps.{keeps_rules, arm_keeps_rules, clause_keeps_rules};
 ghost use Rattle.clean_raws.specs.Keeps.{kept_bind, order_keeps_rules, source_keeps_rules};
 ghost use Rattle.clean_raws.specs.Keeps.{kept_attr, part_keeps_rules, flwor_keeps_rules};
+ghost use Rattle.expr_places.specs.Families.{is_branch, is_pair, is_named_constructor};
 
 use crate::attributes::attrs_differ;
 use crate::leaves::{is_cast_type, is_other};
@@ -20,19 +21,64 @@ pub fn keeps_rules(alloc: Global, e: &Expr) -> Result<bool, AllocError>
 {
     match e {
         Expr::Int(_) | Expr::Str(_) | Expr::Var(_) | Expr::Context | Expr::Root => Ok(true),
-        Expr::Comma(es) | Expr::Or(es) | Expr::And(es) | Expr::Step(_, _, es) | Expr::Call(_, es) =>
-            { all_keep(alloc, es.get().as_slice()) }
+        Expr::Comma(es) | Expr::Or(es) | Expr::And(es) => all_keep(alloc, es.get().as_slice()),
+        Expr::Step(_, _, es) | Expr::Call(_, es) => all_keep(alloc, es.get().as_slice()),
+        Expr::If(_, _) | Expr::Quant(_, _, _) => branch_keeps(alloc, e),
+        Expr::Flwor(parts) => flwor_keeps(alloc, parts),
+        Expr::General(_, _, _) | Expr::Value(_, _, _) | Expr::Arith(_, _, _) => {
+            pair_keeps(alloc, e)
+        }
+        Expr::Is(_, _) | Expr::Before(_, _) | Expr::After(_, _) | Expr::Range(_, _) => {
+            pair_keeps(alloc, e)
+        }
+        Expr::Union(_, _) | Expr::Intersect(_, _) | Expr::Except(_, _) | Expr::Slash(_, _) => {
+            pair_keeps(alloc, e)
+        }
+        Expr::Minus(a) | Expr::Plus(a) | Expr::DocC(a) | Expr::TextC(a) | Expr::CommentC(a) => {
+            keeps_rules(alloc, a.get())
+        }
+        Expr::InstanceOf(a, _) | Expr::Treat(a, _) => keeps_rules(alloc, a.get()),
+        Expr::Castable(a, kind, _) | Expr::Cast(a, kind, _) => {
+            let first = keeps_rules(alloc, a.get())?;
+            Ok(first && is_cast_type(kind))
+        }
+        Expr::Filter(of, tests) => {
+            let first = keeps_rules(alloc, of.get())?;
+            let last = all_keep(alloc, tests.get().as_slice())?;
+            Ok(first && last)
+        }
+        _ => constructor_keeps(alloc, e),
+    }
+}
+
+/// A conditional or a quantified expression.
+#[cycle(keep)]
+fn branch_keeps(alloc: Global, e: &Expr) -> Result<bool, AllocError>
+    requires { is_branch e.now ≡ true }
+    ensures { IfOk result (λ keeps. keeps ≡ keeps_rules e.now) }
+{
+    match e {
         Expr::If(arms, other) => {
             let first = arms_keep(alloc, arms.get().as_slice())?;
             let last = keeps_rules(alloc, other.get())?;
             Ok(first && last)
         }
-        Expr::Flwor(parts) => flwor_keeps(alloc, parts),
         Expr::Quant(_, binds, test) => {
             let first = binds_keep(alloc, binds.get().as_slice())?;
             let last = keeps_rules(alloc, test.get())?;
             Ok(first && last)
         }
+        _ => unreachable!(),
+    }
+}
+
+/// Two operands.
+#[cycle(keep)]
+fn pair_keeps(alloc: Global, e: &Expr) -> Result<bool, AllocError>
+    requires { is_pair e.now ≡ true }
+    ensures { IfOk result (λ keeps. keeps ≡ keeps_rules e.now) }
+{
+    match e {
         Expr::General(_, a, b)
         | Expr::Value(_, a, b)
         | Expr::Arith(_, a, b)
@@ -48,22 +94,17 @@ pub fn keeps_rules(alloc: Global, e: &Expr) -> Result<bool, AllocError>
             let last = keeps_rules(alloc, b.get())?;
             Ok(first && last)
         }
-        Expr::Minus(a)
-        | Expr::Plus(a)
-        | Expr::DocC(a)
-        | Expr::TextC(a)
-        | Expr::CommentC(a)
-        | Expr::InstanceOf(a, _)
-        | Expr::Treat(a, _) => keeps_rules(alloc, a.get()),
-        Expr::Castable(a, kind, _) | Expr::Cast(a, kind, _) => {
-            let first = keeps_rules(alloc, a.get())?;
-            Ok(first && is_cast_type(kind))
-        }
-        Expr::Filter(of, tests) => {
-            let first = keeps_rules(alloc, of.get())?;
-            let last = all_keep(alloc, tests.get().as_slice())?;
-            Ok(first && last)
-        }
+        _ => unreachable!(),
+    }
+}
+
+/// A constructor that has a name.
+#[cycle(keep)]
+fn constructor_keeps(alloc: Global, e: &Expr) -> Result<bool, AllocError>
+    requires { is_named_constructor e.now ≡ true }
+    ensures { IfOk result (λ keeps. keeps ≡ keeps_rules e.now) }
+{
+    match e {
         Expr::ElemC(name, content) | Expr::AttrC(name, content) | Expr::PiC(name, content) => {
             let first = source_keeps(alloc, name)?;
             let last = keeps_rules(alloc, content.get())?;
@@ -75,6 +116,7 @@ pub fn keeps_rules(alloc: Global, e: &Expr) -> Result<bool, AllocError>
             let last = parts_keep(alloc, parts.get().as_slice())?;
             Ok(differ && (first && last))
         }
+        _ => unreachable!(),
     }
 }
 
