@@ -1,5 +1,5 @@
 // What each form of expressions asks of its parts.
-ghost use Rattle.std.specs.Prelude.{◌≡◌, [], map, option_map, IfOk};
+ghost use Rattle.std.specs.Prelude.{◌≡◌, true, [], map, option_map, IfOk};
 ghost use Rattle.expr_terms.specs.declared.productions.Class.TheVariants as class_of;
 ghost use Rattle.path_raws.specs.Forms.{all_can};
 ghost use Rattle.control_raws.specs.Operators.{arms_can};
@@ -9,6 +9,8 @@ ghost use Rattle.element_raws.specs.Direct.{attr_can, attrs_can, part_can, parts
 ghost use Rattle.expr_raws.specs.Raws.{form_of, is_printable};
 ghost use Rattle.expr_places.specs.Forms.{arm_form, bind_form, clause_form, order_form, name_form};
 ghost use Rattle.expr_places.specs.Forms.{attr_form, part_form, flwor_form};
+ghost use Rattle.expr_places.specs.Families.{is_branch, is_pair, is_typed, is_step};
+ghost use Rattle.expr_places.specs.Families.{is_named_constructor};
 ghost use Rattle.printable_forms.specs.Lists.{not_one, several};
 ghost use Rattle.printable_forms.specs.Named.{named_can};
 
@@ -40,6 +42,35 @@ pub fn can_be_printed(alloc: Global, prefixes: &Prefixes, e: &Expr) -> Result<bo
         Expr::Var(name) => has_name(alloc, prefixes, name),
         Expr::Comma(es) => can_list(alloc, prefixes, es.get().as_slice()),
         Expr::Or(es) | Expr::And(es) => can_many(alloc, prefixes, es.get().as_slice()),
+        Expr::If(_, _) | Expr::Quant(_, _, _) => can_branch(alloc, prefixes, e),
+        Expr::Flwor(f) => can_flow(alloc, prefixes, f),
+        Expr::General(_, _, _) | Expr::Value(_, _, _) | Expr::Arith(_, _, _) => {
+            can_pair(alloc, prefixes, e)
+        }
+        Expr::Is(_, _) | Expr::Before(_, _) | Expr::After(_, _) | Expr::Range(_, _) => {
+            can_pair(alloc, prefixes, e)
+        }
+        Expr::Union(_, _) | Expr::Intersect(_, _) | Expr::Except(_, _) | Expr::Slash(_, _) => {
+            can_pair(alloc, prefixes, e)
+        }
+        Expr::Minus(a) | Expr::Plus(a) | Expr::DocC(a) | Expr::TextC(a) | Expr::CommentC(a) => {
+            can_be_printed(alloc, prefixes, a.get())
+        }
+        Expr::InstanceOf(_, _) | Expr::Treat(_, _) => can_typed(alloc, prefixes, e),
+        Expr::Castable(_, _, _) | Expr::Cast(_, _, _) => can_typed(alloc, prefixes, e),
+        Expr::Step(_, _, _) | Expr::Filter(_, _) | Expr::Call(_, _) => can_step(alloc, prefixes, e),
+        _ => can_constructor(alloc, prefixes, e),
+    }
+}
+
+/// A conditional or a quantified expression.
+#[cycle(can)]
+#[tactic(auto, using(crate::proofs::TokenLemmas::tokens, crate::proofs::ListLemmas::lists))]
+fn can_branch(alloc: Global, prefixes: &Prefixes, e: &Expr) -> Result<bool, AllocError>
+    requires { is_branch e.now ≡ true }
+    ensures { IfOk result (λ can. can ≡ is_printable prefixes.now e.now) }
+{
+    match e {
         Expr::If(arms, other) => {
             let last = Operand {
                 prefixes,
@@ -51,7 +82,6 @@ pub fn can_be_printed(alloc: Global, prefixes: &Prefixes, e: &Expr) -> Result<bo
                         && (can_be_printed(alloc, prefixes, other.get())? && !is_if(&last))),
             )
         }
-        Expr::Flwor(f) => can_flow(alloc, prefixes, f),
         Expr::Quant(_, binds, test) => {
             Ok(
                 has_binds(binds.get().as_slice())
@@ -59,6 +89,18 @@ pub fn can_be_printed(alloc: Global, prefixes: &Prefixes, e: &Expr) -> Result<bo
                         && can_be_printed(alloc, prefixes, test.get())?),
             )
         }
+        _ => unreachable!(),
+    }
+}
+
+/// Two operands.
+#[cycle(can)]
+#[tactic(auto, using(crate::proofs::TokenLemmas::tokens, crate::proofs::ListLemmas::lists))]
+fn can_pair(alloc: Global, prefixes: &Prefixes, e: &Expr) -> Result<bool, AllocError>
+    requires { is_pair e.now ≡ true }
+    ensures { IfOk result (λ can. can ≡ is_printable prefixes.now e.now) }
+{
+    match e {
         Expr::General(_, a, b)
         | Expr::Value(_, a, b)
         | Expr::Arith(_, a, b)
@@ -75,9 +117,18 @@ pub fn can_be_printed(alloc: Global, prefixes: &Prefixes, e: &Expr) -> Result<bo
                     && can_be_printed(alloc, prefixes, b.get())?,
             )
         }
-        Expr::Minus(a) | Expr::Plus(a) | Expr::DocC(a) | Expr::TextC(a) | Expr::CommentC(a) => {
-            can_be_printed(alloc, prefixes, a.get())
-        }
+        _ => unreachable!(),
+    }
+}
+
+/// An operator on a type.
+#[cycle(can)]
+#[tactic(auto, using(crate::proofs::TokenLemmas::tokens, crate::proofs::ListLemmas::lists))]
+fn can_typed(alloc: Global, prefixes: &Prefixes, e: &Expr) -> Result<bool, AllocError>
+    requires { is_typed e.now ≡ true }
+    ensures { IfOk result (λ can. can ≡ is_printable prefixes.now e.now) }
+{
+    match e {
         Expr::InstanceOf(a, kind) | Expr::Treat(a, kind) => {
             Ok(
                 can_be_printed(alloc, prefixes, a.get())?
@@ -87,6 +138,18 @@ pub fn can_be_printed(alloc: Global, prefixes: &Prefixes, e: &Expr) -> Result<bo
         Expr::Castable(a, kind, _) | Expr::Cast(a, kind, _) => {
             Ok(can_be_printed(alloc, prefixes, a.get())? && has_type(alloc, prefixes, *kind)?)
         }
+        _ => unreachable!(),
+    }
+}
+
+/// A step, a filter or a call.
+#[cycle(can)]
+#[tactic(auto, using(crate::proofs::TokenLemmas::tokens, crate::proofs::ListLemmas::lists))]
+fn can_step(alloc: Global, prefixes: &Prefixes, e: &Expr) -> Result<bool, AllocError>
+    requires { is_step e.now ≡ true }
+    ensures { IfOk result (λ can. can ≡ is_printable prefixes.now e.now) }
+{
+    match e {
         Expr::Step(on, test, es) => {
             Ok(
                 has_node_test(alloc, prefixes, *on, test)?
@@ -103,6 +166,18 @@ pub fn can_be_printed(alloc: Global, prefixes: &Prefixes, e: &Expr) -> Result<bo
         Expr::Call(name, es) => {
             Ok(has_call(alloc, prefixes, name)? && can_each(alloc, prefixes, es.get().as_slice())?)
         }
+        _ => unreachable!(),
+    }
+}
+
+/// A constructor that has a name.
+#[cycle(can)]
+#[tactic(auto, using(crate::proofs::TokenLemmas::tokens, crate::proofs::ListLemmas::lists))]
+fn can_constructor(alloc: Global, prefixes: &Prefixes, e: &Expr) -> Result<bool, AllocError>
+    requires { is_named_constructor e.now ≡ true }
+    ensures { IfOk result (λ can. can ≡ is_printable prefixes.now e.now) }
+{
+    match e {
         Expr::ElemC(name, a) => {
             Ok(
                 can_element_name(alloc, prefixes, name)?
@@ -128,6 +203,7 @@ pub fn can_be_printed(alloc: Global, prefixes: &Prefixes, e: &Expr) -> Result<bo
                         && can_parts(alloc, prefixes, false, parts.get().as_slice())?),
             )
         }
+        _ => unreachable!(),
     }
 }
 
