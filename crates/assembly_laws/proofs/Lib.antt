@@ -4,3 +4,4 @@ mod Globals
 mod Levels
 mod Parts
 mod Modes
+mod Spaces

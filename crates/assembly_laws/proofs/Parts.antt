@@ -92,7 +92,7 @@ module _ (a : Asked) where
   at_all (g ∷ gs) zero xs h i = and_from _ _ (and_parts (a.of_global g) _ h).0 i
   at_all (g ∷ gs) (suc n) xs h i = at_all gs n xs (and_parts (a.of_global g) _ h).1 i
 
-  ordered_all : (gs : List Global) (places : List ℕ) → list_all a.of_global gs ≡ true
+  pub ordered_all : (gs : List Global) (places : List ℕ) → list_all a.of_global gs ≡ true
       → list_all a.of_global (ordered gs places) ≡ true
   ordered_all gs [] h = refl
   ordered_all gs (i ∷ places) h = at_all gs i (ordered gs places) h (ordered_all gs places h)

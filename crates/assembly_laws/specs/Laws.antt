@@ -5,6 +5,7 @@ use Rattle.std.specs.List.{list_all}
 use Rattle.xt_names.specs.declared.names.ExprName.{ExprName}
 use Rattle.xt_syntax.specs.declared.exprs.Expr.{Expr}
 use Rattle.xt_syntax.specs.declared.patterns.Pattern.{Pattern}
+use Rattle.xt_types.specs.declared.node_tests.SpaceRule.{SpaceRule}
 use Rattle.sheet_modules.specs.declared.templates.ModeSet.{ModeSet}
 use Rattle.sheet_modules.specs.declared.templates.ModeSet.TheVariants.{All, Numbers}
 use Rattle.sheet_declarations.specs.declared.lists.Declaration.{Declaration}
@@ -115,3 +116,19 @@ abbrev pub RulesHaveModes : Type 0
 RulesHaveModes = (p : Parts)
     → list_all (λ d. declares_modes (length p.modes) d.part) p.declarations ≡ true
     → list_all (λ r. all_below (length p.modes) r.modes) (sheet_of p).rules ≡ true
+
+abbrev pub declares_spaces : (SpaceRule → Bool) → Part Expr Pattern → Bool
+declares_spaces q (part.Space rules) = list_all q rules
+declares_spaces q (part.Global g) = true
+declares_spaces q (part.Template t rules) = true
+declares_spaces q (part.Function f) = true
+declares_spaces q (part.Key keys) = true
+declares_spaces q (part.Output omit) = true
+declares_spaces q part.Ignored = true
+declares_spaces q part.Linked = true
+
+-- what each rule on white space has that is declared, those of the stylesheet have
+abbrev pub SpacesAreDeclared : Type 0
+SpacesAreDeclared = (q : SpaceRule → Bool) (p : Parts)
+    → list_all (λ d. declares_spaces q d.part) p.declarations ≡ true
+    → list_all q (sheet_of p).space ≡ true

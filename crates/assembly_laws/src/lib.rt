@@ -8,6 +8,7 @@
 
 ghost use Rattle.assembly_laws.specs.Laws.{RulesHaveTemplates, RulesHaveLevels, FunctionsDiffer};
 ghost use Rattle.assembly_laws.specs.Laws.{GlobalsDiffer, PartsAreDeclared, RulesHaveModes};
+ghost use Rattle.assembly_laws.specs.Laws.{SpacesAreDeclared};
 
 /// The template of each rule of the stylesheet stands among its templates (XSLT 2.0, 6.4).
 pub fn rules_have_templates()
@@ -40,4 +41,9 @@ pub fn globals_differ()
 /// stylesheet has (XSLT 2.0, 3.10.3).
 pub fn parts_are_declared()
     ensures { PartsAreDeclared }
+{}
+
+/// What each rule on white space has that is declared, the rules of the stylesheet have (XSLT 2.0, 4.4).
+pub fn spaces_are_declared()
+    ensures { SpacesAreDeclared }
 {}
