@@ -1,3 +1,3 @@
 mod PlaceLemmas
-mod AxisLemmas
 mod CountLemmas
+mod NextLemmas

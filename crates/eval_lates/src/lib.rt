@@ -8,11 +8,11 @@
 #![tactic(auto)]
 
 mod answers;
+mod nexts;
 mod places;
 mod variables;
-mod walks;
 
 pub use answers::late_answer;
-pub use places::late_item;
+pub use nexts::late_next;
+pub use places::{late_item, late_place};
 pub use variables::late_variable;
-pub use walks::late_step;

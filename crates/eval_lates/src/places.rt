@@ -1,8 +1,9 @@
 // The item at a place.
-ghost use Rattle.std.specs.Prelude.{◌≡◌, ◌^◌, ℕ, ◌∷◌, [], IfOk, OnOk, length, nat_lt};
+ghost use Rattle.std.specs.Prelude.{◌≡◌, ◌<◌, ◌^◌, ℕ, ◌∷◌, [], IfOk, OnOk, length, nat_lt};
 ghost use Rattle.std.specs.Option.{option_to_list};
 ghost use Rattle.node_walks.specs.Moves.{given};
 ghost use Rattle.lazy_seq.specs.Flow.{item_at};
+ghost use Rattle.outcomes.specs.Outcome.{Ends};
 ghost use Rattle.expr_meaning.specs.Env.{Env};
 ghost use Rattle.expr_meaning.specs.Paths.{kept};
 ghost use Rattle.eval_scopes.specs.Answers.{Answers};
@@ -39,6 +40,16 @@ fn item_there(alloc: Global, items: Seq, place: i64) -> Result<ItemList, AllocEr
     let found = items.at(place)?;
     drop(items);
     list_of(alloc, found)
+}
+
+/// What a predicate that is an integer keeps of at most 2^63-1 items: the item at that position,
+/// which counts from 1 (XPath 2.0, 3.3.2). Those behind it are not looked for.
+pub fn late_place(alloc: Global, items: Seq, place: i64) -> Result<ItemList, AllocError>
+    requires { length (given items.moves) < 2 ^ 63 }
+    ensures { (env : Env) (k : ℕ) → IfOk result (λ list.
+        kept (literal place) env (given items.moves) k ≡ Ends list k) }
+{
+    item_there(alloc, items, place)
 }
 
 /// What a predicate that is an integer keeps: the item at that position, which counts from 1

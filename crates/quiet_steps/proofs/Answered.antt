@@ -1,6 +1,6 @@
 -- What a walk answers.
 use Rattle.std.proofs.Common.{◌≡◌, ◌<◌, length, refl, sym, ap, ◌∙◌, subst}
-use Rattle.std.specs.Prelude.{◌^◌, true, Option, Some, None, option_and_then, Result, Ok, Err, IfOk}
+use Rattle.std.specs.Prelude.{◌^◌, true, Option, Some, None, option_and_then}
 use Rattle.xdm_items.specs.declared.items.Item.{Item}
 use Rattle.xt_syntax.specs.declared.exprs.Expr.{Expr}
 use Rattle.lazy_seq.specs.Flow.{Flow}
@@ -24,11 +24,6 @@ use Rattle.way_laws.specs.Ways.{can_be_counted}
 use Rattle.way_laws.proofs.Nodes.{known, way_few}
 use Rattle.way_laws.proofs.Means.{way_law}
 use Rattle.quiet_steps.specs.Late.{AnswersWalk, AnswersWay, IsAlong, IsValue}
-
-pub if_ok : {A E : Type 0} (r : Result A E) (P Q : A → Type 0) → ((x : A) → P x → Q x) → IfOk r P →
-    IfOk r Q
-if_ok (Ok x) P Q h p = h x p
-if_ok (Err e) P Q h p = p
 
 way_is_value : (s : Flow) (e : Expr) (env : Env) (w : Way) → way_of e env.focus ≡ Some w →
     IsAlong s w → IsValue s e env

@@ -7,8 +7,7 @@
 //! Example: `(//a[@b = "x"])[1]` looks at no node behind the first that it gives.
 #![tactic(auto)]
 
-mod places;
 mod routes;
 mod walks;
 
-pub use walks::{has_late_walk, late_walk, late_walk_place};
+pub use walks::{has_late_walk, late_walk, late_walk_list, late_walk_place};

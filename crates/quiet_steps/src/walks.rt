@@ -21,8 +21,8 @@ ghost use Rattle.quiet_steps.specs.Routes.{way_along};
 ghost use Rattle.way_laws.specs.Ways.{can_be_counted, has_walk, is_walked, node_in};
 ghost use Rattle.way_laws.specs.Ways.{way_at, way_nodes, way_of};
 
-use crate::places::late_place;
 use crate::routes::{Route, route_of};
+use eval_lates::late_place;
 use eval_scopes::{Env, EvalFault, Focus};
 use lazy_seq::Seq;
 use node_axes::Cursor;
@@ -197,6 +197,17 @@ pub fn late_walk(alloc: Global, env: &Env, e: &Expr) -> Result<Seq, EvalFault>
         (outcome program e.now (env_of env.now) k) }
 {
     Ok(walk_there(alloc, env, e)?)
+}
+
+/// The same as a list. Of all nodes along the axis only those of the value are made items.
+#[inline(never)]
+pub fn late_walk_list(alloc: Global, env: &Env, e: &Expr) -> Result<ItemList, EvalFault>
+    requires { has_walk (way_of e.now (env_of env.now).focus) ≡ true }
+    ensures { (program : Program) (k : ℕ) → Answers result k
+        (outcome program e.now (env_of env.now) k) }
+{
+    let items = walk_there(alloc, env, e)?;
+    Ok(items.to_list(alloc)?)
 }
 
 /// What a predicate that is an integer keeps of it: the item at that position, which counts from 1

@@ -4,16 +4,17 @@ use Rattle.std.specs.Int.{w64}
 use Rattle.std.specs.Option.{option_to_list}
 use Rattle.std.proofs.lemmas.Bool.{lt-ltb}
 use Rattle.std.proofs.lemmas.Int.{to_z-of_z}
+use Rattle.std.proofs.lemmas.Result.{IfOk-weaker}
 use Rattle.node_walks.specs.Moves.{given}
 use Rattle.lazy_seq.specs.Flow.{item_at}
 use Rattle.outcomes.specs.Outcome.{Ends}
-use Rattle.quiet_steps.proofs.PlaceLemmas.{kept_there, if_ok}
-use Rattle.quiet_steps.proofs.places.late_place.Goals as goal
+use Rattle.eval_lates.proofs.PlaceLemmas.{kept_there}
+use Rattle.eval_lates.proofs.places.late_place.Goals as goal
 
 pub returns : goal.returns
 returns c =
     let fits : FitsSigned w64 c.args.place = search rules in
-    λ env k. if_ok c.item_there.result _ _
+    λ env k. IfOk-weaker c.item_there.result _ _
     (λ list e. kept_there c.args.place env (given c.args.items.moves) k (lt-ltb _ _ c.requires)
     ∙ ap (λ (n : ℤ). Ends (option_to_list (item_at n (given c.args.items.moves))) k)
     (sym (to_z-of_z w64 c.args.place fits)) ∙ ap (λ xs. Ends xs k) (sym e)) c.item_there.ensures
