@@ -23,7 +23,8 @@ use Rattle.xt_syntax.specs.declared.exprs.Clause.TheFolds.{fold_out-Arm, fold_ou
 use Rattle.xt_syntax.specs.declared.exprs.Clause.TheFolds.{fold_out-Order, fold_out-DirectAttr}
 use Rattle.xt_syntax.specs.declared.exprs.Clause.TheFolds.{fold_out-Flwor}
 use Rattle.xdm_items.specs.declared.items.Item.{Item}
-use Rattle.outcomes.specs.Outcome.{Outcome, Ends, and_then, step_outcome}
+use Rattle.outcomes.specs.Outcome.{Outcome, Ends, Fails, and_then, step_outcome}
+use Rattle.outcomes.specs.Outcome.{Deep as NoCallLeft}
 use Rattle.expr_meaning.specs.Env.{Binding, Env, Meaning, Program, bind, at_focus}
 use Rattle.expr_meaning.specs.Logic.{Bound, truth_at, unless, first_of, choice_of, either_of}
 use Rattle.expr_meaning.specs.Logic.{item_decides, quantified, typed}
@@ -40,11 +41,13 @@ use Rattle.expr_meaning.specs.Meaning.{outcome, placed_clause}
 use Rattle.expr_meaning.specs.Values.{variable, of_focus}
 use Rattle.expr_meaning.specs.Calls.{call_of}
 use Rattle.eval_scopes.specs.declared.faults.EvalFault.{EvalFault}
+use Rattle.eval_scopes.specs.declared.faults.EvalFault.TheVariants as fault
 use Rattle.eval_scopes.specs.Answers.{IsFaultOf}
 use Rattle.eval_steps.specs.Parts.{arm_outcome, bind_outcome, order_outcome, attr_outcome}
 use Rattle.eval_steps.specs.Parts.{part_outcome, clause_outcome, flwor_outcome}
 use Rattle.eval_steps.specs.Sizes.{total, nodes, arm_nodes, bind_nodes, order_nodes, attr_nodes}
 use Rattle.eval_steps.specs.Sizes.{part_nodes, clause_nodes, flwor_nodes, or_0}
+use Rattle.eval_steps.specs.Lists.{first_bound}
 use Rattle.eval_steps.specs.Steps.{alone, bound_outcome, key_of_tuple}
 use Rattle.xt_tree.specs.declared.trees.Tree.TheVariants.{Attr}
 use Rattle.xt_atoms.specs.Casts.{wrong_type}
@@ -202,40 +205,60 @@ by_variable {kind} {same_kind} {var} {same_var} e f rest go x env k =
     rw (e, f) (from_value same_var (typed same_kind (x ∷ [])) k
     (λ b j. and_then (rest (bound_at b env) j) go))
 
+-- a value is no fault, unless memory ran out
+not_ended : {A B : Type 0} (g : EvalFault) (v : A) (k : ℕ) (o : Outcome B) →
+    IsFaultOf g (Ends v k) → IsFaultOf g o
+not_ended (fault.Error code) v k o h = absurd cc
+not_ended fault.Deep v k o h = absurd cc
+not_ended (fault.Memory e) v k o h = tt
+
+same_fault : {A B : Type 0} (f : A → B) (g : EvalFault) (o : Outcome A) →
+    IsFaultOf g (and_then o (λ v j. Ends (f v) j)) → IsFaultOf g o
+same_fault f (fault.Error code) (Ends v k) h = absurd cc
+same_fault f (fault.Error code) (Fails other) h = cc
+same_fault f (fault.Error code) NoCallLeft h = absurd cc
+same_fault f fault.Deep (Ends v k) h = absurd cc
+same_fault f fault.Deep (Fails other) h = absurd cc
+same_fault f fault.Deep NoCallLeft h = refl
+same_fault f (fault.Memory e) o h = tt
+
 -- one more item of a quantifier's binding
-module _ (p : Program) (decisive : Bool) (clause : Bind) (rest : Env → ℕ → Outcome Bool)
-    (items : List Item) (i : ℕ) (x d : Item) (env : Env) (k : ℕ) (o : Outcome Bool)
-    (lt : i < length items) (is : x ≡ get_or items i d)
-    (inv : item_decides decisive (bind_outcome p clause) rest env (drop i items) k ≡ o) where
-  abbrev value : Outcome Binding
-  value = bound_outcome (out-Bind clause).var (typed (out-Bind clause).kind (x ∷ [])) k
+module _ (p : Program) (decisive : Bool) (clause : Bind) (rest : Env → ℕ → Outcome Bool) (env : Env)
+    (k : ℕ) (o : Outcome Bool) where
+  abbrev bound : Item → ℕ → Outcome Binding
+  bound x j = bound_outcome (out-Bind clause).var (typed (out-Bind clause).kind (x ∷ [])) j
 
-  next_item : item_decides decisive (bind_outcome p clause) rest env (drop i items) k
-      ≡ and_then value (λ b j. and_then (rest (bound_at b env) j)
-      (unless decisive (item_decides decisive (bind_outcome p clause) rest env
-      (drop (i + 1) items))))
-  next_item =
-      rw (drop-cons items i d lt, ← is, add-one)
-      (by_variable (kind_is p clause) (var_is p clause) rest
-      (unless decisive (item_decides decisive (bind_outcome p clause) rest env (drop (suc i) items)))
-      x env k)
+  next_turn : (before after : List Item) (x : Item) → before ≡ x ∷ after →
+      item_decides decisive (bind_outcome p clause) rest env before k
+      ≡ and_then (bound x k) (λ b j. and_then (rest (bound_at b env) j)
+      (unless decisive (item_decides decisive (bind_outcome p clause) rest env after)))
+  next_turn before after x e =
+      rw e (by_variable (kind_is p clause) (var_is p clause) rest
+      (unless decisive (item_decides decisive (bind_outcome p clause) rest env after)) x env k)
 
-  pub item_value_fault : (g : EvalFault) → IsFaultOf g value → IsFaultOf g o
-  item_value_fault g h = rw (← inv, next_item) (fault_first g value _ h)
+  pub turn_value_fault : (before : List Item) (g : EvalFault) →
+      item_decides decisive (bind_outcome p clause) rest env before k ≡ o →
+      IsFaultOf g (first_bound bound before k) → IsFaultOf g o
+  turn_value_fault [] g inv h = not_ended {A = List Binding} g [] k o h
+  turn_value_fault (x ∷ xs) g inv h =
+      rw (← inv, next_turn (x ∷ xs) xs x refl) (fault_first g (bound x k) _
+      (same_fault (λ (b : Binding). b ∷ []) g (bound x k) h))
 
-  pub item_rest_fault : (b : Binding) (g : EvalFault) → value ≡ Ends b k →
-      IsFaultOf g (rest (bound_at b env) k) → IsFaultOf g o
-  item_rest_fault b g v h =
-      rw (← inv, next_item, v) (fault_first g (rest (bound_at b env) k) _ h)
+  module _ (before after : List Item) (x : Item) (b : Binding) (e : before ≡ x ∷ after)
+      (inv : item_decides decisive (bind_outcome p clause) rest env before k ≡ o)
+      (value : bound x k ≡ Ends b k) where
+    pub turn_rest_fault : (g : EvalFault) → IsFaultOf g (rest (bound_at b env) k) → IsFaultOf g o
+    turn_rest_fault g h =
+        rw (← inv, next_turn before after x e, value) (fault_first g (rest (bound_at b env) k) _ h)
 
-  pub item_decided : (b : Binding) (t : Bool) (j : ℕ) → value ≡ Ends b k →
-      rest (bound_at b env) k ≡ Ends t j → beq t decisive ≡ true → o ≡ Ends t j
-  item_decided b t j v m h = rw (← inv, next_item, v, m, h) refl
+    pub turn_decided : (t : Bool) (j : ℕ) → rest (bound_at b env) k ≡ Ends t j →
+        beq t decisive ≡ true → o ≡ Ends t j
+    turn_decided t j m h = rw (← inv, next_turn before after x e, value, m, h) refl
 
-  pub item_passed : (b : Binding) (t : Bool) (j : ℕ) → value ≡ Ends b k →
-      rest (bound_at b env) k ≡ Ends t j → beq t decisive ≡ false →
-      item_decides decisive (bind_outcome p clause) rest env (drop (i + 1) items) j ≡ o
-  item_passed b t j v m h = rw (← inv, next_item, v, m, h) refl
+    pub turn_passed : (t : Bool) (j : ℕ) → rest (bound_at b env) k ≡ Ends t j →
+        beq t decisive ≡ false →
+        item_decides decisive (bind_outcome p clause) rest env after j ≡ o
+    turn_passed t j m h = rw (← inv, next_turn before after x e, value, m, h) refl
 
 pub same_truth : (a b : Bool) → beq a b ≡ true → a ≡ b
 same_truth true true h = refl

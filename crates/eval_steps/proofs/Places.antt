@@ -1,5 +1,6 @@
 -- Lists whose items have places.
-use Rattle.std.proofs.Common.{◌≡◌, ℕ, refl, ap, sym, List, length}
+use Rattle.std.proofs.Common.{◌≡◌, ℕ, zero, suc, ◌+◌, ◌<◌, refl, ap, sym, arith, List, [], ◌∷◌}
+use Rattle.std.proofs.Common.{length, get_or}
 use Rattle.std.specs.Prelude.{◌^◌, Bool, true, false, if◌then◌else◌, nat_lt, Result, Ok, Err}
 use Rattle.std.specs.List.{list_all}
 use Rattle.xt_names.specs.declared.codes.Code.TheVariants.{Dynamic}
@@ -8,7 +9,7 @@ use Rattle.xdm_items.specs.declared.items.Item.{Item}
 use Rattle.operator_values.specs.Nodes.{is_node}
 use Rattle.function_arguments.specs.Arguments.{and_then as result_then}
 use Rattle.outcomes.specs.Outcome.{Outcome, Ends, Fails, Deep, and_then, for_each, step_outcome}
-use Rattle.sort_meaning.specs.Sorted.{placed, placed_from, places}
+use Rattle.sort_meaning.specs.Sorted.{Placed, placed, placed_from, places}
 use Rattle.expr_meaning.specs.Env.{Env, Meaning, at_focus}
 use Rattle.expr_meaning.specs.Paths.{path_places, path_value, slash_of}
 use Rattle.eval_scopes.specs.declared.faults.EvalFault.{EvalFault}
@@ -89,3 +90,20 @@ module _ (a b : Meaning) (env : Env) (k : ℕ) (xs : List Item) (j : ℕ) (e : a
         each ≡ Ends ys i → Answers r left (step_outcome (path_value ys) i) →
         Answers r left (slash_of a b env k)
     slash_answers r left ys i m h = rw (two_steps, m) h
+
+pub placed_length : {A : Type 0} (at size : ℕ) (xs : List A) →
+    length (placed_from at size xs) ≡ length xs
+placed_length at size [] = refl
+placed_length at size (x ∷ xs) = ap suc (placed_length (suc at) size xs)
+
+-- an element of a list in its place
+pub placed_item : {A : Type 0} (at size : ℕ) (xs : List A) (i : ℕ) (x d : A) (e : Placed A) →
+    i < length xs → x ≡ get_or xs i d →
+    record { value = x; place = at + i; size = size } ≡ get_or (placed_from at size xs) i e
+placed_item at size [] i x d e lt is = absurd (omega arith)
+placed_item at size (y ∷ ys) zero x d e lt is =
+    let same : at + 0 ≡ at = omega arith in
+    rw (same, is) refl
+placed_item at size (y ∷ ys) (suc i) x d e lt is =
+    let same : at + suc i ≡ suc at + i = omega arith in
+    rw same (placed_item (suc at) size ys i x d e (omega arith) is)

@@ -13,6 +13,6 @@ mod steps;
 pub use steps::{
     WRONG_TYPE, bound_item, bound_list, bound_place, is_kept_at, list_size, literal_integer,
     literal_place, literal_text, ordered_items, path_items, path_size, place_in, pop_variable,
-    push_attribute, push_cell, push_kept, push_list, push_variable, step_from, truth_list,
-    truth_of, tuple_key,
+    push_attribute, push_cell, push_item, push_kept, push_list, push_next, push_position,
+    push_value, push_variable, step_from, truth_list, truth_of, tuple_key,
 };

@@ -6,7 +6,8 @@ ghost use Rattle.xt_atoms.specs.declared.atoms.Atom.TheVariants.{Str};
 ghost use Rattle.xdm_items.specs.declared.items.Item.TheVariants.{Atom as as_atom};
 ghost use Rattle.xt_syntax.specs.declared.exprs.Clause.TheViews.{out-Bind};
 ghost use Rattle.function_arguments.specs.Answers.{of_integer};
-ghost use Rattle.eval_steps.specs.Lists.{AnswersAs};
+ghost use Rattle.eval_steps.specs.Lists.{AnswersAs, AnswersNext, AnswersPushed, IsPushed};
+ghost use Rattle.node_walks.specs.Moves.{given};
 ghost use Rattle.eval_steps.specs.Steps.{alone, bound_outcome, item_count, path_count};
 ghost use Rattle.xdm_items.specs.Truth.{truth_of};
 ghost use Rattle.outcomes.specs.Outcome.{Outcome, Ends, step_outcome, and_then};
@@ -22,6 +23,7 @@ ghost use Rattle.xt_tree.specs.declared.trees.Tree.TheVariants.{Attr as attribut
 ghost use Rattle.eval_scopes.specs.Answers.{Answers};
 ghost use Rattle.eval_scopes.specs.Scopes.{binding_of, env_of};
 
+use eval_lates::late_next;
 use eval_nodes::attribute_node;
 use eval_scopes::{Env, EvalFault, Focus, Variable};
 use eval_values::{Place, is_kept, key_cell, one, path_value, step, typed};
@@ -205,6 +207,92 @@ pub fn push_variable(bound: &mut Vec<Variable>, variable: Variable) -> Result<()
     ensures { OnOk result (bound.new.items ≡ bound.old.items ++ variable ∷ []) }
 {
     bound.push(variable)?;
+    Ok(())
+}
+
+/// Binds the variable of a `for` to an item within those that are bound already (XPath 2.0, 3.7 and
+/// 3.9). Who calls holds no variable of its own, so that its frame on the stack stays small.
+#[inline(never)]
+pub fn push_item(
+    alloc: Global,
+    bound: &mut Vec<Variable>,
+    bind: &Bind,
+    item: &Item,
+) -> Result<(), EvalFault>
+    ensures { (k : ℕ) → AnswersPushed result bound.old.items bound.new.items k
+        (bound_outcome (out-Bind bind.now).var (typed (out-Bind bind.now).kind (item.now ∷ [])) k) }
+{
+    let variable = bound_item(alloc, bind, item)?;
+    push_variable(bound, variable)?;
+    Ok(())
+}
+
+/// Takes the first item of a sequence out, and binds the variable of a quantifier to it; false
+/// where there is none. None behind it is looked for (XPath 2.0, 3.9).
+#[inline(never)]
+pub fn push_next(
+    alloc: Global,
+    bound: &mut Vec<Variable>,
+    bind: &Bind,
+    items: &mut Seq,
+) -> Result<bool, EvalFault>
+    ensures { (k : ℕ) → AnswersNext (λ x. bound_outcome (out-Bind bind.now).var
+        (typed (out-Bind bind.now).kind (x ∷ []))) result bound.old.items bound.new.items
+        (given items.old.moves) (given items.new.moves) k }
+{
+    match late_next(items)? {
+        None => Ok(false),
+        Some(item) => {
+            push_taken(alloc, bound, bind, item)?;
+            Ok(true)
+        }
+    }
+}
+
+fn push_taken(
+    alloc: Global,
+    bound: &mut Vec<Variable>,
+    bind: &Bind,
+    item: Item,
+) -> Result<(), EvalFault>
+    ensures { (k : ℕ) → AnswersPushed result bound.old.items bound.new.items k
+        (bound_outcome (out-Bind bind.now).var (typed (out-Bind bind.now).kind (item ∷ [])) k) }
+{
+    let pushed = push_item(alloc, bound, bind, &item);
+    drop(item);
+    pushed
+}
+
+/// Binds the variable of a `let` within those that are bound already (XQuery 1.0, 3.8.1).
+#[inline(never)]
+pub fn push_value(
+    alloc: Global,
+    bound: &mut Vec<Variable>,
+    bind: &Bind,
+    items: ItemList,
+) -> Result<(), EvalFault>
+    ensures { (k : ℕ) → AnswersPushed result bound.old.items bound.new.items k
+        (bound_outcome (out-Bind bind.now).var (typed (out-Bind bind.now).kind items) k) }
+{
+    let variable = bound_list(alloc, bind, items)?;
+    push_variable(bound, variable)?;
+    Ok(())
+}
+
+/// Binds the variable of the position of a `for` within those that are bound already (XQuery 1.0,
+/// 3.8.1).
+#[inline(never)]
+pub fn push_position(
+    alloc: Global,
+    bound: &mut Vec<Variable>,
+    at: &ExprName,
+    place: Place,
+) -> Result<(), AllocError>
+    ensures { OnOk result (IsPushed (at.now, of_integer (pos place)) bound.old.items
+        bound.new.items) }
+{
+    let variable = bound_place(alloc, at, place)?;
+    push_variable(bound, variable)?;
     Ok(())
 }
 

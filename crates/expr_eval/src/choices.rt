@@ -4,13 +4,15 @@ ghost use Rattle.eval_scopes.specs.Answers.{Answers};
 ghost use Rattle.eval_scopes.specs.Scopes.{env_of, program_of};
 ghost use Rattle.expr_eval.specs.Serves.{Serves};
 ghost use Rattle.expr_meaning.specs.Meaning.{outcome};
+ghost use Rattle.node_walks.specs.Moves.{given};
 ghost use Rattle.expr_meaning.specs.Logic.{truth_at, first_of, choice_of, quantified, item_decides};
 ghost use Rattle.eval_steps.specs.Parts.{arm_outcome, bind_outcome};
 
 use crate::hosts::{Callee, Host};
 use eval_scopes::{Env, EvalFault, Scope};
-use eval_steps::{bound_item, truth_of};
-use xdm_items::{Item, ItemList};
+use eval_steps::{pop_variable, push_next, truth_of};
+use lazy_seq::Seq;
+use xdm_items::ItemList;
 use xt_names::ExprName;
 use xt_syntax::{Arm, Bind, Expr};
 
@@ -85,7 +87,8 @@ impl<'a, G: Callee, F: Fn(&ExprName, &[ItemList], &mut u64) -> Result<ItemList, 
         self.eval(env, next, other)
     }
 
-    /// The bindings of a quantifier that are left (XPath 2.0, 3.9).
+    /// The bindings of a quantifier that are left. No item behind the one that decides is looked
+    /// for (XPath 2.0, 3.9).
     #[cycle(eval)]
     #[inline(never)]
     pub(crate) fn eval_binds(
@@ -106,8 +109,10 @@ impl<'a, G: Callee, F: Fn(&ExprName, &[ItemList], &mut u64) -> Result<ItemList, 
         match binds {
             [] => self.eval_truth(env, next, test),
             [first, rest @ ..] => {
-                let items = self.eval(env, next, first.source.get())?;
-                self.eval_items(env, next, decisive, first, items.as_slice(), rest, test)
+                let mut items = self.eval_late(env, next, first.source.get())?;
+                let truth = self.eval_items(env, next, decisive, first, &mut items, rest, test);
+                drop(items);
+                truth
             }
         }
     }
@@ -121,7 +126,7 @@ impl<'a, G: Callee, F: Fn(&ExprName, &[ItemList], &mut u64) -> Result<ItemList, 
         next: &mut u64,
         decisive: bool,
         bind: &Bind,
-        items: &[Item],
+        items: &mut Seq,
         rest: &[Bind],
         test: &Expr,
     ) -> Result<bool, EvalFault>
@@ -131,13 +136,12 @@ impl<'a, G: Callee, F: Fn(&ExprName, &[ItemList], &mut u64) -> Result<ItemList, 
             (G.keys self.now.given) in
             Answers result next.new (item_decides decisive (bind_outcome p bind.now)
             (quantified decisive (map (bind_outcome p) rest.now) (outcome p test.now))
-            (env_of env.now) items.now next.old) }
+            (env_of env.now) (given items.old.moves) next.old) }
     {
-        for item in items {
-            let bound = bound_item(self.alloc, bind, item)?;
-            let variable = [bound];
+        let mut bound = Vec::new(self.alloc);
+        'turns: while push_next(self.alloc, &mut bound, bind, items)? {
             let scope = Scope::Inner {
-                variables: &variable,
+                variables: bound.as_slice(),
                 outer: &*env.locals,
             };
             let inner = Env {
@@ -146,6 +150,7 @@ impl<'a, G: Callee, F: Fn(&ExprName, &[ItemList], &mut u64) -> Result<ItemList, 
                 state: &*env.state,
             };
             let truth = self.eval_binds(&inner, next, decisive, rest, test)?;
+            pop_variable(&mut bound);
             if truth == decisive {
                 return Ok(decisive);
             }

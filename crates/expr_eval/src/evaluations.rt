@@ -13,6 +13,7 @@ use eval_scopes::{Env, EvalFault, context_item, document_root, variable_list};
 use eval_steps::{literal_integer, literal_text, truth_list};
 use eval_values::{OneOperator, Operator, append, apply, apply_to_one};
 use operator_values::treated;
+use quiet_steps::{has_late_walk, late_walk_list};
 use xdm_items::ItemList;
 use xt_names::{ExprName, List};
 use xt_syntax::{Expr, Flwor};
@@ -108,14 +109,18 @@ impl<'a, G: Callee, F: Fn(&ExprName, &[ItemList], &mut u64) -> Result<ItemList, 
                 OneOperator::Cast(*to, *empty),
                 a.get(),
             ),
-            Expr::Slash(a, b) => self.eval_slash(env, next, a.get(), b.get()),
-            Expr::Step(axis, test, tests) => self.eval_step(
-                env,
-                next,
-                *axis,
-                test,
-                tests.get().as_slice(),
-            ),
+            Expr::Slash(a, b) => {
+                if has_late_walk(alloc, env, e)? {
+                    return late_walk_list(alloc, env, e);
+                }
+                self.eval_slash(env, next, a.get(), b.get())
+            }
+            Expr::Step(axis, test, tests) => {
+                if has_late_walk(alloc, env, e)? {
+                    return late_walk_list(alloc, env, e);
+                }
+                self.eval_step(env, next, *axis, test, tests.get().as_slice())
+            }
             Expr::Filter(of, tests) => self.eval_filter(
                 env,
                 next,

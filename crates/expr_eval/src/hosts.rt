@@ -1,5 +1,5 @@
 // The program that expressions stand in.
-ghost use Rattle.std.specs.Prelude.{◌≡◌, map, length};
+ghost use Rattle.std.specs.Prelude.{◌≡◌, ◌≤◌, map, length};
 ghost use Rattle.outcomes.specs.Outcome.{step_outcome};
 ghost use Rattle.expr_meaning.specs.Env.{Calls, Keys};
 ghost use Rattle.expr_meaning.specs.Calls.{call_value, found_by_key};
@@ -7,16 +7,22 @@ ghost use Rattle.operator_values.specs.Operands.{atom_of};
 ghost use Rattle.eval_calls.specs.Called.{called_as};
 ghost use Rattle.eval_scopes.specs.Answers.{Answers};
 ghost use Rattle.eval_scopes.specs.Scopes.{env_of, program_of};
+ghost use Rattle.eval_steps.specs.Parts.{flwor_outcome};
+ghost use Rattle.eval_steps.specs.Sizes.{flwor_nodes, nodes};
 ghost use Rattle.expr_eval.specs.Serves.{Serves};
+ghost use Rattle.expr_meaning.specs.Meaning.{outcome};
 
 use eval_calls::{
     Called, call_library, current_item, group_key, group_members, key_name, key_root,
 };
+use eval_inner::Within;
 use eval_scopes::{Env, EvalFault, Fixed, document_value};
+use flow_eval::Flows;
 use fn_lib::argument;
 use std::alloc::Global;
 use xdm_items::ItemList;
 use xt_names::{ExprName, List, Text};
+use xt_syntax::{Expr, Flwor};
 use xt_tree::Node;
 
 /// Of what program the calls are, and what key() finds in it.
@@ -53,6 +59,12 @@ pub struct Host<'a, G, F> {
     pub given: G,
     /// What makes them: the name, the arguments, and the next number of a tree.
     pub calls: F,
+}
+
+impl<'a, G: Callee, F> Within for Host<'a, G, F> {
+    ghost use Rattle.eval_scopes.specs.Scopes.{program_of};
+
+    ghost program = { λ h. program_of h.fixed (G.calls h.given) (G.keys h.given) };
 }
 
 impl<'a, G: Callee, F: Fn(&ExprName, &[ItemList], &mut u64) -> Result<ItemList, EvalFault>> Host<
@@ -120,5 +132,41 @@ impl<'a, G: Callee, F: Fn(&ExprName, &[ItemList], &mut u64) -> Result<ItemList, 
             Called::Key => self.call_key(env, next, lists),
             Called::Declared => self.call_declared(next, name, lists),
         }
+    }
+
+    /// A FLWOR expression, with what evaluates the expressions within it (XQuery 1.0, 3.8).
+    #[cycle(eval)]
+    #[inline(never)]
+    pub(crate) fn eval_flwor(
+        &self,
+        env: &Env,
+        next: &mut u64,
+        parts: &Flwor,
+    ) -> Result<ItemList, EvalFault>
+        requires callable { F.IsAlwaysCallable self.now.calls }
+        requires serves { Serves (F.post self.now.calls) (G.calls self.now.given) }
+        ensures { let p = program_of self.now.fixed (G.calls self.now.given)
+            (G.keys self.now.given) in
+            Answers result next.new (flwor_outcome p parts.now (env_of env.now) next.old) }
+    {
+        let eval = |env: &Env, next: &mut u64, e: &Expr| -> Result<ItemList, EvalFault>
+            requires callable { F.IsAlwaysCallable self.now.calls }
+            requires serves { Serves (F.post self.now.calls) (G.calls self.now.given) }
+            requires within { nodes e.now ≤ flwor_nodes parts.now }
+            ensures { let host = self.entry.now in
+                let p = program_of host.fixed (G.calls host.given) (G.keys host.given) in
+                Answers result next.new (outcome p e.now (env_of env.now) next.old) }
+        {
+            // What is captured is what a clause can name.
+            let _whole = parts;
+            self.eval(env, next, e)
+        };
+        let flows = Flows {
+            alloc: self.alloc,
+            within: &*self,
+            whole: &*parts,
+            eval,
+        };
+        flows.eval_flwor(env, next)
     }
 }

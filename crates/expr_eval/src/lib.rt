@@ -12,13 +12,10 @@ mod calling;
 mod choices;
 mod elements;
 mod evaluations;
-mod flows;
 mod hosts;
 mod lates;
 mod making;
 mod naming;
 mod paths;
-mod rows;
-mod streams;
 
 pub use hosts::{Callee, Host};

@@ -10,7 +10,6 @@ ghost use Rattle.outcomes.specs.Outcome.{and_then, for_each, step_outcome};
 ghost use Rattle.expr_meaning.specs.Env.{at_focus};
 
 use crate::hosts::{Callee, Host};
-use eval_lates::late_item;
 use eval_scopes::{Env, EvalFault, Focus};
 use eval_steps::{
     is_kept_at, list_size, literal_place, ordered_items, path_items, path_size, place_in,
@@ -129,10 +128,7 @@ impl<'a, G: Callee, F: Fn(&ExprName, &[ItemList], &mut u64) -> Result<ItemList, 
             (env_of env.now) next.old) }
     {
         match literal_place(tests) {
-            Some(place) => {
-                let items = self.eval_late(env, next, of)?;
-                late_item(self.alloc, items, place)
-            }
+            Some(place) => self.eval_place(env, next, of, place),
             None => {
                 let items = self.eval(env, next, of)?;
                 self.eval_predicates(env, next, tests, items)

@@ -1,0 +1,31 @@
+-- A closure that evaluates the expressions within a form.
+use Rattle.std.specs.Prelude.{ℕ, List, Result, ◌≤◌}
+use Rattle.std.specs.Borrow.{Bor, MutBor}
+use Rattle.xdm_items.specs.declared.items.Item.{Item}
+use Rattle.xt_syntax.specs.declared.exprs.Expr.{Expr}
+use Rattle.expr_meaning.specs.Env.{Program}
+use Rattle.expr_meaning.specs.Meaning.{outcome}
+use Rattle.eval_scopes.specs.declared.environments.Env.{Env}
+use Rattle.eval_scopes.specs.declared.faults.EvalFault.{EvalFault}
+use Rattle.eval_scopes.specs.Answers.{Answers}
+use Rattle.eval_scopes.specs.Scopes.{env_of}
+use Rattle.eval_steps.specs.Sizes.{nodes}
+
+-- what a call of it needs, and what holds of its answer
+abbrev pub Pre : Type 1
+Pre = Bor Env → MutBor ℕ → Bor Expr → Type 0
+
+abbrev pub Post : Type 1
+Post = Bor Env → MutBor ℕ → Bor Expr → Result (List Item) EvalFault → MutBor ℕ → Type 0
+
+-- it may be called at every expression of at most so many nodes
+unfoldable pub CanEvaluate : Pre → ℕ → Type 0
+CanEvaluate pre n =
+    (env : Bor Env) (next : MutBor ℕ) (e : Bor Expr) → nodes e.now ≤ n → pre env next e
+
+-- each answer is the outcome of the expression in the program
+unfoldable pub Evaluates : Post → Program → Type 0
+Evaluates post p =
+    (env : Bor Env) (next : MutBor ℕ) (e : Bor Expr) (r : Result (List Item) EvalFault)
+    (left : MutBor ℕ) → post env next e r left →
+    Answers r left.now (outcome p e.now (env_of env.now) next.now)

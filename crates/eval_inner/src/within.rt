@@ -1,0 +1,8 @@
+// The program that the expressions within a form stand in.
+
+/// What evaluates expressions of one program, which contracts see; it has nothing to call.
+pub trait Within {
+    ghost use Rattle.expr_meaning.specs.Env.{Program};
+
+    ghost program: { Self → Program };
+}

@@ -1,0 +1,8 @@
+use Rattle.eval_steps.proofs.steps.push_position.Goals as goal
+
+pub returns : goal.returns
+returns c = (
+  c.in_ok-variable.variable,
+  c.in_ok-push_variable.ensures,
+  c.in_ok-variable.ensures,
+)

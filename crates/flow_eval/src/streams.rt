@@ -1,0 +1,196 @@
+// FLWOR expressions whose tuples are not held.
+ghost use Rattle.std.specs.Prelude.{◌≤◌, ◌+◌, map};
+ghost use Rattle.xt_syntax.specs.declared.exprs.Clause.TheViews.{out-Flwor};
+ghost use Rattle.outcomes.specs.Outcome.{and_then, for_each, step_outcome};
+ghost use Rattle.sort_meaning.specs.Sorted.{places};
+ghost use Rattle.expr_meaning.specs.Meaning.{outcome};
+ghost use Rattle.eval_inner.specs.Inner.{CanEvaluate, Evaluates};
+ghost use Rattle.eval_steps.specs.Parts.{bind_outcome};
+ghost use Rattle.eval_steps.specs.Sizes.{bind_nodes, clause_nodes, flwor_nodes, total};
+ghost use Rattle.eval_scopes.specs.Answers.{Answers};
+ghost use Rattle.eval_scopes.specs.Scopes.{env_of};
+ghost use Rattle.flow_streams.specs.Streams.{stream_of, stream_for, stream_let, stream_item};
+ghost use Rattle.flow_streams.specs.Streams.{stream_place, binder_of};
+
+use crate::inner::Flows;
+use eval_inner::Within;
+use eval_scopes::{Env, EvalFault, Scope};
+use eval_steps::{list_size, place_in, pop_variable, push_item, push_position, push_value};
+use eval_values::append;
+use xdm_items::{Item, ItemList};
+use xt_names::{ExprName, List};
+use xt_syntax::{Bind, Clause, Expr};
+
+impl<'a, W: Within, E: Fn(&Env, &mut u64, &Expr) -> Result<ItemList, EvalFault>> Flows<'a, W, E> {
+    /// The clauses that are left, and the body of each tuple as soon as the tuple stands (XQuery
+    /// 1.0, 3.8).
+    #[cycle(stream)]
+    #[inline(never)]
+    pub(crate) fn eval_stream(
+        &self,
+        env: &Env,
+        next: &mut u64,
+        clauses: &[Clause],
+    ) -> Result<ItemList, EvalFault>
+        requires callable { CanEvaluate (E.pre self.now.eval) (flwor_nodes self.now.whole.now) }
+        requires serves { Evaluates (E.post self.now.eval) (W.program self.now.within.now) }
+        requires within { total (map clause_nodes clauses.now) ≤ flwor_nodes self.now.whole.now }
+        ensures { let p = W.program self.now.within.now in
+            Answers result next.new (stream_of (map (binder_of p) clauses.now)
+            (outcome p (out-Flwor self.now.whole.now).body) (env_of env.now) next.old) }
+    {
+        match clauses {
+            [] => self.value(env, next, self.whole.body.get()),
+            [first, rest @ ..] => match first {
+                Clause::For(bind, place) => self.stream_for(env, next, bind, place, rest),
+                Clause::Let(bind) => self.stream_let(env, next, bind, rest),
+            },
+        }
+    }
+
+    /// A `let` and what follows it (XQuery 1.0, 3.8.1).
+    #[cycle(stream)]
+    #[inline(never)]
+    pub(crate) fn stream_let(
+        &self,
+        env: &Env,
+        next: &mut u64,
+        bind: &Bind,
+        rest: &[Clause],
+    ) -> Result<ItemList, EvalFault>
+        requires callable { CanEvaluate (E.pre self.now.eval) (flwor_nodes self.now.whole.now) }
+        requires serves { Evaluates (E.post self.now.eval) (W.program self.now.within.now) }
+        requires within { bind_nodes bind.now + total (map clause_nodes rest.now)
+            ≤ flwor_nodes self.now.whole.now }
+        ensures { let p = W.program self.now.within.now in
+            Answers result next.new (stream_let (bind_outcome p bind.now)
+            (stream_of (map (binder_of p) rest.now) (outcome p (out-Flwor self.now.whole.now).body))
+            (env_of env.now) next.old) }
+    {
+        let items = self.value(env, next, bind.source.get())?;
+        let mut bound = Vec::new(self.alloc);
+        push_value(self.alloc, &mut bound, bind, items)?;
+        let scope = Scope::Inner {
+            variables: bound.as_slice(),
+            outer: &*env.locals,
+        };
+        let inner = Env {
+            locals: &scope,
+            focus: &*env.focus,
+            state: &*env.state,
+        };
+        self.eval_stream(&inner, next, rest)
+    }
+
+    /// A `for` and what follows it (XQuery 1.0, 3.8.1).
+    #[cycle(stream)]
+    #[inline(never)]
+    pub(crate) fn stream_for(
+        &self,
+        env: &Env,
+        next: &mut u64,
+        bind: &Bind,
+        place: &Option<ExprName>,
+        rest: &[Clause],
+    ) -> Result<ItemList, EvalFault>
+        requires callable { CanEvaluate (E.pre self.now.eval) (flwor_nodes self.now.whole.now) }
+        requires serves { Evaluates (E.post self.now.eval) (W.program self.now.within.now) }
+        requires within { bind_nodes bind.now + total (map clause_nodes rest.now)
+            ≤ flwor_nodes self.now.whole.now }
+        ensures { let p = W.program self.now.within.now in
+            Answers result next.new (stream_for (bind_outcome p bind.now) place.now
+            (stream_of (map (binder_of p) rest.now) (outcome p (out-Flwor self.now.whole.now).body))
+            (env_of env.now) next.old) }
+    {
+        let items = self.value(env, next, bind.source.get())?;
+        match place {
+            None => self.stream_turns(env, next, bind, items.as_slice(), rest),
+            Some(at) => self.stream_places(env, next, bind, at, items.as_slice(), rest),
+        }
+    }
+
+    /// What follows a `for`, at each of its items (XQuery 1.0, 3.8.1).
+    #[cycle(stream)]
+    #[inline(never)]
+    pub(crate) fn stream_turns(
+        &self,
+        env: &Env,
+        next: &mut u64,
+        bind: &Bind,
+        items: &[Item],
+        rest: &[Clause],
+    ) -> Result<ItemList, EvalFault>
+        requires callable { CanEvaluate (E.pre self.now.eval) (flwor_nodes self.now.whole.now) }
+        requires serves { Evaluates (E.post self.now.eval) (W.program self.now.within.now) }
+        requires within { total (map clause_nodes rest.now) ≤ flwor_nodes self.now.whole.now }
+        ensures { let p = W.program self.now.within.now in
+            Answers result next.new (for_each (stream_item (bind_outcome p bind.now)
+            (stream_of (map (binder_of p) rest.now) (outcome p (out-Flwor self.now.whole.now).body))
+            (env_of env.now)) items.now next.old) }
+    {
+        let mut list = List::new(self.alloc);
+        let mut bound = Vec::new(self.alloc);
+        for item in items {
+            push_item(self.alloc, &mut bound, bind, item)?;
+            let scope = Scope::Inner {
+                variables: bound.as_slice(),
+                outer: &*env.locals,
+            };
+            let inner = Env {
+                locals: &scope,
+                focus: &*env.focus,
+                state: &*env.state,
+            };
+            let more = self.eval_stream(&inner, next, rest)?;
+            pop_variable(&mut bound);
+            list = append(list, more)?;
+        }
+        Ok(list)
+    }
+
+    /// The same with the position of each item (XQuery 1.0, 3.8.1).
+    #[cycle(stream)]
+    #[inline(never)]
+    pub(crate) fn stream_places(
+        &self,
+        env: &Env,
+        next: &mut u64,
+        bind: &Bind,
+        at: &ExprName,
+        items: &[Item],
+        rest: &[Clause],
+    ) -> Result<ItemList, EvalFault>
+        requires callable { CanEvaluate (E.pre self.now.eval) (flwor_nodes self.now.whole.now) }
+        requires serves { Evaluates (E.post self.now.eval) (W.program self.now.within.now) }
+        requires within { total (map clause_nodes rest.now) ≤ flwor_nodes self.now.whole.now }
+        ensures { let p = W.program self.now.within.now in
+            Answers result next.new (and_then (step_outcome (places items.now) next.old)
+            (for_each (stream_place (bind_outcome p bind.now) at.now
+            (stream_of (map (binder_of p) rest.now) (outcome p (out-Flwor self.now.whole.now).body))
+            (env_of env.now)))) }
+    {
+        let size = list_size(items)?;
+        let mut list = List::new(self.alloc);
+        let mut bound = Vec::new(self.alloc);
+        let mut position = 0;
+        for item in items {
+            position += 1;
+            push_item(self.alloc, &mut bound, bind, item)?;
+            push_position(self.alloc, &mut bound, at, place_in(size, position))?;
+            let scope = Scope::Inner {
+                variables: bound.as_slice(),
+                outer: &*env.locals,
+            };
+            let inner = Env {
+                locals: &scope,
+                focus: &*env.focus,
+                state: &*env.state,
+            };
+            let more = self.eval_stream(&inner, next, rest)?;
+            pop_variable(&mut bound);
+            pop_variable(&mut bound);
+            list = append(list, more)?;
+        }
+        Ok(list)
+    }
+}
