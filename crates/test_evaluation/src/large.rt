@@ -54,6 +54,37 @@ fn many_elements(rt: HostRuntime) {
     drop(document);
 }
 
+// Whether there is a node, and which is the first, of 300,000 nodes: a walk of them all each time
+// would visit 90,000,000,000 in the first case and 9,000,000,000 in each other.
+#[test]
+fn first_nodes(rt: HostRuntime) {
+    let document = many(&rt, "<l>", "<a k='x'/>", 300_000, "</l>");
+    let cases = [
+        (
+            "count(for $i in 1 to 300000 return exists(descendant::a))",
+            "300000",
+        ),
+        (
+            "count(for $i in 1 to 30000 return exists(//a[@k]))",
+            "30000",
+        ),
+        (
+            "count(for $i in 1 to 30000 return (//a[@k = 'x'])[1])",
+            "30000",
+        ),
+        (
+            "count((for $i in 1 to 30000 return empty(/descendant::a[@k][3]))[not(.)])",
+            "30000",
+        ),
+    ];
+    for (text, wanted) in cases {
+        let found = told(&rt, text, document.as_str(), 0);
+        assert_eq!(rt; found.as_str(), wanted);
+        drop(found);
+    }
+    drop(document);
+}
+
 // Nesting 400.
 #[test]
 fn deep_nesting(rt: HostRuntime) {
