@@ -29,7 +29,7 @@ impl AtomKey {
             Atom::Str(text) | Atom::Untyped(text) => Ok(AtomKey::Str(text.copy()?)),
             Atom::Int(number) => Ok(AtomKey::Int(*number)),
             Atom::Bool(truth) => Ok(AtomKey::Bool(*truth)),
-            Atom::QName(name) => Ok(AtomKey::QName(name.copy()?)),
+            Atom::QName(name) => Ok(AtomKey::QName(name.get().copy()?)),
         }
     }
 }

@@ -14,7 +14,7 @@ use eval_values::one;
 use lazy_seq::Seq;
 use std::alloc::{AllocError, Global};
 use xdm_items::{Item, ItemList};
-use xt_names::{Code, DynamicCode, List};
+use xt_names::{Code, DynamicCode};
 
 /// Whether there are at most 2^63-1 items.
 fn can_be_counted(items: &mut Seq) -> Result<bool, AllocError>
@@ -29,7 +29,7 @@ fn list_of(alloc: Global, item: Option<Item>) -> Result<ItemList, AllocError>
 {
     match item {
         Some(item) => one(alloc, item),
-        None => Ok(List::new(alloc)),
+        None => Ok(ItemList::new(alloc)),
     }
 }
 

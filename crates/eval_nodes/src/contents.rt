@@ -9,7 +9,7 @@ ghost use Rattle.expr_meaning.specs.Making.{with_text, text_item};
 use std::alloc::{AllocError, Global};
 use xdm_items::{Item, ItemList};
 use xt_atoms::to_text;
-use xt_names::{List, Name, Text, TextBuilder};
+use xt_names::{Name, Text, TextBuilder};
 use xt_tree::{Node, Tree};
 
 /// Literal characters of a direct element, as a text node (XQuery 1.0, 3.7.1.3).
@@ -89,7 +89,7 @@ fn take(
 pub fn joined_atoms(alloc: Global, items: &ItemList) -> Result<ItemList, AllocError>
     ensures { IfOk result (λ made. made ≡ joined_atoms items.now) }
 {
-    let mut made = List::new(alloc);
+    let mut made = ItemList::new(alloc);
     let mut run = None;
     for item in items.as_slice() {
         run = take(alloc, &mut made, run, item)?;

@@ -74,7 +74,7 @@ fn name_of_atom(
     ensures { Answers (name_of_atom namespaces.now default.now atom.now) result }
 {
     match atom {
-        Atom::QName(name) => Ok(name.copy()?),
+        Atom::QName(name) => Ok(name.get().copy()?),
         Atom::Str(text) | Atom::Untyped(text) => {
             name_of_text(alloc, namespaces, default, text.as_str())
         }

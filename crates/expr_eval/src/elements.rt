@@ -15,7 +15,7 @@ use eval_steps::push_attribute;
 use eval_values::{append, one};
 use expr_names::no_text;
 use xdm_items::ItemList;
-use xt_names::{ExprName, List, Name, Text, TextBuilder};
+use xt_names::{ExprName, Name, Text, TextBuilder};
 use xt_syntax::{DirectAttr, Part};
 
 impl<'a, G: Callee, F: Fn(&ExprName, &[ItemList], &mut u64) -> Result<ItemList, EvalFault>> Host<
@@ -63,7 +63,7 @@ impl<'a, G: Callee, F: Fn(&ExprName, &[ItemList], &mut u64) -> Result<ItemList, 
             Answers result next.new (for_each (direct_attribute (env_of env.now))
             (map (attr_outcome p) attributes.now) next.old) }
     {
-        let mut list = List::new(self.alloc);
+        let mut list = ItemList::new(self.alloc);
         for attribute in attributes {
             let text = self.eval_value(env, next, attribute.parts.get().as_slice())?;
             push_attribute(self.alloc, &mut list, &attribute.name, text)?;
@@ -137,7 +137,7 @@ impl<'a, G: Callee, F: Fn(&ExprName, &[ItemList], &mut u64) -> Result<ItemList, 
             Answers result next.new (for_each (content_part (env_of env.now))
             (map (part_outcome p) parts.now) next.old) }
     {
-        let mut list = List::new(self.alloc);
+        let mut list = ItemList::new(self.alloc);
         for part in parts {
             let more = self.eval_part(env, next, part)?;
             list = append(list, more)?;

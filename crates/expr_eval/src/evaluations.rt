@@ -15,7 +15,7 @@ use eval_values::{OneOperator, Operator, append, apply, apply_to_one};
 use operator_values::treated;
 use quiet_steps::{has_late_walk, late_walk_list};
 use xdm_items::ItemList;
-use xt_names::{ExprName, List};
+use xt_names::ExprName;
 use xt_syntax::{Expr, Flwor};
 use xt_types::SeqType;
 
@@ -156,7 +156,7 @@ impl<'a, G: Callee, F: Fn(&ExprName, &[ItemList], &mut u64) -> Result<ItemList, 
             (G.keys self.now.given) in
             Answers result next.new (comma_of (map (outcome p) all.now) (env_of env.now) next.old) }
     {
-        let mut list = List::new(self.alloc);
+        let mut list = ItemList::new(self.alloc);
         for e in all {
             let more = self.eval(env, next, e)?;
             list = append(list, more)?;

@@ -21,7 +21,7 @@ use flow_eval::Flows;
 use fn_lib::argument;
 use std::alloc::Global;
 use xdm_items::ItemList;
-use xt_names::{ExprName, List, Text};
+use xt_names::{ExprName, Text};
 use xt_syntax::{Expr, Flwor};
 use xt_tree::Node;
 
@@ -95,7 +95,7 @@ impl<'a, G: Callee, F: Fn(&ExprName, &[ItemList], &mut u64) -> Result<ItemList, 
             Answers result next.new (found_by_key p (env_of env.now) lists.now next.old) }
     {
         let alloc = self.alloc;
-        let none = List::new(alloc);
+        let none = ItemList::new(alloc);
         let root = key_root(alloc, env.focus)?;
         let name = key_name(alloc, argument(lists, 0, &none))?;
         self.given
@@ -123,7 +123,7 @@ impl<'a, G: Callee, F: Fn(&ExprName, &[ItemList], &mut u64) -> Result<ItemList, 
         match called {
             Called::Library(f) => Ok(call_library(alloc, f, env.focus, lists)?),
             Called::Document => {
-                let none = List::new(alloc);
+                let none = ItemList::new(alloc);
                 document_value(alloc, &self.fixed, argument(lists, 0, &none))
             }
             Called::Current => Ok(current_item(alloc, env.state.current)?),

@@ -17,7 +17,7 @@ use eval_steps::{
 };
 use eval_values::append;
 use xdm_items::{Item, ItemList};
-use xt_names::{ExprName, List};
+use xt_names::ExprName;
 use xt_syntax::Expr;
 use xt_types::{Axis, Test};
 
@@ -66,7 +66,7 @@ impl<'a, G: Callee, F: Fn(&ExprName, &[ItemList], &mut u64) -> Result<ItemList, 
             (for_each (λ f. outcome p b.now (at_focus (env_of env.now) f)))) }
     {
         let size = path_size(nodes)?;
-        let mut list = List::new(self.alloc);
+        let mut list = ItemList::new(self.alloc);
         let mut position = 0;
         for item in nodes {
             position += 1;
@@ -178,7 +178,7 @@ impl<'a, G: Callee, F: Fn(&ExprName, &[ItemList], &mut u64) -> Result<ItemList, 
             next.old) }
     {
         let size = list_size(items)?;
-        let mut kept = List::new(self.alloc);
+        let mut kept = ItemList::new(self.alloc);
         let mut position = 0;
         for item in items {
             position += 1;

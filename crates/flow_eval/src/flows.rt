@@ -323,7 +323,7 @@ impl<'a, W: Within, E: Fn(&Env, &mut u64, &Expr) -> Result<ItemList, EvalFault>>
             (bind_all bound (env_of env.now)))
             (map (tuple_at rows.now.tuples.items) places.now) next.old) }
     {
-        let mut list = List::new(self.alloc);
+        let mut list = ItemList::new(self.alloc);
         for place in places {
             let more = self.eval_behind(env, next, rows.tuple(*place), body)?;
             list = append(list, more)?;

@@ -18,7 +18,7 @@ use eval_scopes::{Env, EvalFault, Scope};
 use eval_steps::{list_size, place_in, pop_variable, push_item, push_position, push_value};
 use eval_values::append;
 use xdm_items::{Item, ItemList};
-use xt_names::{ExprName, List};
+use xt_names::ExprName;
 use xt_syntax::{Bind, Clause, Expr};
 
 impl<'a, W: Within, E: Fn(&Env, &mut u64, &Expr) -> Result<ItemList, EvalFault>> Flows<'a, W, E> {
@@ -128,7 +128,7 @@ impl<'a, W: Within, E: Fn(&Env, &mut u64, &Expr) -> Result<ItemList, EvalFault>>
             (stream_of (map (binder_of p) rest.now) (outcome p (out-Flwor self.now.whole.now).body))
             (env_of env.now)) items.now next.old) }
     {
-        let mut list = List::new(self.alloc);
+        let mut list = ItemList::new(self.alloc);
         let mut bound = Vec::new(self.alloc);
         for item in items {
             push_item(self.alloc, &mut bound, bind, item)?;
@@ -170,7 +170,7 @@ impl<'a, W: Within, E: Fn(&Env, &mut u64, &Expr) -> Result<ItemList, EvalFault>>
             (env_of env.now)))) }
     {
         let size = list_size(items)?;
-        let mut list = List::new(self.alloc);
+        let mut list = ItemList::new(self.alloc);
         let mut bound = Vec::new(self.alloc);
         let mut position = 0;
         for item in items {

@@ -11,7 +11,6 @@ use std::alloc::Global;
 use text_functions as texts;
 use xdm_items::ItemList;
 use xt_atoms::ValueFault;
-use xt_names::List;
 
 /// What the function answers to these arguments, in front of which stands what it reads of the
 /// focus: its value, or the code of its first error (Functions and Operators). It asks nothing of
@@ -21,7 +20,7 @@ use xt_names::List;
 pub fn call(alloc: Global, f: Builtin, args: &[ItemList]) -> Result<ItemList, ValueFault>
     ensures { Answers (function_value f args.now) result }
 {
-    let none = List::new(alloc);
+    let none = ItemList::new(alloc);
     let a = argument(args, 0, &none);
     let b = argument(args, 1, &none);
     let c = argument(args, 2, &none);

@@ -6,13 +6,13 @@ ghost use Rattle.function_arguments.specs.Answers.{of_text, of_integer, of_truth
 use std::alloc::{AllocError, Global};
 use xdm_items::{Item, ItemList};
 use xt_atoms::Atom;
-use xt_names::{List, Text};
+use xt_names::Text;
 
 /// The list without items, which takes no memory.
 pub fn no_items(alloc: Global) -> ItemList
     ensures { result ≡ [] }
 {
-    List::new(alloc)
+    ItemList::new(alloc)
 }
 
 /// The list of the text, as an xs:string.
@@ -50,7 +50,5 @@ pub fn truth_list(alloc: Global, truth: bool) -> Result<ItemList, AllocError>
 pub fn atom_list(alloc: Global, atom: Atom) -> Result<ItemList, AllocError>
     ensures { IfOk result (λ items. items ≡ as_atom atom ∷ []) }
 {
-    let mut items = List::new(alloc);
-    items.push(Item::Atom(atom))?;
-    Ok(items)
+    Ok(ItemList::one(alloc, Item::Atom(atom)))
 }

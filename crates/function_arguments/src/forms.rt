@@ -31,7 +31,7 @@ pub(crate) fn name_of_item(item: &Item) -> Result<Name, ValueFault>
     ensures { Answers (name_of_item item.now) result }
 {
     match item {
-        Item::Atom(Atom::QName(name)) => Ok(name.copy()?),
+        Item::Atom(Atom::QName(name)) => Ok(name.get().copy()?),
         _ => Err(WRONG_TYPE),
     }
 }

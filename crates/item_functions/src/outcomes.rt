@@ -7,7 +7,7 @@ use function_arguments::{atom_list, integer_list, no_items, truth_list};
 use std::alloc::{AllocError, Global};
 use xdm_items::{Item, ItemList};
 use xt_atoms::{Atom, ValueFault};
-use xt_names::{Code, List};
+use xt_names::Code;
 use xt_tree::Node;
 
 pub(crate) fn integer_outcome(
@@ -46,7 +46,5 @@ pub(crate) fn optional_atom_list(alloc: Global, atom: Option<Atom>) -> Result<It
 pub(crate) fn node_list(alloc: Global, node: Node) -> Result<ItemList, AllocError>
     ensures { IfOk result (λ items. items ≡ of_optional_node (Some node)) }
 {
-    let mut items = List::new(alloc);
-    items.push(Item::Node(node))?;
-    Ok(items)
+    Ok(ItemList::one(alloc, Item::Node(node)))
 }

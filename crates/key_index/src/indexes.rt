@@ -108,7 +108,7 @@ fn table_of(alloc: Global, pairs: &[KeyPair]) -> Result<KeyTable, AllocError>
 fn nodes_at(alloc: Global, pairs: &[KeyPair], places: &[u64]) -> Result<ItemList, AllocError>
     ensures { IfOk result (λ items. items ≡ put_places (slice_get pairs.now) [] places.now) }
 {
-    let mut items = List::new(alloc);
+    let mut items = ItemList::new(alloc);
     for place in places {
         put_place(&mut items, pairs, *place)?;
     }

@@ -7,3 +7,4 @@ pub mod Shapes
 pub mod ShapesFall
 pub mod Stable
 pub mod Stacks
+pub mod Stocks

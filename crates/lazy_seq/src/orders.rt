@@ -6,7 +6,6 @@ ghost use Rattle.lazy_seq.specs.Orders.{item_cmp, in_document_order};
 use std::alloc::AllocError;
 use std::cmp::Ordering;
 use xdm_items::{Item, ItemList};
-use xt_names::List;
 use xt_tree::order_all;
 
 /// The same nodes in document order, each once. Nodes that come so already are not moved.
@@ -16,10 +15,10 @@ pub(crate) fn in_order(items: ItemList) -> Result<ItemList, AllocError>
     if rises(items.as_slice()) {
         return Ok(items);
     }
-    let mut nodes = items.into_vec();
+    let mut nodes = items.into_vec()?;
     nodes.sort_by(|a, b| order_items(a, b))?;
     nodes.dedup_by(|a, b| order_items(a, b).is_eq());
-    Ok(List::of_vec(nodes))
+    Ok(ItemList::of_vec(nodes))
 }
 
 /// Whether each node stands before the next.

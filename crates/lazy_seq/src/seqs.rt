@@ -272,7 +272,7 @@ impl Seq {
         ensures { IfOk result (λ items. items ≡ given self.moves) }
     {
         match self.shape {
-            Shape::Leaf(Leaf::Stock(stock)) => Ok(stock.into_list()),
+            Shape::Leaf(Leaf::Stock(stock)) => Ok(stock.into_list(alloc)),
             shape => {
                 let mut left = Seq { shape };
                 collect::<Brand>(alloc, Blank::new(1), &mut left)
@@ -395,7 +395,7 @@ fn collect<L: Ledger>(alloc: Global, blank: Blank, left: &mut Seq) -> Result<Ite
     ensures { IfOk result (λ items. items ≡ given left.old.moves) }
 {
     let mut steps = Steps::<L>::begin(blank);
-    let mut items = List::new(alloc);
+    let mut items = ItemList::new(alloc);
     while take_first(left, &mut items, &mut steps)? {}
     Ok(items)
 }

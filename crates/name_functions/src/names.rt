@@ -6,7 +6,7 @@ ghost use Rattle.name_functions.specs.NodeNames.{argument_name, lexical, local_n
 use function_arguments::{atom_list, no_items, optional_node, text_list};
 use std::alloc::{AllocError, Global};
 use xdm_items::ItemList;
-use xt_atoms::{Atom, ValueFault, to_text};
+use xt_atoms::{Atom, ValueFault, qname_text};
 use xt_names::{Name, Text, TextBuilder};
 use xt_tree::Node;
 
@@ -90,11 +90,12 @@ fn target_name(alloc: Global, target: &Text) -> Result<Name, AllocError>
     })
 }
 
+#[tactic(auto, unfolding(xt_atoms::specs::AtomTexts::text_of))]
 fn lexical(alloc: Global, name: Option<Name>) -> Result<Text, AllocError>
     ensures { IfOk result (λ text. text ≡ lexical name) }
 {
     match name {
-        Some(name) => to_text(alloc, &Atom::QName(name)),
+        Some(name) => qname_text(alloc, &name),
         None => no_text(alloc),
     }
 }
@@ -121,7 +122,7 @@ fn name_list(alloc: Global, name: Option<Name>) -> Result<ItemList, AllocError>
     ensures { IfOk result (λ items. items ≡ of_optional_name name) }
 {
     match name {
-        Some(name) => atom_list(alloc, Atom::QName(name)),
+        Some(name) => atom_list(alloc, Atom::of_name(alloc, name)?),
         None => Ok(no_items(alloc)),
     }
 }

@@ -30,7 +30,7 @@ fn named(alloc: Global, name: Option<Name>) -> Result<ItemList, ValueFault>
     ensures { Answers (named name) result }
 {
     match name {
-        Some(name) => Ok(atom_list(alloc, Atom::QName(name))?),
+        Some(name) => Ok(atom_list(alloc, Atom::of_name(alloc, name)?)?),
         None => Err(NO_NAME),
     }
 }

@@ -9,7 +9,6 @@ use node_axes::Cursor;
 use quiet_eval::{hits_ahead, kept_in_turn};
 use std::alloc::{AllocError, Global};
 use xdm_items::{Item, ItemList};
-use xt_names::List;
 use xt_syntax::Expr;
 use xt_tree::Node;
 
@@ -30,7 +29,7 @@ pub fn kept_hits(alloc: Global, cursor: Cursor, tests: &[Expr]) -> Result<ItemLi
 fn as_items(alloc: Global, nodes: &[Node]) -> Result<ItemList, AllocError>
     ensures { IfOk result (λ items. items ≡ map a_node nodes.now) }
 {
-    let mut items = List::new(alloc);
+    let mut items = ItemList::new(alloc);
     for node in nodes {
         items.push(Item::Node(node.copy()?))?;
     }

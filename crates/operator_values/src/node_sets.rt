@@ -14,7 +14,6 @@ use lazy_seq::Seq;
 use std::alloc::{AllocError, Global};
 use xdm_items::{Item, ItemList, copy_item_list};
 use xt_atoms::ValueFault;
-use xt_names::List;
 use xt_tree::{Node, order_all};
 
 /// Whether the item is a node.
@@ -134,7 +133,7 @@ fn chosen(
     requires { IsSorted order_of_all nodes.now }
     ensures { IfOk result (λ kept. kept ≡ filter (is_kept among nodes.now) items.now) }
 {
-    let mut kept = List::new(alloc);
+    let mut kept = ItemList::new(alloc);
     for item in items {
         if is_wanted(among, is_listed(nodes, item)) {
             kept.push(item.copy()?)?;

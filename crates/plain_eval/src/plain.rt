@@ -17,7 +17,7 @@ use lazy_seq::Seq;
 use std::alloc::{AllocError, Global};
 use xdm_items::{Item, ItemList};
 use xt_atoms::ValueFault;
-use xt_names::{Code, ExprName, List, QueryStaticCode, Text, TextBuilder};
+use xt_names::{Code, ExprName, QueryStaticCode, Text, TextBuilder};
 use xt_syntax::Expr;
 use xt_tree::Node;
 
@@ -48,7 +48,7 @@ impl Callee for Nothing {
         _root: &Node,
         _next: &mut u64,
     ) -> Result<ItemList, EvalFault> {
-        Ok(List::new(alloc))
+        Ok(ItemList::new(alloc))
     }
 }
 

@@ -9,7 +9,7 @@ ghost use Rattle.quiet_eval.specs.Subjects.{or_empty};
 
 use std::alloc::{AllocError, Global};
 use xdm_items::typed_value;
-use xt_atoms::{Atom, general_compare, holds, text_order, to_text};
+use xt_atoms::{Atom, general_compare, holds, qname_text, text_order};
 use xt_names::{CompareOp, Name, Text};
 use xt_tree::Node;
 
@@ -96,7 +96,7 @@ fn written_name(alloc: Global, whole: bool, name: &Name) -> Result<Text, AllocEr
     ensures { IfOk result (λ text. text ≡ written_name whole name.now) }
 {
     if whole {
-        to_text(alloc, &Atom::QName(name.copy()?))
+        qname_text(alloc, name)
     } else {
         name.local.copy()
     }

@@ -3,7 +3,6 @@ ghost use Rattle.std.specs.Prelude.{◌≡◌, ◌++◌, IfOk, OnOk};
 
 use std::alloc::{AllocError, Global};
 use xdm_items::{Item, ItemList};
-use xt_names::List;
 
 /// The sequence of these items (`fn:unordered` too, Functions and Operators, 15.1.11).
 pub fn copied(alloc: Global, items: &[Item]) -> Result<ItemList, AllocError>
@@ -11,7 +10,7 @@ pub fn copied(alloc: Global, items: &[Item]) -> Result<ItemList, AllocError>
 {
     let mut made = Vec::with_capacity(alloc, items.len())?;
     push_all(&mut made, items)?;
-    Ok(List::of_vec(made))
+    Ok(ItemList::of_vec(made))
 }
 
 /// Puts the items at the end.

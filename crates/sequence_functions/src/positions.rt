@@ -8,7 +8,6 @@ use crate::copies::{copied, push_all};
 use std::alloc::{AllocError, Global};
 use xdm_items::{Item, ItemList};
 use xt_atoms::{Atom, ValueFault, key_same};
-use xt_names::List;
 
 /// How many items stand before the position.
 fn before(position: i128, count: usize) -> usize
@@ -46,7 +45,7 @@ pub fn subsequence(
     if first < end {
         copied(alloc, &items[first..end])
     } else {
-        Ok(List::new(alloc))
+        Ok(ItemList::new(alloc))
     }
 }
 
@@ -86,7 +85,7 @@ fn joined(
     push_all(&mut made, front)?;
     push_all(&mut made, middle)?;
     push_all(&mut made, back)?;
-    Ok(List::of_vec(made))
+    Ok(ItemList::of_vec(made))
 }
 
 /// The items from the last to the first (`fn:reverse`, Functions and Operators, 15.1.9).
@@ -99,7 +98,7 @@ pub fn reverse(alloc: Global, items: &[Item]) -> Result<ItemList, AllocError>
         made.push(last.copy()?)?;
         left = rest;
     }
-    Ok(List::of_vec(made))
+    Ok(ItemList::of_vec(made))
 }
 
 /// The positions of the items that are the same value (`fn:index-of`, Functions and Operators,
@@ -120,7 +119,7 @@ fn positions_of(alloc: Global, items: &[Item], value: &Atom) -> Result<ItemList,
     requires { length items.now < 2 ^ 63 }
     ensures { IfOk result (λ made. made ≡ positions_of value.now 1 items.now) }
 {
-    let mut made = List::new(alloc);
+    let mut made = ItemList::new(alloc);
     let mut position: i64 = 0;
     for item in items {
         position += 1;

@@ -7,7 +7,6 @@ ghost use Rattle.sequence_functions.specs.Values.{distinct_values, entry_value};
 use atom_keys::{KeyEntry, KeyTable};
 use std::alloc::{AllocError, Global};
 use xdm_items::{Item, ItemList};
-use xt_names::List;
 
 /// Each value where it first stands (`fn:distinct-values`, Functions and Operators, 15.1.6): texts
 /// are the same by their characters, untyped or not, and other atoms by kind and value. The items
@@ -40,5 +39,5 @@ fn values_of(alloc: Global, entries: &[KeyEntry]) -> Result<ItemList, AllocError
     for entry in entries {
         made.push(Item::Atom(entry.key.copy()?))?;
     }
-    Ok(List::of_vec(made))
+    Ok(ItemList::of_vec(made))
 }

@@ -1,5 +1,5 @@
 // The texts of items.
-use crate::made::{document, list_of, name, text, with};
+use crate::made::{document, name, text};
 use doc_writer::{WriteRefusal, write_items, write_items_bare};
 use std::alloc::AllocGlobal;
 use std::process::Abort;
@@ -11,12 +11,17 @@ fn node(rt: &(impl Abort + AllocGlobal), tree: Tree) -> Item {
     Item::Node(Node::root_of(rt.alloc(), 1, tree).expect(rt, "memory"))
 }
 
+fn with_item(rt: &(impl Abort + AllocGlobal), mut items: ItemList, item: Item) -> ItemList {
+    items.push(item).expect(rt, "memory");
+    items
+}
+
 // The atoms `x` and 2, the document of `<a/>`, and the atom 3.
 fn mixed(rt: &(impl Abort + AllocGlobal)) -> ItemList {
-    let items = list_of(rt, Item::Atom(Atom::Str(text(rt, "x"))));
-    let items = with(rt, items, Item::Atom(Atom::Int(2)));
-    let items = with(rt, items, node(rt, document(rt, "<a/>")));
-    with(rt, items, Item::Atom(Atom::Int(3)))
+    let items = ItemList::one(rt.alloc(), Item::Atom(Atom::Str(text(rt, "x"))));
+    let items = with_item(rt, items, Item::Atom(Atom::Int(2)));
+    let items = with_item(rt, items, node(rt, document(rt, "<a/>")));
+    with_item(rt, items, Item::Atom(Atom::Int(3)))
 }
 
 #[test]
@@ -40,7 +45,7 @@ fn is_refused(written: Result<Vec<u8>, WriteRefusal>) -> bool {
 #[test]
 fn an_attribute_among_items_is_refused(rt: HostRuntime) {
     let attribute = Tree::Attr(name(&rt, "", "", "k"), text(&rt, "v"));
-    let items = with(&rt, mixed(&rt), node(&rt, attribute));
+    let items = with_item(&rt, mixed(&rt), node(&rt, attribute));
     assert!(rt; is_refused(write_items(rt.alloc(), &items)));
     assert!(rt; is_refused(write_items_bare(rt.alloc(), &items)));
     drop(items);

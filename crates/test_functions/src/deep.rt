@@ -1,5 +1,5 @@
 // deep-equal of elements, by Functions and Operators, 15.3.1.
-use crate::made::{element, list_of, name, text, two, with};
+use crate::made::{element, name, one_item, text, two, with};
 use fn_lib::{Builtin, call};
 use std::alloc::AllocGlobal;
 use std::process::Abort;
@@ -55,7 +55,7 @@ fn element_of(rt: &(impl Abort + AllocGlobal), words: &str) -> ItemList {
         kids,
     );
     let root = Node::root_of(rt.alloc(), 1, whole).expect(rt, "memory");
-    list_of(rt, Item::Node(root))
+    one_item(rt, Item::Node(root))
 }
 
 fn are_deep_equal(rt: &(impl Abort + AllocGlobal), a: &str, b: &str) -> bool {

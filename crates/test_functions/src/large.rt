@@ -1,5 +1,5 @@
 // Large inputs.
-use crate::made::{element, list_of, name, number, one, text, two, with, word};
+use crate::made::{element, list_of, name, number, one, one_item, text, two, with, word};
 use fn_lib::{Builtin, call};
 use std::alloc::AllocGlobal;
 use std::process::Abort;
@@ -42,17 +42,17 @@ fn repeated(rt: &(impl Abort + AllocGlobal), s: &str, times: usize) -> Text {
 }
 
 fn text_list(rt: &(impl Abort + AllocGlobal), whole: Text) -> ItemList {
-    list_of(rt, Item::Atom(Atom::Str(whole)))
+    one_item(rt, Item::Atom(Atom::Str(whole)))
 }
 
 fn word_list(rt: &(impl Abort + AllocGlobal), s: &str) -> ItemList {
-    list_of(rt, word(rt, s))
+    one_item(rt, word(rt, s))
 }
 
 // so many times the same text
 fn equal_words(rt: &(impl Abort + AllocGlobal), s: &str, times: usize) -> ItemList {
     let own = text(rt, s);
-    let mut items = List::new(rt.alloc());
+    let mut items = ItemList::new(rt.alloc());
     for _ in 0..times {
         let copy = own.copy().expect(rt, "memory");
         items.push(Item::Atom(Atom::Str(copy))).expect(rt, "memory");
@@ -91,7 +91,7 @@ fn ten_megabytes_are_translated_by_a_thousand_characters(rt: HostRuntime) {
 
 // the digits of the numbers below
 fn digits(rt: &(impl Abort + AllocGlobal), below: i64) -> ItemList {
-    let mut items = List::new(rt.alloc());
+    let mut items = ItemList::new(rt.alloc());
     for n in 0..below {
         let digits = to_text(rt.alloc(), &Atom::Int(n)).expect(rt, "memory");
         items
@@ -126,7 +126,7 @@ fn a_long_text_is_searched_and_cut(rt: HostRuntime) {
     let found = answer(&rt, Builtin::Contains, args);
     assert!(rt; !is_true(&found));
     drop(found);
-    let start = list_of(&rt, number(1_000_001));
+    let start = one_item(&rt, number(1_000_001));
     let rest = answer(&rt, Builtin::Substring, two(&rt, long_text(&rt), start));
     assert_eq!(rt; bytes_of(&rest), 2_000_000);
     drop(rest);
@@ -177,7 +177,7 @@ fn the_greatest_text_passes_through_functions_of_two(rt: HostRuntime) {
         &rt,
         Builtin::Substring,
         &whole,
-        list_of(&rt, number(67_108_860)),
+        one_item(&rt, number(67_108_860)),
     );
     assert_eq!(rt; rest, 5);
     drop(whole);
@@ -242,7 +242,7 @@ fn nested(rt: &(impl Abort + AllocGlobal), depth: usize) -> Tree {
 
 fn nested_list(rt: &(impl Abort + AllocGlobal), number: u64) -> ItemList {
     let root = Node::root_of(rt.alloc(), number, nested(rt, 2_000)).expect(rt, "memory");
-    list_of(rt, Item::Node(root))
+    one_item(rt, Item::Node(root))
 }
 
 #[test]

@@ -39,6 +39,19 @@ pub(crate) fn list_of<T: Drop>(rt: &(impl Abort + AllocGlobal), item: T) -> List
     with(rt, List::new(rt.alloc()), item)
 }
 
+pub(crate) fn one_item(rt: &(impl Abort + AllocGlobal), item: Item) -> ItemList {
+    ItemList::one(rt.alloc(), item)
+}
+
+pub(crate) fn with_item(
+    rt: &(impl Abort + AllocGlobal),
+    mut items: ItemList,
+    item: Item,
+) -> ItemList {
+    items.push(item).expect(rt, "memory");
+    items
+}
+
 pub(crate) fn element(
     rt: &(impl Abort + AllocGlobal),
     name: Name,

@@ -3,7 +3,7 @@
 // Arguments stand apart by `;` and items by `,`. An item is `s:`, `u:` or `i:` and a string, an
 // untyped value or an integer, `q:` and a QName as `prefix{uri}local`, `n:` and a node of the
 // sample, or `true` or `false`. An answer is its items, or the code of its error.
-use crate::made::{name, node, text, with};
+use crate::made::{name, node, text, with, with_item};
 use fn_lib::{Builtin, call, find};
 use std::alloc::AllocGlobal;
 use std::process::Abort;
@@ -18,23 +18,27 @@ fn name_of(rt: &(impl Abort + AllocGlobal), word: &str) -> Name {
     name(rt, prefix, uri, local)
 }
 
+fn qname_of(rt: &(impl Abort + AllocGlobal), word: &str) -> Atom {
+    Atom::of_name(rt.alloc(), name_of(rt, word)).expect(rt, "memory")
+}
+
 fn item_of(rt: &(impl Abort + AllocGlobal), kind: &str, value: &str) -> Item {
     match kind {
         "s" => Item::Atom(Atom::Str(text(rt, value))),
         "u" => Item::Atom(Atom::Untyped(text(rt, value))),
         "i" => Item::Atom(Atom::Int(value.parse::<i64>().unwrap_or(0))),
-        "q" => Item::Atom(Atom::QName(name_of(rt, value))),
+        "q" => Item::Atom(qname_of(rt, value)),
         "n" => Item::Node(node(rt, value)),
         _ => Item::Atom(Atom::Bool(kind == "true")),
     }
 }
 
 fn items_of(rt: &(impl Abort + AllocGlobal), words: &str) -> ItemList {
-    let mut items = List::new(rt.alloc());
+    let mut items = ItemList::new(rt.alloc());
     if words != "" {
         for word in words.split(",") {
             let (kind, value) = word.split_once(":").unwrap_or((word, ""));
-            items = with(rt, items, item_of(rt, kind, value));
+            items = with_item(rt, items, item_of(rt, kind, value));
         }
     }
     items
@@ -110,7 +114,7 @@ fn put_item(rt: &(impl Abort + AllocGlobal), out: &mut String, item: &Item) {
         }
         Item::Atom(Atom::Int(number)) => put_number(rt, out, *number),
         Item::Atom(Atom::Bool(truth)) => put(rt, out, if *truth { "true" } else { "false" }),
-        Item::Atom(Atom::QName(name)) => put_name(rt, out, name),
+        Item::Atom(Atom::QName(name)) => put_name(rt, out, name.get()),
         Item::Node(node) => put_node(rt, out, node),
     }
 }

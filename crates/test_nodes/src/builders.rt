@@ -1,7 +1,7 @@
 // Nodes that are made of items, by the rules of stylesheets and by those of queries.
 use crate::made::{
-    KEEP, REFUSE, answer, attribute_item, document_item, is_code, list_of_two, name, text_item,
-    with, word,
+    KEEP, REFUSE, answer, attribute_item, document_item, is_code, name, text_item, two_items,
+    with_item, word,
 };
 use node_builder::{BuildFault, Builder, Duplicates, simple};
 use std::alloc::AllocGlobal;
@@ -29,7 +29,7 @@ fn has_one_attribute(node: &Node, local: &str, value: &str) -> bool {
 }
 
 fn two_of_one_name(rt: &(impl Abort + AllocGlobal)) -> ItemList {
-    list_of_two(
+    two_items(
         rt,
         attribute_item(rt, "k", "1"),
         attribute_item(rt, "k", "2"),
@@ -52,12 +52,16 @@ fn are_j_then_k(attributes: &[Attribute]) -> bool {
 
 #[test]
 fn the_last_is_at_its_own_place(rt: HostRuntime) {
-    let two = list_of_two(
+    let two = two_items(
         &rt,
         attribute_item(&rt, "k", "1"),
         attribute_item(&rt, "j", "2"),
     );
-    let node = made(&rt, with(&rt, two, attribute_item(&rt, "k", "3")), KEEP);
+    let node = made(
+        &rt,
+        with_item(&rt, two, attribute_item(&rt, "k", "3")),
+        KEEP,
+    );
     assert!(rt; are_j_then_k(node.tree().attributes()));
     drop(node);
 }
@@ -68,7 +72,7 @@ fn two_attributes_are_an_error_in_a_query(rt: HostRuntime) {
 }
 
 fn after_text(rt: &(impl Abort + AllocGlobal), first: &str) -> ItemList {
-    list_of_two(rt, text_item(rt, first), attribute_item(rt, "k", "1"))
+    two_items(rt, text_item(rt, first), attribute_item(rt, "k", "1"))
 }
 
 #[test]
@@ -121,21 +125,21 @@ fn gives_text(
 
 #[test]
 fn a_space_parts_two_atoms(rt: HostRuntime) {
-    let items = list_of_two(&rt, word(&rt, "a"), Item::Atom(Atom::Int(-7)));
+    let items = two_items(&rt, word(&rt, "a"), Item::Atom(Atom::Int(-7)));
     assert!(rt; gives_text(&rt, items, KEEP, "a -7"));
-    let empty = list_of_two(&rt, word(&rt, ""), word(&rt, ""));
+    let empty = two_items(&rt, word(&rt, ""), word(&rt, ""));
     assert!(rt; gives_text(&rt, empty, REFUSE, " "));
 }
 
 #[test]
 fn an_empty_text_parts_two_runs_of_atoms(rt: HostRuntime) {
-    let two = list_of_two(&rt, word(&rt, "a"), text_item(&rt, ""));
-    assert!(rt; gives_text(&rt, with(&rt, two, word(&rt, "b")), KEEP, "ab"));
+    let two = two_items(&rt, word(&rt, "a"), text_item(&rt, ""));
+    assert!(rt; gives_text(&rt, with_item(&rt, two, word(&rt, "b")), KEEP, "ab"));
 }
 
 #[test]
 fn empty_texts_leave_no_child(rt: HostRuntime) {
-    let items = list_of_two(&rt, text_item(&rt, ""), text_item(&rt, ""));
+    let items = two_items(&rt, text_item(&rt, ""), text_item(&rt, ""));
     let node = made(&rt, items, KEEP);
     assert_eq!(rt; node.child_count(), 0);
     drop(node);
@@ -152,8 +156,8 @@ fn are_joined_kids(kids: &[Tree]) -> bool {
 
 #[test]
 fn a_document_gives_its_children(rt: HostRuntime) {
-    let two = list_of_two(&rt, text_item(&rt, "a"), document_item(&rt));
-    let node = made(&rt, with(&rt, two, word(&rt, "b")), REFUSE);
+    let two = two_items(&rt, text_item(&rt, "a"), document_item(&rt));
+    let node = made(&rt, with_item(&rt, two, word(&rt, "b")), REFUSE);
     assert!(rt; are_joined_kids(node.tree().kids()));
     drop(node);
 }
@@ -162,11 +166,11 @@ fn a_document_gives_its_children(rt: HostRuntime) {
 
 #[test]
 fn simple_content_joins(rt: HostRuntime) {
-    let two = list_of_two(&rt, text_item(&rt, "a"), text_item(&rt, ""));
-    let texts = with(&rt, two, text_item(&rt, "b"));
-    let number = with(&rt, texts, Item::Atom(Atom::Int(1)));
-    let document = with(&rt, number, document_item(&rt));
-    let items = with(&rt, document, word(&rt, ""));
+    let two = two_items(&rt, text_item(&rt, "a"), text_item(&rt, ""));
+    let texts = with_item(&rt, two, text_item(&rt, "b"));
+    let number = with_item(&rt, texts, Item::Atom(Atom::Int(1)));
+    let document = with_item(&rt, number, document_item(&rt));
+    let items = with_item(&rt, document, word(&rt, ""));
     let text = simple(rt.alloc(), &items, ", ").expect(&rt, "memory");
     drop(items);
     assert!(rt; text.is("ab, 1, xy, "));

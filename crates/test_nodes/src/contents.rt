@@ -1,5 +1,5 @@
 // Content as it is before it becomes a tree.
-use crate::made::{REFUSE, list_of_two, word};
+use crate::made::{REFUSE, two_items, word};
 use node_builder::{Content, Holder, content_of};
 use xt_tree::Tree;
 
@@ -10,7 +10,7 @@ fn is_joined(content: &Content) -> bool {
 
 #[test]
 fn two_words_become_one_text(rt: HostRuntime) {
-    let items = list_of_two(&rt, word(&rt, "a"), word(&rt, "b"));
+    let items = two_items(&rt, word(&rt, "a"), word(&rt, "b"));
     let content = content_of(rt.alloc(), REFUSE, Holder::Element, &items).expect(&rt, "content");
     drop(items);
     assert!(rt; is_joined(&content));

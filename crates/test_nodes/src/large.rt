@@ -1,7 +1,6 @@
 // Builders at their limits: numbers, levels and sizes; and large content.
 use crate::made::{
-    KEEP, REFUSE, answer, attribute_item, bare, is_code, list_of, list_of_two, name, root, text,
-    text_item,
+    KEEP, REFUSE, answer, attribute_item, bare, is_code, name, root, text, text_item, two_items,
 };
 use node_builder::{BuildFault, Builder};
 use std::alloc::AllocGlobal;
@@ -61,10 +60,10 @@ fn next(
 // the answer to the last of so many elements within each other
 fn nest(rt: &(impl Abort + AllocGlobal), levels: u32) -> Result<Node, BuildFault> {
     let mut builder = Builder { next: 0 };
-    let mut items = List::new(rt.alloc());
+    let mut items = ItemList::new(rt.alloc());
     for _ in 1..levels {
         let inner = next(rt, &mut builder, items).expect(rt, "an element");
-        items = list_of(rt, Item::Node(inner));
+        items = ItemList::one(rt.alloc(), Item::Node(inner));
     }
     next(rt, &mut builder, items)
 }
@@ -78,11 +77,11 @@ fn elements_nest_2000_levels(rt: HostRuntime) {
 // Each of so many elements holds the one before twice; the last has 2^(levels+1) - 1 nodes.
 fn double(rt: &(impl Abort + AllocGlobal), levels: u32) -> Result<Node, BuildFault> {
     let mut builder = Builder { next: 0 };
-    let mut items = List::new(rt.alloc());
+    let mut items = ItemList::new(rt.alloc());
     for _ in 0..levels {
         let inner = next(rt, &mut builder, items).expect(rt, "an element");
         let copy = inner.copy().expect(rt, "memory");
-        items = list_of_two(rt, Item::Node(copy), Item::Node(inner));
+        items = two_items(rt, Item::Node(copy), Item::Node(inner));
     }
     next(rt, &mut builder, items)
 }
@@ -102,7 +101,7 @@ fn numbered(rt: &(impl Abort + AllocGlobal), n: u64) -> Name {
 }
 
 fn many_attributes(rt: &(impl Abort + AllocGlobal)) -> ItemList {
-    let mut items = List::new(rt.alloc());
+    let mut items = ItemList::new(rt.alloc());
     for n in 0..100_000 {
         let tree = Tree::Attr(numbered(rt, n), text(rt, ""));
         items.push(Item::Node(root(rt, tree))).expect(rt, "memory");
@@ -126,7 +125,7 @@ fn attributes_by_the_100000(rt: HostRuntime) {
 }
 
 fn many_texts(rt: &(impl Abort + AllocGlobal)) -> ItemList {
-    let mut items = List::new(rt.alloc());
+    let mut items = ItemList::new(rt.alloc());
     for _ in 0..100_000 {
         items.push(text_item(rt, "abc")).expect(rt, "memory");
     }
@@ -144,7 +143,7 @@ fn texts_by_the_100000(rt: HostRuntime) {
 }
 
 fn many_elements(rt: &(impl Abort + AllocGlobal)) -> ItemList {
-    let mut items = List::new(rt.alloc());
+    let mut items = ItemList::new(rt.alloc());
     for _ in 0..100_000 {
         let empty = bare(rt, "b", List::new(rt.alloc()));
         items.push(Item::Node(root(rt, empty))).expect(rt, "memory");
@@ -156,8 +155,8 @@ fn many_elements(rt: &(impl Abort + AllocGlobal)) -> ItemList {
 fn share_large(rt: &(impl Abort + AllocGlobal)) -> Result<Node, BuildFault> {
     let mut builder = Builder { next: 0 };
     let large = next(rt, &mut builder, many_elements(rt)).expect(rt, "an element");
-    let content = list_of(rt, Item::Node(large));
-    let mut holders = List::new(rt.alloc());
+    let content = ItemList::one(rt.alloc(), Item::Node(large));
+    let mut holders = ItemList::new(rt.alloc());
     for _ in 0..100_000 {
         let holder = builder.element(rt.alloc(), name(rt, "holder"), &content, KEEP);
         let holder = holder.expect(rt, "an element");

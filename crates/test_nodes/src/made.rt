@@ -45,6 +45,19 @@ pub(crate) fn list_of_two<T: Drop>(
     with(rt, list_of(rt, first), second)
 }
 
+pub(crate) fn with_item(
+    rt: &(impl Abort + AllocGlobal),
+    mut items: ItemList,
+    item: Item,
+) -> ItemList {
+    items.push(item).expect(rt, "memory");
+    items
+}
+
+pub(crate) fn two_items(rt: &(impl Abort + AllocGlobal), first: Item, second: Item) -> ItemList {
+    with_item(rt, ItemList::one(rt.alloc(), first), second)
+}
+
 pub(crate) fn text_tree(rt: &(impl Abort + AllocGlobal), s: &str) -> Tree {
     Tree::Text(text(rt, s))
 }

@@ -12,7 +12,7 @@ use std::alloc::{AllocGlobal, Global};
 use std::process::Abort;
 use xdm_items::{Item, ItemList};
 use xt_atoms::ValueFault;
-use xt_names::{ArithOp, AtomType, Binding, Code, DynamicCode, ExprName, List, Name};
+use xt_names::{ArithOp, AtomType, Binding, Code, DynamicCode, ExprName, Name};
 use xt_types::{Axis, Count, ItemType, SeqType, Test};
 
 const WRONG_TYPE: Code = Code::Dynamic(DynamicCode::XPTY0004);
@@ -20,7 +20,7 @@ const WRONG_TYPE: Code = Code::Dynamic(DynamicCode::XPTY0004);
 fn step(alloc: Global, axis: Axis, items: &ItemList) -> Result<ItemList, ValueFault> {
     match items.as_slice() {
         [first, ..] => values::step(alloc, axis, &Test::Node, first),
-        [] => Ok(List::new(alloc)),
+        [] => Ok(ItemList::new(alloc)),
     }
 }
 
@@ -36,7 +36,7 @@ fn integer(items: ItemList) -> Result<ItemList, ValueFault> {
 
 fn key(alloc: Global, items: &ItemList) -> Result<ItemList, ValueFault> {
     match values::key_cell(alloc, WRONG_TYPE, items)? {
-        None => Ok(List::new(alloc)),
+        None => Ok(ItemList::new(alloc)),
         Some(atom) => Ok(values::one(alloc, Item::Atom(atom))?),
     }
 }
@@ -231,7 +231,7 @@ fn made(
     word: &str,
 ) -> Result<ItemList, EvalFault> {
     let alloc = rt.alloc();
-    let none = List::new(alloc);
+    let none = ItemList::new(alloc);
     let outcome = match word {
         "element" => nodes::make_element(alloc, next, name(rt, "", "", "e"), &none),
         "document" => nodes::make_document(alloc, next, &none),
@@ -284,7 +284,7 @@ fn evaluated(rt: &(impl Abort + AllocGlobal), outcome: Result<ItemList, EvalFaul
     match outcome {
         Ok(items) => printed(rt, Ok(items)),
         Err(EvalFault::Error(code)) => printed(rt, Err(ValueFault::Error(code))),
-        Err(EvalFault::Deep) => printed(rt, Ok(List::new(rt.alloc()))),
+        Err(EvalFault::Deep) => printed(rt, Ok(ItemList::new(rt.alloc()))),
         Err(EvalFault::Memory(e)) => printed(rt, Err(ValueFault::Memory(e))),
     }
 }
@@ -412,7 +412,7 @@ fn functions_read_the_focus(rt: HostRuntime) {
         };
         let outcome = match calls::find_called(&name, 0) {
             calls::Called::Library(f) => calls::call_library(rt.alloc(), f, &focus, &[]),
-            _ => Ok(List::new(rt.alloc())),
+            _ => Ok(ItemList::new(rt.alloc())),
         };
         drop(name);
         let found = printed(&rt, outcome);

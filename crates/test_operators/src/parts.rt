@@ -1,6 +1,6 @@
 // The calls of which no table of operators is made (XPath 2.0, 2.4 and 3.3.1; XQuery 1.0, 3.7 and
 // 3.8.3).
-use crate::made::{list_of, name, text, with};
+use crate::made::{list_of, name, text, with, with_item};
 use crate::written::{items_of, printed, put, put_place};
 use eval_calls as calls;
 use eval_calls::Called;
@@ -43,9 +43,9 @@ fn typed_value(rt: &(impl Abort + AllocGlobal), item: &Item) -> Item {
 }
 
 fn typed_values(rt: &(impl Abort + AllocGlobal), items: &ItemList) -> ItemList {
-    let mut atoms = List::new(rt.alloc());
+    let mut atoms = ItemList::new(rt.alloc());
     for item in items.as_slice() {
-        atoms = with(rt, atoms, typed_value(rt, item));
+        atoms = with_item(rt, atoms, typed_value(rt, item));
     }
     atoms
 }

@@ -72,7 +72,7 @@ fn backwards(
     from: usize,
     below: usize,
 ) -> ItemList {
-    let mut items = List::new(rt.alloc());
+    let mut items = ItemList::new(rt.alloc());
     for place in (from..below).rev() {
         let child = parent.child(place).expect(rt, "memory");
         items

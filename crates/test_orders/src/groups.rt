@@ -14,7 +14,7 @@ fn countries(rt: &(impl Abort + AllocGlobal)) -> List<ItemList> {
         keys.push(one_key(rt, word(rt, country)))
             .expect(rt, "memory");
     }
-    keys.push(List::new(rt.alloc())).expect(rt, "memory");
+    keys.push(ItemList::new(rt.alloc())).expect(rt, "memory");
     keys
 }
 

@@ -62,7 +62,7 @@ fn each_node_is_found_once(rt: HostRuntime) {
     assert!(rt; finds(&rt, &index, one_key(&rt, word(&rt, "a")), &[1, 2]));
     assert!(rt; finds(&rt, &index, one_key(&rt, word(&rt, "b")), &[2]));
     assert!(rt; finds(&rt, &index, one_key(&rt, word(&rt, "c")), &[]));
-    assert!(rt; finds(&rt, &index, List::new(rt.alloc()), &[]));
+    assert!(rt; finds(&rt, &index, ItemList::new(rt.alloc()), &[]));
     let both = two_keys(&rt, word(&rt, "b"), word(&rt, "a"));
     assert!(rt; finds(&rt, &index, both, &[1, 2]));
     drop(index);
@@ -103,7 +103,7 @@ fn count_up(items: &[Item]) -> bool {
 #[test]
 fn many_values_are_looked_up_at_once(rt: HostRuntime) {
     let index = many_pairs(&rt);
-    let mut values = List::new(rt.alloc());
+    let mut values = ItemList::new(rt.alloc());
     for n in 0..MANY {
         let before = MANY.saturating_sub(n).saturating_sub(1);
         let value = Item::Atom(digits(&rt, before));
@@ -136,7 +136,7 @@ fn two_values_are_looked_up_many_times(rt: HostRuntime) {
 #[test]
 fn a_value_that_is_given_many_times_is_looked_up_once(rt: HostRuntime) {
     let mut pairs = List::new(rt.alloc());
-    let mut values = List::new(rt.alloc());
+    let mut values = ItemList::new(rt.alloc());
     for n in 0..MANY {
         pairs
             .push(pair(&rt, n, word(&rt, "a")))

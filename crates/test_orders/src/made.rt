@@ -3,7 +3,7 @@ use std::alloc::AllocGlobal;
 use std::process::Abort;
 use xdm_items::{Item, ItemList};
 use xt_atoms::{Atom, to_text};
-use xt_names::{List, Name, Text};
+use xt_names::{Name, Text};
 
 // so many rows, keys or groups
 pub(crate) const MANY: u64 = 300_000;
@@ -32,7 +32,5 @@ pub(crate) fn digits(rt: &(impl Abort + AllocGlobal), number: u64) -> Atom {
 }
 
 pub(crate) fn one_key(rt: &(impl Abort + AllocGlobal), key: Atom) -> ItemList {
-    let mut items = List::new(rt.alloc());
-    items.push(Item::Atom(key)).expect(rt, "memory");
-    items
+    ItemList::one(rt.alloc(), Item::Atom(key))
 }

@@ -100,7 +100,7 @@ fn cell_of(rt: &(impl Abort + AllocGlobal), word: &str) -> Option<Atom> {
         "s" => Some(Atom::Str(text(rt, value))),
         "u" => Some(Atom::Untyped(text(rt, value))),
         "b" => Some(Atom::Bool(value == "true")),
-        _ => Some(Atom::QName(name(rt, value))),
+        _ => Some(Atom::of_name(rt.alloc(), name(rt, value)).expect(rt, "memory")),
     }
 }
 

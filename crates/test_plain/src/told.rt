@@ -106,7 +106,7 @@ pub fn add(rt: &(impl Abort + AllocGlobal), items: &mut ItemList, atom: Atom) {
 
 // One integer.
 pub fn number(rt: &(impl Abort + AllocGlobal), n: i64) -> ItemList {
-    let mut items = List::new(rt.alloc());
+    let mut items = ItemList::new(rt.alloc());
     add(rt, &mut items, Atom::Int(n));
     items
 }
@@ -115,7 +115,7 @@ pub fn number(rt: &(impl Abort + AllocGlobal), n: i64) -> ItemList {
 pub fn some_vars(rt: &(impl Abort + AllocGlobal)) -> Vars {
     let mut vars = Vars::new(rt.alloc());
     bind(rt, &mut vars, "n", number(rt, 41));
-    let mut items = List::new(rt.alloc());
+    let mut items = ItemList::new(rt.alloc());
     add(rt, &mut items, Atom::Str(text(rt, "a")));
     add(rt, &mut items, Atom::Str(text(rt, "b")));
     bind(rt, &mut vars, "s", items);

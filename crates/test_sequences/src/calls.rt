@@ -9,7 +9,7 @@ use std::alloc::{AllocError, AllocGlobal};
 use std::marker::Brand;
 use std::process::Abort;
 use std::sync::ledger::{Blank, Ledger};
-use xdm_items::Item;
+use xdm_items::{Item, ItemList};
 use xt_atoms::Atom;
 use xt_names::List;
 use xt_types::Axis;
@@ -17,7 +17,7 @@ use xt_types::Axis;
 const LAST: i64 = 5;
 
 fn list(rt: &(impl Abort + AllocGlobal), first: i64, second: i64) -> Seq {
-    let mut items = List::new(rt.alloc());
+    let mut items = ItemList::new(rt.alloc());
     items
         .push(Item::Atom(Atom::Int(first)))
         .expect(rt, "memory");

@@ -15,12 +15,15 @@ const NO_VALUE: Code = Code::Dynamic(DynamicCode::FORG0001);
 
 // the name `a` in `urn:p`, with this prefix
 fn name(rt: &(impl Abort + AllocGlobal), prefix: &str) -> Atom {
-    Atom::QName(name_in(rt, prefix, "urn:p", "a"))
+    Atom::of_name(rt.alloc(), name_in(rt, prefix, "urn:p", "a")).expect(rt, "memory")
 }
 
 fn is_name(atom: &Atom) -> bool {
     match atom {
-        Atom::QName(name) => name.prefix.is("p") && name.uri.is("urn:p") && name.local.is("a"),
+        Atom::QName(name) => {
+            let name = name.get();
+            name.prefix.is("p") && name.uri.is("urn:p") && name.local.is("a")
+        }
         _ => false,
     }
 }

@@ -1,5 +1,5 @@
 // Items: their typed values, truth values, types and conversions.
-use crate::made::{element, list_of, untyped, with};
+use crate::made::{element, untyped, with_item};
 use std::alloc::AllocGlobal;
 use std::process::Abort;
 use xdm_items::{
@@ -7,14 +7,14 @@ use xdm_items::{
     truth_of_atom,
 };
 use xt_atoms::{Atom, ValueFault};
-use xt_names::{AtomType, Code, DynamicCode, List};
+use xt_names::{AtomType, Code, DynamicCode};
 use xt_tree::Node;
 use xt_types::{Count, ItemType, NameTest, SeqType, Test};
 
 // the node at this place of `<a k="1">t<!--c--><?t d?>u</a>`
 fn node(rt: &(impl Abort + AllocGlobal), path: &[usize], attribute: Option<usize>) -> ItemList {
     let place = Node::at_place(rt.alloc(), 1, element(rt), path, attribute).expect(rt, "memory");
-    list_of(rt, Item::Node(place.expect(rt, "a node")))
+    ItemList::one(rt.alloc(), Item::Node(place.expect(rt, "a node")))
 }
 
 fn is_untyped(items: &ItemList, text: &str) -> bool {
@@ -65,11 +65,11 @@ fn comments_and_instructions_are_strings(rt: HostRuntime) {
 }
 
 fn one(rt: &(impl Abort + AllocGlobal), atom: Atom) -> ItemList {
-    list_of(rt, Item::Atom(atom))
+    ItemList::one(rt.alloc(), Item::Atom(atom))
 }
 
 fn two(rt: &(impl Abort + AllocGlobal), first: Atom, second: Atom) -> ItemList {
-    with(rt, one(rt, first), Item::Atom(second))
+    with_item(rt, one(rt, first), Item::Atom(second))
 }
 
 fn is_seven(items: &ItemList) -> bool {
@@ -100,7 +100,7 @@ fn truth_of(items: ItemList) -> Result<bool, Code> {
 
 #[test]
 fn truth_values_are_told(rt: HostRuntime) {
-    assert!(rt; truth_of(List::new(rt.alloc())) == Ok(false));
+    assert!(rt; truth_of(ItemList::new(rt.alloc())) == Ok(false));
     assert!(rt; truth_of(one(&rt, untyped(&rt, "0"))) == Ok(true));
     assert!(rt; truth_of(one(&rt, untyped(&rt, ""))) == Ok(false));
     assert!(rt; truth_of_atom(&Atom::Int(0)) == Ok(false));
@@ -108,7 +108,7 @@ fn truth_values_are_told(rt: HostRuntime) {
 
 #[test]
 fn a_list_that_begins_with_a_node_is_true(rt: HostRuntime) {
-    let items = with(&rt, node(&rt, &[], None), Item::Atom(Atom::Bool(false)));
+    let items = with_item(&rt, node(&rt, &[], None), Item::Atom(Atom::Bool(false)));
     assert!(rt; truth_of(items) == Ok(true));
 }
 
@@ -148,7 +148,7 @@ fn counts_are_matched(rt: HostRuntime) {
 
 #[test]
 fn no_item_is_matched(rt: HostRuntime) {
-    let none = List::new(rt.alloc());
+    let none = ItemList::new(rt.alloc());
     assert!(rt; has_type(&none, SeqType::Empty));
     assert!(rt; has_type(&none, of(AtomType::Int, Count::Opt)));
     assert!(rt; !has_type(&none, SeqType::Of(ItemType::Any, Count::More)));

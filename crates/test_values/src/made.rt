@@ -1,6 +1,7 @@
 // Values made for a test, which ends where memory runs out.
 use std::alloc::AllocGlobal;
 use std::process::Abort;
+use xdm_items::{Item, ItemList};
 use xt_atoms::Atom;
 use xt_names::{List, Name, Text};
 use xt_tree::{Attribute, Attrs, Kids, Tree};
@@ -46,6 +47,15 @@ pub(crate) fn with<T: Drop>(
 
 pub(crate) fn list_of<T: Drop>(rt: &(impl Abort + AllocGlobal), item: T) -> List<T> {
     with(rt, List::new(rt.alloc()), item)
+}
+
+pub(crate) fn with_item(
+    rt: &(impl Abort + AllocGlobal),
+    mut items: ItemList,
+    item: Item,
+) -> ItemList {
+    items.push(item).expect(rt, "memory");
+    items
 }
 
 pub(crate) fn attribute(rt: &(impl Abort + AllocGlobal), local: &str, value: &str) -> Attribute {

@@ -8,7 +8,7 @@ use function_arguments::{integers, text_list, text_or_empty};
 use std::alloc::{AllocError, Global};
 use xdm_items::{Item, ItemList};
 use xt_atoms::{Atom, ValueFault};
-use xt_names::{Code, DynamicCode, List, Text, TextBuilder, is_xml_char};
+use xt_names::{Code, DynamicCode, Text, TextBuilder, is_xml_char};
 
 const NO_CHARACTER: Code = Code::Dynamic(DynamicCode::FOCH0001);
 
@@ -103,7 +103,7 @@ pub fn string_to_codepoints(alloc: Global, argument: &ItemList) -> Result<ItemLi
 fn codepoints(alloc: Global, whole: &Text) -> Result<ItemList, AllocError>
     ensures { IfOk result (λ numbers. numbers ≡ map as_integer whole.now) }
 {
-    let mut numbers = List::new(alloc);
+    let mut numbers = ItemList::new(alloc);
     for c in whole.as_str().chars() {
         numbers.push(Item::Atom(Atom::Int(i64::from(u32::from(c)))))?;
     }

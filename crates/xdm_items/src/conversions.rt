@@ -4,12 +4,13 @@ ghost use Rattle.xt_atoms.specs.Casts.{Answers};
 ghost use Rattle.xdm_items.specs.Conversion.{converted, converted_items, converted_item, converted_atom, is_cast_to, matched, prepared, Pushes};
 ghost use Rattle.xdm_items.specs.Values.{atomized, atomized_item};
 
-use crate::items::{Item, ItemList};
+use crate::items::Item;
+use crate::lists::ItemList;
 use crate::matching::matches;
 use crate::values::atom_of;
 use std::alloc::Global;
 use xt_atoms::{Atom, ValueFault, cast};
-use xt_names::{AtomType, Code, DynamicCode, List};
+use xt_names::{AtomType, Code, DynamicCode};
 use xt_types::{ItemType, SeqType};
 
 const WRONG_TYPE: Code = Code::Dynamic(DynamicCode::XPTY0004);
@@ -53,7 +54,7 @@ fn matched(items: ItemList, to: &SeqType) -> Result<ItemList, ValueFault>
 fn converted_items(alloc: Global, items: &[Item], to: AtomType) -> Result<ItemList, ValueFault>
     ensures { Answers (converted_items to (atomized items.now)) result }
 {
-    let mut made = List::new(alloc);
+    let mut made = ItemList::new(alloc);
     for item in items {
         match push_converted(alloc, item, to, &mut made) {
             Ok(()) => {}

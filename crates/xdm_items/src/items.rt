@@ -2,7 +2,7 @@ ghost use Rattle.std.specs.Prelude.{◌≡◌, IfOk};
 
 use std::alloc::AllocError;
 use xt_atoms::Atom;
-use xt_names::{List, Share, copy_list};
+use xt_names::Share;
 use xt_tree::Node;
 
 /// An item: a node or an atomic value (XDM, 2.1).
@@ -11,9 +11,6 @@ pub enum Item {
     Node(Node),
     Atom(Atom),
 }
-
-/// A sequence of items (XDM, 2.5).
-pub type ItemList = List<Item>;
 
 impl Item {
     /// The same item, which shares its parts.
@@ -31,11 +28,4 @@ impl Share for Item {
     fn share(&self) -> Result<Item, AllocError> {
         self.copy()
     }
-}
-
-/// The list of the same items.
-pub fn copy_item_list(items: &ItemList) -> Result<ItemList, AllocError>
-    ensures { IfOk result (λ copy. copy ≡ items.now) }
-{
-    copy_list(items)
 }

@@ -11,12 +11,14 @@
 
 mod conversions;
 mod items;
+mod lists;
 mod matching;
 mod truths;
 mod values;
 
 pub use conversions::convert;
-pub use items::{Item, ItemList, copy_item_list};
+pub use items::Item;
+pub use lists::{HeldItems, ItemList, copy_item_list};
 pub use matching::{has_atom_type, matches, matches_item};
 pub use truths::{ebv, truth_of_atom};
 pub use values::{atomize, typed_value};

@@ -3,7 +3,8 @@ ghost use Rattle.std.specs.Prelude.{◌≡◌};
 ghost use Rattle.std.specs.List.{list_all};
 ghost use Rattle.xdm_items.specs.Matching.{has_atom_type, matches_item, allows_count, matches_type};
 
-use crate::items::{Item, ItemList};
+use crate::items::Item;
+use crate::lists::ItemList;
 use node_tests::node_passes;
 use xt_atoms::Atom;
 use xt_names::AtomType;

@@ -2,7 +2,8 @@
 ghost use Rattle.std.specs.Prelude.{◌≡◌};
 ghost use Rattle.xdm_items.specs.Truth.{truth_of, truth_of_atom};
 
-use crate::items::{Item, ItemList};
+use crate::items::Item;
+use crate::lists::ItemList;
 use xt_atoms::{Atom, is_zero};
 use xt_names::{Code, DynamicCode};
 

@@ -3,10 +3,10 @@ ghost use Rattle.xdm_items.specs.declared.items.Item.TheVariants.{Atom as as_ato
 ghost use Rattle.xdm_items.specs.Values.{typed_value_below, atomized_item, atomized};
 ghost use Rattle.xt_tree.specs.Place.{subtree_of};
 
-use crate::items::{Item, ItemList};
+use crate::items::Item;
+use crate::lists::ItemList;
 use std::alloc::{AllocError, Global};
 use xt_atoms::Atom;
-use xt_names::List;
 use xt_tree::{Kind, Node};
 
 /// Each item made an atom (XPath 2.0, 2.4.2): the typed value of a node is its string value, untyped for a document, an
@@ -15,7 +15,7 @@ use xt_tree::{Kind, Node};
 pub fn atomize(alloc: Global, items: &ItemList) -> Result<ItemList, AllocError>
     ensures { IfOk result (λ atoms. atoms ≡ atomized items.now) }
 {
-    let mut atoms = List::new(alloc);
+    let mut atoms = ItemList::new(alloc);
     for item in items.as_slice() {
         push_atom(alloc, item, &mut atoms)?;
     }

@@ -15,7 +15,7 @@ use eval_scopes::{Env, EvalFault, Fixed, Focus, Globals, Scope, no_state};
 use expr_eval::{Callee, Host};
 use std::alloc::Global;
 use xdm_items::ItemList;
-use xt_names::{Code, ExprName, List, QueryStaticCode, Text};
+use xt_names::{Code, ExprName, QueryStaticCode, Text};
 use xt_syntax::{Expr, Query};
 use xt_tree::Node;
 
@@ -68,7 +68,7 @@ impl<'a> Callee for QueryCalls<'a> {
         _root: &Node,
         _next: &mut u64,
     ) -> Result<ItemList, EvalFault> {
-        Ok(List::new(alloc))
+        Ok(ItemList::new(alloc))
     }
 }
 

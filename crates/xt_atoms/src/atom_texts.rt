@@ -18,7 +18,7 @@ pub fn to_text(alloc: Global, a: &Atom) -> Result<Text, AllocError>
         Atom::Str(text) | Atom::Untyped(text) => text.copy(),
         Atom::Int(number) => integer_text(alloc, *number),
         Atom::Bool(truth) => Text::make(alloc, boolean_text(*truth)),
-        Atom::QName(name) => qname_text(alloc, name),
+        Atom::QName(name) => qname_text(alloc, name.get()),
     }
 }
 
@@ -35,8 +35,9 @@ fn boolean_text(truth: bool) -> &'static str
     if truth { "true" } else { "false" }
 }
 
+/// The prefix of the name, where it has one, a colon, and the local name (Functions and Operators, 17.1.2).
 #[tactic(auto, unfolding(crate::specs::AtomTexts::lexical_qname))]
-fn qname_text(alloc: Global, name: &Name) -> Result<Text, AllocError>
+pub fn qname_text(alloc: Global, name: &Name) -> Result<Text, AllocError>
     ensures { IfOk result (λ text. text ≡ lexical_qname name.now.prefix name.now.local) }
 {
     if name.prefix.is_empty() {

@@ -1,7 +1,8 @@
 ghost use Rattle.std.specs.Prelude.{◌≡◌, IfOk};
+ghost use Rattle.xt_atoms.specs.declared.atoms.Atom.TheVariants.{QName};
 
-use std::alloc::AllocError;
-use xt_names::{List, Name, Share, Text, copy_list};
+use std::alloc::{AllocError, Global};
+use xt_names::{List, Name, Share, Shared, Text, copy_list};
 
 /// An atomic value (XDM, 2.7).
 #[derive(Drop)]
@@ -14,11 +15,18 @@ pub enum Atom {
     Int(i64),
     /// An xs:boolean.
     Bool(bool),
-    /// An xs:QName.
-    QName(Name),
+    /// An xs:QName, which is shared so that an atom is small.
+    QName(Shared<Name>),
 }
 
 impl Atom {
+    /// The QName of the name.
+    pub fn of_name(alloc: Global, name: Name) -> Result<Atom, AllocError>
+        ensures { IfOk result (λ atom. atom ≡ QName name) }
+    {
+        Ok(Atom::QName(Shared::make(alloc, name)?))
+    }
+
     /// The same atom, the prefix of a QName included.
     pub fn copy(&self) -> Result<Atom, AllocError>
         ensures { IfOk result (λ copy. copy ≡ self.now) }

@@ -20,7 +20,7 @@ pub fn value_compare(op: CompareOp, a: &Atom, b: &Atom) -> Result<bool, Code>
         }
         (Atom::Int(x), Atom::Int(y)) => Ok(holds(op, x.cmp(y))),
         (Atom::Bool(x), Atom::Bool(y)) => Ok(holds(op, x.cmp(y))),
-        (Atom::QName(x), Atom::QName(y)) => name_compare(op, x, y),
+        (Atom::QName(x), Atom::QName(y)) => name_compare(op, x.get(), y.get()),
         _ => Err(WRONG_TYPE),
     }
 }

@@ -26,7 +26,7 @@ pub fn key_same(a: &Atom, b: &Atom) -> bool
         (Atom::Str(x) | Atom::Untyped(x), Atom::Str(y) | Atom::Untyped(y)) => x == y,
         (Atom::Int(x), Atom::Int(y)) => x == y,
         (Atom::Bool(x), Atom::Bool(y)) => x == y,
-        (Atom::QName(x), Atom::QName(y)) => same_name(x, y),
+        (Atom::QName(x), Atom::QName(y)) => same_name(x.get(), y.get()),
         _ => false,
     }
 }

@@ -21,7 +21,7 @@ mod lexical;
 mod trims;
 
 pub use arithmetic::{arith, integer_operand};
-pub use atom_texts::to_text;
+pub use atom_texts::{qname_text, to_text};
 pub use atoms::{Atom, copy_atom_list};
 pub use casts::{boolean_from, cast, castable, integer_from, is_zero};
 pub use comparisons::{general_compare, holds, same_name, text_order, value_compare};

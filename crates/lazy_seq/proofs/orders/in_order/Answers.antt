@@ -21,7 +21,7 @@ returns c =
     let t = c.sort_by.ensures.stable stands_before item_ranks
     (answers_always _ _ _ (λ f a r g h. search rules)) in
     let u = subst (λ (xs : List Item). IsStableBy stands_before xs c.sort_by.new.self.items)
-    c.into_vec-nodes.ensures t in
+    c.in_ok-nodes.ensures t in
     let d = dedup_same _ (eq_by_cmp item_cmp) _ (λ x y b f' x' y' k. search rules) _ _
     c.dedup_by.ensures.filtered in
     sorted_once c.args.items c.sort_by.new.self.items c.of_vec.result s u (c.of_vec.ensures ∙ d)
