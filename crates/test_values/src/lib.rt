@@ -12,6 +12,8 @@ mod atoms;
 #[cfg(test)]
 mod items;
 #[cfg(test)]
+mod lists;
+#[cfg(test)]
 mod made;
 #[cfg(test)]
 mod names;
