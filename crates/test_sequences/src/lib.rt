@@ -15,4 +15,6 @@ mod made;
 #[cfg(test)]
 mod ranges;
 #[cfg(test)]
+mod singles;
+#[cfg(test)]
 mod walks;
