@@ -57,7 +57,7 @@ pub fn variable_list(
         (variable (program_of fixed.now calls keys) name.now (env_of env.now) k) }
 {
     match variable(&*fixed, &*env, name) {
-        Ok(value) => Ok(value.copy()?.to_list(alloc)?),
+        Ok(value) => Ok(value.listed(alloc)?),
         Err(code) => Err(EvalFault::Error(code)),
     }
 }

@@ -280,6 +280,17 @@ impl Seq {
         }
     }
 
+    /// All items, which the sequence still gives. Items that are held are copied once.
+    #[tactic(auto, using(crate::proofs::MoveLemmas::given_all))]
+    pub fn listed(&self, alloc: Global) -> Result<ItemList, AllocError>
+        ensures { IfOk result (λ items. items ≡ given self.now.moves) }
+    {
+        match &self.shape {
+            Shape::Leaf(Leaf::Stock(stock)) => stock.listed(alloc),
+            _ => self.copy()?.to_list(alloc),
+        }
+    }
+
     /// The same items, held so that a copy of the sequence copies none of them. A range stays a
     /// range.
     pub fn share(self, alloc: Global) -> Result<Seq, AllocError>

@@ -15,8 +15,19 @@ use xt_atoms::{Atom, ValueFault, arith, integer_operand};
 use xt_names::{ArithOp, Code};
 
 /// At most one integer, or an untyped text that spells one.
-#[tactic(auto, unfolding(crate::specs::Numbers::optional_number))]
+#[tactic(auto, unfolding(crate::specs::Numbers::optional_number, crate::specs::Operands::optional_atom, xt_atoms::specs::Arithmetic::integer_operand))]
 fn optional_number(alloc: Global, items: &[Item]) -> Result<Option<i64>, ValueFault>
+    ensures { Answers (optional_number items.now) result }
+{
+    match items {
+        [Item::Atom(Atom::Int(number))] => Ok(Some(*number)),
+        _ => converted_number(alloc, items),
+    }
+}
+
+/// The same of items that may be no integer yet.
+#[tactic(auto, unfolding(crate::specs::Numbers::optional_number))]
+fn converted_number(alloc: Global, items: &[Item]) -> Result<Option<i64>, ValueFault>
     ensures { Answers (optional_number items.now) result }
 {
     let atom = optional_atom(alloc, items)?;

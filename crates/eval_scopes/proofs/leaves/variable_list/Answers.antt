@@ -3,11 +3,10 @@ use Rattle.outcomes.specs.Outcome.{step_outcome}
 use Rattle.eval_scopes.specs.Scopes.{value_at}
 use Rattle.eval_scopes.proofs.leaves.variable_list.Goals as goal
 
-pub returns-in_ok-to_list-in-Ok : goal.returns-in_ok-to_list-in-Ok
-returns-in_ok-to_list-in-Ok c =
+pub returns-in_ok-listed-in-Ok : goal.returns-in_ok-listed-in-Ok
+returns-in_ok-listed-in-Ok c =
     λ calls keys k. rw (
-      c.in_ok-to_list-in-Ok.ensures,
-      c.in_ok-copy-in-Ok.ensures,
+      c.in_ok-listed-in-Ok.ensures,
       ← c.variable.ensures calls keys,
     ) (ap (λ r. step_outcome (value_at r) k) c.in-Ok.is)
 
