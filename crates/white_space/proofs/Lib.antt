@@ -1,2 +1,3 @@
 pub mod StripLemmas
+pub mod StripNothing
 pub mod StripSound

@@ -11,15 +11,14 @@ use xt_types::SpaceRule;
 
 /// The tree without those texts of white space alone whose parent is an element for whose name the first rule that passes says
 /// strip, and for which the nearest enclosing xml:space of the value preserve or default, where there is one, says default
-/// (XSLT 2.0, 4.4). Names, attributes, texts and what is seen to stay whole are shared.
+/// (XSLT 2.0, 4.4). Names, attributes, texts and what is seen to stay whole are shared; where there are no rules the whole tree is.
 pub fn strip(alloc: Global, tree: &Tree, rules: &List<SpaceRule>) -> Result<Tree, AllocError>
     ensures { IfOk result (λ made. made ≡ stripped rules.now tree.now) }
 {
-    let stripper = Stripper {
-        alloc,
-        rules: rules.as_slice(),
-    };
-    stripper.strip_inside(tree, false)
+    match rules.as_slice() {
+        [] => tree.copy(),
+        rules => Stripper { alloc, rules }.strip_inside(tree, false),
+    }
 }
 
 #[derive(Drop)]
