@@ -1,5 +1,5 @@
 // Comparisons of sequences of atoms.
-ghost use Rattle.std.specs.Prelude.{◌≡◌, map};
+ghost use Rattle.std.specs.Prelude.{◌≡◌, ◌∷◌, [], map};
 ghost use Rattle.xt_atoms.specs.Casts.{Answers};
 ghost use Rattle.operator_values.specs.Operands.{atom_of};
 ghost use Rattle.operator_values.specs.Comparisons.{compares_with_some, some_compare};
@@ -8,6 +8,7 @@ ghost use Rattle.operator_values.specs.Comparisons.{general_value, single_value}
 use crate::operands::{atom_of, atoms_of, optional_atom};
 use function_arguments::{no_items, truth_list};
 use std::alloc::Global;
+use std::slice;
 use xdm_items::{Item, ItemList};
 use xt_atoms::{Atom, ValueFault, general_compare, value_compare};
 use xt_names::{Code, CompareOp};
@@ -23,9 +24,29 @@ pub fn general(
 ) -> Result<ItemList, ValueFault>
     ensures { Answers (general_value op left.now right.now) result }
 {
-    let right = atoms_of(alloc, right.as_slice())?;
-    let truth = some_compare(alloc, op, left.as_slice(), right.as_slice())?;
+    let truth = match right.as_slice() {
+        [only] => compare_with_one(alloc, op, left.as_slice(), only)?,
+        items => {
+            let atoms = atoms_of(alloc, items)?;
+            some_compare(alloc, op, left.as_slice(), atoms.as_slice())?
+        }
+    };
     Ok(truth_list(alloc, truth)?)
+}
+
+/// The same with one item on the right, which is most often so: no list is made of it.
+fn compare_with_one(
+    alloc: Global,
+    op: CompareOp,
+    left: &[Item],
+    only: &Item,
+) -> Result<bool, ValueFault>
+    ensures { Answers (some_compare op (map atom_of left.now) (atom_of only.now ∷ [])) result }
+{
+    let atom = atom_of(alloc, only)?;
+    let truth = some_compare(alloc, op, left, slice::from_ref(&atom));
+    drop(atom);
+    truth
 }
 
 fn some_compare(
