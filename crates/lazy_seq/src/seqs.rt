@@ -280,7 +280,7 @@ impl Seq {
         }
     }
 
-    /// All items, which the sequence still gives. Items that are held are copied once.
+    /// All items, which the sequence still gives (XPath 2.0, 2). Items that are held are copied once.
     #[tactic(auto, using(crate::proofs::MoveLemmas::given_all))]
     pub fn listed(&self, alloc: Global) -> Result<ItemList, AllocError>
         ensures { IfOk result (λ items. items ≡ given self.now.moves) }

@@ -15,7 +15,7 @@ pub struct ItemList {
     held: HeldItems,
 }
 
-/// What a sequence holds.
+/// What a sequence holds: no item, one, or a vector of any number (XDM, 2.5).
 #[derive(Drop)]
 pub enum HeldItems {
     Empty,

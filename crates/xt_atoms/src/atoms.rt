@@ -20,7 +20,7 @@ pub enum Atom {
 }
 
 impl Atom {
-    /// The QName of the name.
+    /// The QName of the name (XDM, 2.7).
     pub fn of_name(alloc: Global, name: Name) -> Result<Atom, AllocError>
         ensures { IfOk result (λ atom. atom ≡ QName name) }
     {
