@@ -10,10 +10,11 @@ use expr_drafts::{Draft, Spot, push_comma};
 use expr_places::{LIST, SINGLE};
 use expr_terms::Key;
 use leaf_pages::{push_typing, push_variable};
+use name_prefixes::NamePrefixes;
 use query_pages::Gap;
 use std::alloc::{AllocError, Global};
 use xt_names::ExprName;
-use xt_syntax::{Arm, Bind, Expr, Prefixes};
+use xt_syntax::{Arm, Bind, Expr};
 
 fn quantifier(every: bool) -> Key
     ensures { result ≡ quantifier every }
@@ -24,7 +25,7 @@ fn quantifier(every: bool) -> Key
 /// `if (a) then b else .. else c`.
 pub fn push_if<'a>(
     draft: &mut Draft<'a>,
-    prefixes: &'a Prefixes,
+    prefixes: &'a NamePrefixes,
     at: Spot,
     arms: &'a [Arm],
     other: &'a Expr,
@@ -39,7 +40,7 @@ pub fn push_if<'a>(
 /// The arms, each with the `else` behind it.
 fn push_arms<'a>(
     draft: &mut Draft<'a>,
-    prefixes: &'a Prefixes,
+    prefixes: &'a NamePrefixes,
     at: Spot,
     arms: &'a [Arm],
 ) -> Result<(), AllocError>
@@ -57,7 +58,7 @@ fn push_arms<'a>(
 /// `if (a) then b else`.
 fn push_arm<'a>(
     draft: &mut Draft<'a>,
-    prefixes: &'a Prefixes,
+    prefixes: &'a NamePrefixes,
     at: Spot,
     arm: &'a Arm,
 ) -> Result<(), AllocError>
@@ -77,7 +78,7 @@ fn push_arm<'a>(
 pub fn push_quant<'a>(
     alloc: Global,
     draft: &mut Draft<'a>,
-    prefixes: &'a Prefixes,
+    prefixes: &'a NamePrefixes,
     at: Spot,
     every: bool,
     binds: &'a [Bind],
@@ -97,7 +98,7 @@ pub fn push_quant<'a>(
 fn push_binds<'a>(
     alloc: Global,
     draft: &mut Draft<'a>,
-    prefixes: &'a Prefixes,
+    prefixes: &'a NamePrefixes,
     at: Spot,
     binds: &'a [Bind],
 ) -> Result<(), AllocError>
@@ -125,7 +126,7 @@ fn push_binds<'a>(
 fn push_place<'a>(
     alloc: Global,
     draft: &mut Draft<'a>,
-    prefixes: &'a Prefixes,
+    prefixes: &'a NamePrefixes,
     place: &Option<ExprName>,
 ) -> Result<(), AllocError>
     ensures { OnOk result (draft.new
@@ -144,7 +145,7 @@ fn push_place<'a>(
 pub(crate) fn push_bind<'a>(
     alloc: Global,
     draft: &mut Draft<'a>,
-    prefixes: &'a Prefixes,
+    prefixes: &'a NamePrefixes,
     at: Spot,
     place: &Option<ExprName>,
     key: Key,

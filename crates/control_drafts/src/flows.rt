@@ -12,10 +12,11 @@ use crate::control::push_bind;
 use expr_drafts::{Draft, Spot, push_comma};
 use expr_places::SINGLE;
 use expr_terms::Key;
+use name_prefixes::NamePrefixes;
 use query_pages::Gap;
 use std::alloc::{AllocError, Global};
 use xt_names::Shared;
-use xt_syntax::{Clause, Expr, Flwor, Order, Prefixes};
+use xt_syntax::{Clause, Expr, Flwor, Order};
 
 fn is_loop(clause: &Clause) -> bool
     ensures { (p : PrefixesOf) → result ≡ (clause_form p clause.now).loops }
@@ -41,7 +42,7 @@ fn joins(clauses: &[Clause], place: usize) -> bool
 pub fn push_flwor<'a>(
     alloc: Global,
     draft: &mut Draft<'a>,
-    prefixes: &'a Prefixes,
+    prefixes: &'a NamePrefixes,
     at: Spot,
     f: &'a Flwor,
 ) -> Result<(), AllocError>
@@ -57,7 +58,7 @@ pub fn push_flwor<'a>(
 /// `where a`, where there is a test.
 fn push_where<'a>(
     draft: &mut Draft<'a>,
-    prefixes: &'a Prefixes,
+    prefixes: &'a NamePrefixes,
     at: Spot,
     test: &'a Option<Shared<Expr>>,
 ) -> Result<(), AllocError>
@@ -76,7 +77,7 @@ fn push_where<'a>(
 /// `order by` with its keys, where there are some.
 fn push_orders<'a>(
     draft: &mut Draft<'a>,
-    prefixes: &'a Prefixes,
+    prefixes: &'a NamePrefixes,
     at: Spot,
     stable: bool,
     orders: &'a [Order],
@@ -101,7 +102,7 @@ fn push_orders<'a>(
 /// The keys, with commas between them.
 fn push_keys<'a>(
     draft: &mut Draft<'a>,
-    prefixes: &'a Prefixes,
+    prefixes: &'a NamePrefixes,
     at: Spot,
     orders: &'a [Order],
 ) -> Result<(), AllocError>
@@ -120,7 +121,7 @@ fn push_keys<'a>(
 /// A key, and `descending`.
 fn push_order<'a>(
     draft: &mut Draft<'a>,
-    prefixes: &'a Prefixes,
+    prefixes: &'a NamePrefixes,
     at: Spot,
     order: &'a Order,
 ) -> Result<(), AllocError>
@@ -139,7 +140,7 @@ fn push_order<'a>(
 fn push_clauses<'a>(
     alloc: Global,
     draft: &mut Draft<'a>,
-    prefixes: &'a Prefixes,
+    prefixes: &'a NamePrefixes,
     at: Spot,
     clauses: &'a [Clause],
 ) -> Result<(), AllocError>
@@ -167,7 +168,7 @@ fn push_clauses<'a>(
 fn push_clause<'a>(
     alloc: Global,
     draft: &mut Draft<'a>,
-    prefixes: &'a Prefixes,
+    prefixes: &'a NamePrefixes,
     at: Spot,
     joined: bool,
     clause: &'a Clause,

@@ -9,10 +9,11 @@ use crate::runs::push_run;
 use expr_drafts::{Draft, Spot};
 use expr_places::LIST;
 use expr_terms::{Key, Token};
+use name_prefixes::NamePrefixes;
 use query_pages::Gap;
 use std::alloc::{AllocError, Global};
 use xt_names::Name;
-use xt_syntax::{DirectAttr, Part, Prefixes};
+use xt_syntax::{DirectAttr, Part};
 
 fn push_front(draft: &mut Draft<'_>, first: Gap, name: &Name) -> Result<(), AllocError>
     ensures { OnOk result (draft.new ≡ front_token name.now ∷ draft.old) }
@@ -38,7 +39,7 @@ fn push_attribute_name(draft: &mut Draft<'_>, name: &Name) -> Result<(), AllocEr
 pub fn push_direct<'a>(
     alloc: Global,
     draft: &mut Draft<'a>,
-    prefixes: &'a Prefixes,
+    prefixes: &'a NamePrefixes,
     at: Spot,
     name: &Name,
     attrs: &'a [DirectAttr],
@@ -57,7 +58,7 @@ pub fn push_direct<'a>(
 fn push_closing<'a>(
     alloc: Global,
     draft: &mut Draft<'a>,
-    prefixes: &'a Prefixes,
+    prefixes: &'a NamePrefixes,
     at: Spot,
     name: &Name,
     parts: &'a [Part],
@@ -78,7 +79,7 @@ fn push_closing<'a>(
 fn push_attrs<'a>(
     alloc: Global,
     draft: &mut Draft<'a>,
-    prefixes: &'a Prefixes,
+    prefixes: &'a NamePrefixes,
     at: Spot,
     attrs: &'a [DirectAttr],
 ) -> Result<(), AllocError>
@@ -97,7 +98,7 @@ fn push_attrs<'a>(
 fn push_attr<'a>(
     alloc: Global,
     draft: &mut Draft<'a>,
-    prefixes: &'a Prefixes,
+    prefixes: &'a NamePrefixes,
     at: Spot,
     attr: &'a DirectAttr,
 ) -> Result<(), AllocError>
@@ -120,7 +121,7 @@ fn push_attr<'a>(
 fn push_parts<'a>(
     alloc: Global,
     draft: &mut Draft<'a>,
-    prefixes: &'a Prefixes,
+    prefixes: &'a NamePrefixes,
     at: Spot,
     value: bool,
     parts: &'a [Part],
@@ -140,7 +141,7 @@ fn push_parts<'a>(
 fn push_part<'a>(
     alloc: Global,
     draft: &mut Draft<'a>,
-    prefixes: &'a Prefixes,
+    prefixes: &'a NamePrefixes,
     at: Spot,
     value: bool,
     part: &'a Part,

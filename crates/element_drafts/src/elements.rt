@@ -8,15 +8,16 @@ ghost use Rattle.expr_places.specs.Forms.{name_form};
 use expr_drafts::{Draft, Spot};
 use expr_places::LIST;
 use expr_terms::{Class, Key};
+use name_prefixes::NamePrefixes;
 use name_tokens::{bare_node_token, node_token};
 use query_pages::Gap;
 use std::alloc::{AllocError, Global};
-use xt_syntax::{Expr, NameSource, Prefixes};
+use xt_syntax::{Expr, NameSource};
 
 /// `{ a }`, with the content on a line of its own.
 fn push_braced<'a>(
     draft: &mut Draft<'a>,
-    prefixes: &'a Prefixes,
+    prefixes: &'a NamePrefixes,
     at: Spot,
     content: &'a Expr,
 ) -> Result<(), AllocError>
@@ -31,7 +32,7 @@ fn push_braced<'a>(
 /// A constructor whose name is computed.
 fn push_made<'a>(
     draft: &mut Draft<'a>,
-    prefixes: &'a Prefixes,
+    prefixes: &'a NamePrefixes,
     at: Spot,
     key: Key,
     name: &'a Expr,
@@ -51,7 +52,7 @@ fn push_made<'a>(
 pub fn push_element<'a>(
     alloc: Global,
     draft: &mut Draft<'a>,
-    prefixes: &'a Prefixes,
+    prefixes: &'a NamePrefixes,
     at: Spot,
     name: &'a NameSource,
     content: &'a Expr,
@@ -62,9 +63,9 @@ pub fn push_element<'a>(
 {
     match name {
         NameSource::Fixed(name) => {
-            let bound = &prefixes.bound;
-            let default = &prefixes.element_default;
-            match node_token(alloc, Class::Name, bound, default, name)? {
+            let plain = prefixes.plain();
+            let default = &plain.element_default;
+            match node_token(alloc, Class::Name, &plain.bound, default, name)? {
                 None => Ok(()),
                 Some(token) => {
                     push_braced(draft, prefixes, at, content)?;
@@ -83,7 +84,7 @@ pub fn push_element<'a>(
 pub fn push_attribute<'a>(
     alloc: Global,
     draft: &mut Draft<'a>,
-    prefixes: &'a Prefixes,
+    prefixes: &'a NamePrefixes,
     at: Spot,
     name: &'a NameSource,
     content: &'a Expr,
@@ -94,8 +95,8 @@ pub fn push_attribute<'a>(
 {
     match name {
         NameSource::Fixed(name) => {
-            let bound = &prefixes.bound;
-            match bare_node_token(alloc, Class::Name, bound, name)? {
+            let plain = prefixes.plain();
+            match bare_node_token(alloc, Class::Name, &plain.bound, name)? {
                 None => Ok(()),
                 Some(token) => {
                     push_braced(draft, prefixes, at, content)?;
@@ -114,7 +115,7 @@ pub fn push_attribute<'a>(
 pub fn push_instruction<'a>(
     alloc: Global,
     draft: &mut Draft<'a>,
-    prefixes: &'a Prefixes,
+    prefixes: &'a NamePrefixes,
     at: Spot,
     name: &'a NameSource,
     content: &'a Expr,
@@ -126,8 +127,8 @@ pub fn push_instruction<'a>(
     let key = Key::ProcessingInstructionWord;
     match name {
         NameSource::Fixed(name) => {
-            let bound = &prefixes.bound;
-            match bare_node_token(alloc, Class::Word, bound, name)? {
+            let plain = prefixes.plain();
+            match bare_node_token(alloc, Class::Word, &plain.bound, name)? {
                 None => Ok(()),
                 Some(token) => {
                     push_braced(draft, prefixes, at, content)?;
@@ -143,7 +144,7 @@ pub fn push_instruction<'a>(
 /// `document { a }`, `text { a }`, `comment { a }`.
 pub fn push_enclosing<'a>(
     draft: &mut Draft<'a>,
-    prefixes: &'a Prefixes,
+    prefixes: &'a NamePrefixes,
     at: Spot,
     key: Key,
     content: &'a Expr,

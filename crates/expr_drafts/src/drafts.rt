@@ -9,15 +9,16 @@ ghost use Rattle.expr_drafts.specs.Written.{item_tokens};
 
 use crate::spots::Spot;
 use expr_terms::{Key, Token};
+use name_prefixes::NamePrefixes;
 use query_pages::Gap;
 use std::alloc::{AllocError, Global};
 use std::marker::Model;
-use xt_syntax::{Expr, Prefixes};
+use xt_syntax::Expr;
 
 /// An expression that is still to be written.
 #[derive(Clone, Copy)]
 pub struct Part<'a> {
-    pub prefixes: &'a Prefixes,
+    pub prefixes: &'a NamePrefixes,
     pub at: Spot,
     /// The greatest place of what stands there without parentheses; None where all do.
     pub place: Option<u8>,
@@ -99,7 +100,7 @@ impl<'a> Draft<'a> {
     /// (XPath 2.0, A.4; XQuery 1.0, A.4)
     pub fn push_part(
         &mut self,
-        prefixes: &'a Prefixes,
+        prefixes: &'a NamePrefixes,
         at: Spot,
         place: u8,
         e: &'a Expr,
@@ -119,7 +120,7 @@ impl<'a> Draft<'a> {
     /// (XPath 2.0, A; XQuery 1.0, A)
     pub fn push_expr(
         &mut self,
-        prefixes: &'a Prefixes,
+        prefixes: &'a NamePrefixes,
         at: Spot,
         e: &'a Expr,
     ) -> Result<(), AllocError>

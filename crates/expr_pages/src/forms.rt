@@ -10,18 +10,19 @@ use expr_drafts::{Draft, Spot};
 use expr_places::{compare_key, value_key};
 use expr_terms::{Key, Level, Token};
 use leaf_pages::push_var;
+use name_prefixes::NamePrefixes;
 use operator_drafts::{
     push_arithmetic, push_call, push_cast, push_castable, push_chained, push_comparison,
     push_filter, push_instance, push_list, push_many, push_range, push_root, push_signed,
     push_slash, push_step, push_treat,
 };
 use std::alloc::{AllocError, Global};
-use xt_syntax::{Expr, Prefixes};
+use xt_syntax::Expr;
 
 fn push_leaf<'a>(
     alloc: Global,
     draft: &mut Draft<'a>,
-    prefixes: &'a Prefixes,
+    prefixes: &'a NamePrefixes,
     at: Spot,
     e: &'a Expr,
 ) -> Result<(), AllocError>
@@ -42,7 +43,7 @@ fn push_leaf<'a>(
 fn push_control<'a>(
     alloc: Global,
     draft: &mut Draft<'a>,
-    prefixes: &'a Prefixes,
+    prefixes: &'a NamePrefixes,
     at: Spot,
     e: &'a Expr,
 ) -> Result<(), AllocError>
@@ -70,7 +71,7 @@ fn push_control<'a>(
 
 fn push_compared<'a>(
     draft: &mut Draft<'a>,
-    prefixes: &'a Prefixes,
+    prefixes: &'a NamePrefixes,
     at: Spot,
     e: &'a Expr,
 ) -> Result<(), AllocError>
@@ -94,7 +95,7 @@ fn push_compared<'a>(
 /// Two operands that are numbers, nodes or a path.
 fn push_combined<'a>(
     draft: &mut Draft<'a>,
-    prefixes: &'a Prefixes,
+    prefixes: &'a NamePrefixes,
     at: Spot,
     e: &'a Expr,
 ) -> Result<(), AllocError>
@@ -125,7 +126,7 @@ fn push_combined<'a>(
 fn push_one<'a>(
     alloc: Global,
     draft: &mut Draft<'a>,
-    prefixes: &'a Prefixes,
+    prefixes: &'a NamePrefixes,
     at: Spot,
     e: &'a Expr,
 ) -> Result<(), AllocError>
@@ -150,7 +151,7 @@ fn push_one<'a>(
 fn push_constructor<'a>(
     alloc: Global,
     draft: &mut Draft<'a>,
-    prefixes: &'a Prefixes,
+    prefixes: &'a NamePrefixes,
     at: Spot,
     e: &'a Expr,
 ) -> Result<(), AllocError>
@@ -178,7 +179,7 @@ fn push_constructor<'a>(
 pub(crate) fn push_form<'a>(
     alloc: Global,
     draft: &mut Draft<'a>,
-    prefixes: &'a Prefixes,
+    prefixes: &'a NamePrefixes,
     at: Spot,
     e: &'a Expr,
 ) -> Result<(), AllocError>

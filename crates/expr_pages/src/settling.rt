@@ -9,9 +9,10 @@ use crate::forms::push_form;
 use expr_drafts::{Draft, Item, Part, Spot};
 use expr_places::Operand;
 use expr_terms::{Key, Token};
+use name_prefixes::NamePrefixes;
 use query_pages::{Gap, Page};
 use std::alloc::{AllocError, Global};
-use xt_syntax::{Expr, Prefixes};
+use xt_syntax::Expr;
 
 /// A token, and what is wanted before it.
 #[derive(Drop)]
@@ -20,19 +21,29 @@ pub(crate) struct Standing {
     pub(crate) token: Token,
 }
 
+/// How tightly it binds: its place.
+fn place_of(prefixes: &NamePrefixes, e: &Expr) -> u8
+    ensures { result ≡ (form_of prefixes.now e.now).place }
+{
+    let operand = Operand {
+        prefixes: prefixes.plain(),
+        e,
+    };
+    operand.place()
+}
+
 /// In parentheses where it binds more loosely than the place.
 fn push_said<'a>(
     alloc: Global,
     draft: &mut Draft<'a>,
-    prefixes: &'a Prefixes,
+    prefixes: &'a NamePrefixes,
     at: Spot,
     place: u8,
     e: &'a Expr,
 ) -> Result<(), AllocError>
     ensures { OnOk result (draft.new ≡ said place (form_of prefixes.now e.now) draft.old) }
 {
-    let operand = Operand { prefixes, e };
-    if operand.place() <= place {
+    if place_of(prefixes, e) <= place {
         return push_form(alloc, draft, prefixes, at, e);
     }
     draft.push_key(Gap::Space, Key::CloseParen)?;
@@ -85,7 +96,8 @@ fn step(
     }
 }
 
-/// Writes all of the draft. So many steps as would pass a number of 64 bits count as want of memory.
+/// Writes all of the draft. So many steps as would pass a number of 64 bits count as want of
+/// memory.
 fn settle(
     alloc: Global,
     draft: &mut Draft<'_>,
@@ -127,7 +139,12 @@ pub fn settled(alloc: Global, draft: &mut Draft<'_>) -> Result<Page, AllocError>
 
 /// The page of the tokens of the expression under the prefixes.
 /// (XPath 2.0, A; XQuery 1.0, A)
-pub fn expr_page(alloc: Global, prefixes: &Prefixes, at: Spot, e: &Expr) -> Result<Page, AllocError>
+pub fn expr_page(
+    alloc: Global,
+    prefixes: &NamePrefixes,
+    at: Spot,
+    e: &Expr,
+) -> Result<Page, AllocError>
     ensures { IfOk result (λ page. page ≡ tokens_of prefixes.now e.now) }
 {
     let mut draft = Draft::new(alloc);

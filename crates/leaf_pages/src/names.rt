@@ -7,24 +7,24 @@ ghost use Rattle.control_raws.specs.Bindings.{variable_name};
 
 use expr_drafts::Draft;
 use expr_terms::Key;
+use name_prefixes::NamePrefixes;
 use name_tokens::name_token;
 use query_pages::Gap;
 use std::alloc::{AllocError, Global};
 use xt_names::ExprName;
-use xt_syntax::Prefixes;
 
 /// Puts the name of a variable, without the dollar.
 /// (XPath 2.0, 3.1.2)
 pub fn push_name(
     alloc: Global,
     draft: &mut Draft<'_>,
-    prefixes: &Prefixes,
+    prefixes: &NamePrefixes,
     name: &ExprName,
 ) -> Result<(), AllocError>
     ensures { OnOk result (draft.new
         ≡ (variable_name prefixes.now name.now).tokens draft.old) }
 {
-    match name_token(alloc, &prefixes.bound, name)? {
+    match name_token(alloc, prefixes, name)? {
         None => Ok(()),
         Some(token) => draft.push(Gap::Space, token),
     }
@@ -35,13 +35,13 @@ pub fn push_name(
 pub fn push_var(
     alloc: Global,
     draft: &mut Draft<'_>,
-    prefixes: &Prefixes,
+    prefixes: &NamePrefixes,
     first: Gap,
     name: &ExprName,
 ) -> Result<(), AllocError>
     ensures { OnOk result (draft.new ≡ (variable prefixes.now name.now).tokens draft.old) }
 {
-    match name_token(alloc, &prefixes.bound, name)? {
+    match name_token(alloc, prefixes, name)? {
         None => Ok(()),
         Some(token) => {
             draft.push(Gap::Space, token)?;
@@ -55,7 +55,7 @@ pub fn push_var(
 pub fn push_variable(
     alloc: Global,
     draft: &mut Draft<'_>,
-    prefixes: &Prefixes,
+    prefixes: &NamePrefixes,
     first: Gap,
     name: &ExprName,
 ) -> Result<(), AllocError>

@@ -10,11 +10,11 @@ ghost use Rattle.control_raws.specs.Bindings.{typing, typing_tokens};
 
 use expr_drafts::Draft;
 use expr_terms::{Class, Key, Token};
+use name_prefixes::NamePrefixes;
 use name_tokens::{test_token, type_token};
 use query_pages::Gap;
 use std::alloc::{AllocError, Global};
 use xt_names::AtomType;
-use xt_syntax::Prefixes;
 use xt_types::{Axis, Count, ItemType, NameTest, SeqType, Test};
 
 /// A word with empty parentheses.
@@ -40,7 +40,7 @@ fn push_kind_of(draft: &mut Draft<'_>, first: Gap, key: Key, token: Token) -> Re
 fn push_named(
     alloc: Global,
     draft: &mut Draft<'_>,
-    prefixes: &Prefixes,
+    prefixes: &NamePrefixes,
     first: Gap,
     axis: Axis,
     key: Key,
@@ -50,9 +50,9 @@ fn push_named(
         prefixes.now.bound prefixes.now.element_default axis name.now)
         (named_test key)).tokens draft.old) }
 {
-    let bound = &prefixes.bound;
-    let default = &prefixes.element_default;
-    match test_token(alloc, Class::NameOrStar, bound, default, axis, name)? {
+    let plain = prefixes.plain();
+    let default = &plain.element_default;
+    match test_token(alloc, Class::NameOrStar, prefixes, default, axis, name)? {
         None => Ok(()),
         Some(token) => push_kind_of(draft, first, key, token),
     }
@@ -62,7 +62,7 @@ fn push_named(
 fn push_name_test(
     alloc: Global,
     draft: &mut Draft<'_>,
-    prefixes: &Prefixes,
+    prefixes: &NamePrefixes,
     first: Gap,
     axis: Axis,
     name: &NameTest,
@@ -70,9 +70,9 @@ fn push_name_test(
     ensures { OnOk result (draft.new
         ≡ (test_form prefixes.now axis (test_of.Named name.now)).tokens draft.old) }
 {
-    let bound = &prefixes.bound;
-    let default = &prefixes.element_default;
-    match test_token(alloc, Class::NameTest, bound, default, axis, name)? {
+    let plain = prefixes.plain();
+    let default = &plain.element_default;
+    match test_token(alloc, Class::NameTest, prefixes, default, axis, name)? {
         None => Ok(()),
         Some(token) => draft.push(first, token),
     }
@@ -83,7 +83,7 @@ fn push_name_test(
 pub fn push_test(
     alloc: Global,
     draft: &mut Draft<'_>,
-    prefixes: &Prefixes,
+    prefixes: &NamePrefixes,
     first: Gap,
     axis: Axis,
     test: &Test,
@@ -129,14 +129,14 @@ pub fn push_test(
 fn push_atomic(
     alloc: Global,
     draft: &mut Draft<'_>,
-    prefixes: &Prefixes,
+    prefixes: &NamePrefixes,
     first: Gap,
     kind: AtomType,
 ) -> Result<(), AllocError>
     ensures { OnOk result (draft.new
         ≡ (item_form prefixes.now (item.Atomic kind)).tokens draft.old) }
 {
-    match type_token(alloc, &prefixes.bound, kind)? {
+    match type_token(alloc, prefixes, kind)? {
         None => Ok(()),
         Some(token) => draft.push(first, token),
     }
@@ -145,11 +145,12 @@ fn push_atomic(
 fn push_kind_test(
     alloc: Global,
     draft: &mut Draft<'_>,
-    prefixes: &Prefixes,
+    prefixes: &NamePrefixes,
     first: Gap,
     test: &Test,
 ) -> Result<(), AllocError>
-    ensures { OnOk result (draft.new ≡ (item_form prefixes.now (item.Kind test.now)).tokens draft.old) }
+    ensures { OnOk result (draft.new
+        ≡ (item_form prefixes.now (item.Kind test.now)).tokens draft.old) }
 {
     match test {
         Test::Named(_) => Ok(()),
@@ -160,7 +161,7 @@ fn push_kind_test(
 fn push_item(
     alloc: Global,
     draft: &mut Draft<'_>,
-    prefixes: &Prefixes,
+    prefixes: &NamePrefixes,
     first: Gap,
     of: &ItemType,
 ) -> Result<(), AllocError>
@@ -189,7 +190,7 @@ fn push_mark(draft: &mut Draft<'_>, count: Count) -> Result<(), AllocError>
 pub fn push_type(
     alloc: Global,
     draft: &mut Draft<'_>,
-    prefixes: &Prefixes,
+    prefixes: &NamePrefixes,
     kind: &SeqType,
 ) -> Result<(), AllocError>
     ensures { OnOk result (draft.new ≡ (sequence_form prefixes.now kind.now).tokens draft.old) }
@@ -208,13 +209,13 @@ pub fn push_type(
 pub fn push_single_type(
     alloc: Global,
     draft: &mut Draft<'_>,
-    prefixes: &Prefixes,
+    prefixes: &NamePrefixes,
     kind: AtomType,
     empty: bool,
 ) -> Result<(), AllocError>
     ensures { OnOk result (draft.new ≡ (single_form prefixes.now kind empty).tokens draft.old) }
 {
-    match type_token(alloc, &prefixes.bound, kind)? {
+    match type_token(alloc, prefixes, kind)? {
         None => Ok(()),
         Some(token) => {
             if empty {
@@ -230,7 +231,7 @@ pub fn push_single_type(
 pub fn push_typing(
     alloc: Global,
     draft: &mut Draft<'_>,
-    prefixes: &Prefixes,
+    prefixes: &NamePrefixes,
     kind: &Option<SeqType>,
 ) -> Result<(), AllocError>
     ensures { OnOk result (draft.new

@@ -11,6 +11,7 @@
 
 mod names;
 mod nodes;
+mod prefixed;
 mod tests_of_names;
 mod types;
 mod words;

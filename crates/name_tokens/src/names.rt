@@ -1,13 +1,15 @@
 // Names of variables, functions, types and options.
 ghost use Rattle.std.specs.Prelude.{◌≡◌, [], IfOk};
-ghost use Rattle.path_raws.specs.Names.{first_that, fitting, names, qualified, token_in};
+ghost use Rattle.path_raws.specs.Names.{fitting, names, token_in};
 ghost use Rattle.path_raws.specs.Names.{name_token, function_token};
 
+use crate::prefixed::qualified_token;
 use crate::words::word_term;
 use bound_prefixes::BoundPrefixes;
 use expr_meant::written_in;
 use expr_names::{ResolveFault, no_text, uri_in};
 use expr_terms::{Class, Token, fits};
+use name_prefixes::NamePrefixes;
 use std::alloc::{AllocError, Global};
 use xt_names::{ExprName, Text};
 
@@ -47,43 +49,24 @@ fn is_fitting(
     names(alloc, bound, default, name, token)
 }
 
-/// The first of the tokens with a prefix that means the name.
-fn qualified_token(
+/// The word alone, or else the local name with the first prefix that has the uri.
+#[tactic(auto, using(crate::proofs::Found::found_tokens))]
+fn token_in(
     alloc: Global,
     class: Class,
-    bound: &BoundPrefixes,
+    prefixes: &NamePrefixes,
     default: &Text,
     name: &ExprName,
 ) -> Result<Option<Token>, AllocError>
     ensures { IfOk result (λ token. token
-        ≡ first_that (fitting class (names bound.now default.now name.now))
-        (qualified bound.now name.now.local)) }
+        ≡ token_in class prefixes.now.bound default.now name.now) }
 {
-    for binding in bound.as_slice() {
-        if !binding.prefix.is_empty() {
-            let token = Token::Qname(binding.prefix.copy()?, name.local.copy()?);
-            if is_fitting(alloc, class, bound, default, name, &token)? {
-                return Ok(Some(token));
-            }
-        }
-    }
-    Ok(None)
-}
-
-fn token_in(
-    alloc: Global,
-    class: Class,
-    bound: &BoundPrefixes,
-    default: &Text,
-    name: &ExprName,
-) -> Result<Option<Token>, AllocError>
-    ensures { IfOk result (λ token. token ≡ token_in class bound.now default.now name.now) }
-{
+    let plain = prefixes.plain();
     let token = word_term(&name.local)?;
-    if is_fitting(alloc, class, bound, default, name, &token)? {
+    if is_fitting(alloc, class, &plain.bound, default, name, &token)? {
         return Ok(Some(token));
     }
-    qualified_token(alloc, class, bound, default, name)
+    qualified_token(class, prefixes, &name.uri, &name.local)
 }
 
 /// The token of the name of a variable or an option, which has no uri without a prefix; None where
@@ -91,13 +74,13 @@ fn token_in(
 /// (XPath 2.0, 3.1.2)
 pub fn name_token(
     alloc: Global,
-    bound: &BoundPrefixes,
+    prefixes: &NamePrefixes,
     name: &ExprName,
 ) -> Result<Option<Token>, AllocError>
-    ensures { IfOk result (λ token. token ≡ name_token bound.now [] name.now) }
+    ensures { IfOk result (λ token. token ≡ name_token prefixes.now.bound [] name.now) }
 {
     let none = no_text(alloc)?;
-    token_in(alloc, Class::Name, bound, &none, name)
+    token_in(alloc, Class::Name, prefixes, &none, name)
 }
 
 /// The token of the name of a function, which has the default uri without a prefix; None where no
@@ -105,11 +88,12 @@ pub fn name_token(
 /// (XPath 2.0, 3.1.5; XQuery 1.0, A.3)
 pub fn function_token(
     alloc: Global,
-    bound: &BoundPrefixes,
+    prefixes: &NamePrefixes,
     default: &Text,
     name: &ExprName,
 ) -> Result<Option<Token>, AllocError>
-    ensures { IfOk result (λ token. token ≡ function_token bound.now default.now name.now) }
+    ensures { IfOk result (λ token. token
+        ≡ function_token prefixes.now.bound default.now name.now) }
 {
-    token_in(alloc, Class::Function, bound, default, name)
+    token_in(alloc, Class::Function, prefixes, default, name)
 }

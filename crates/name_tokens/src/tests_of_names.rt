@@ -2,13 +2,14 @@
 ghost use Rattle.std.specs.Prelude.{◌≡◌, ◌∷◌, [], IfOk};
 ghost use Rattle.expr_paths.specs.Steps.{defaulted};
 ghost use Rattle.path_raws.specs.Names.{first_that, fitting, tests, same_test, test_token};
-ghost use Rattle.path_raws.specs.Names.{any_locals, qualified};
 
+use crate::prefixed::{any_local_token, qualified_token};
 use crate::words::word_term;
 use bound_prefixes::BoundPrefixes;
 use expr_meant::written_test_in;
 use expr_names::{ResolveFault, default_in, name_test};
 use expr_terms::{Class, Key, Token, fits};
+use name_prefixes::NamePrefixes;
 use std::alloc::{AllocError, Global};
 use xt_names::Text;
 use xt_types::{Axis, NameTest};
@@ -105,75 +106,29 @@ fn token_where_fitting(
     Ok(None)
 }
 
-/// The first of `p:*` that means the test.
-fn any_local_token(
-    alloc: Global,
-    class: Class,
-    bound: &BoundPrefixes,
-    default: &Text,
-    axis: Axis,
-    test: &NameTest,
-) -> Result<Option<Token>, AllocError>
-    ensures { IfOk result (λ token. token
-        ≡ first_that (fitting class (tests bound.now default.now axis test.now))
-        (any_locals bound.now)) }
-{
-    for binding in bound.as_slice() {
-        if !binding.prefix.is_empty() {
-            let token = Token::AnyLocal(binding.prefix.copy()?);
-            if is_fitting(alloc, class, bound, default, axis, test, &token)? {
-                return Ok(Some(token));
-            }
-        }
-    }
-    Ok(None)
-}
-
-/// The first of `p:n` that means the test.
-fn qualified_token(
-    alloc: Global,
-    class: Class,
-    bound: &BoundPrefixes,
-    default: &Text,
-    axis: Axis,
-    test: &NameTest,
-    local: &Text,
-) -> Result<Option<Token>, AllocError>
-    ensures { IfOk result (λ token. token
-        ≡ first_that (fitting class (tests bound.now default.now axis test.now))
-        (qualified bound.now local.now)) }
-{
-    for binding in bound.as_slice() {
-        if !binding.prefix.is_empty() {
-            let token = Token::Qname(binding.prefix.copy()?, local.copy()?);
-            if is_fitting(alloc, class, bound, default, axis, test, &token)? {
-                return Ok(Some(token));
-            }
-        }
-    }
-    Ok(None)
-}
-
 /// The token of the class that means the name test on the axis, where names of elements without a
 /// prefix have the default uri; None where no token means it.
 /// (XPath 2.0, 3.2.1.2)
+#[tactic(auto, using(crate::proofs::Found::found_tokens))]
 pub fn test_token(
     alloc: Global,
     class: Class,
-    bound: &BoundPrefixes,
+    prefixes: &NamePrefixes,
     default: &Text,
     axis: Axis,
     test: &NameTest,
 ) -> Result<Option<Token>, AllocError>
     ensures { IfOk result (λ token. token
-        ≡ test_token class bound.now default.now axis test.now) }
+        ≡ test_token class prefixes.now.bound default.now axis test.now) }
 {
+    let plain = prefixes.plain();
+    let bound = &plain.bound;
     match test {
         NameTest::Any => {
             let token = Token::Key(Key::Star);
             token_where_fitting(alloc, class, bound, default, axis, test, token)
         }
-        NameTest::Uri(_) => any_local_token(alloc, class, bound, default, axis, test),
+        NameTest::Uri(uri) => any_local_token(class, prefixes, uri),
         NameTest::Local(local) => {
             let token = Token::AnyPrefix(local.copy()?);
             token_where_fitting(alloc, class, bound, default, axis, test, token)
@@ -183,7 +138,7 @@ pub fn test_token(
             if is_fitting(alloc, class, bound, default, axis, test, &token)? {
                 return Ok(Some(token));
             }
-            qualified_token(alloc, class, bound, default, axis, test, &name.local)
+            qualified_token(class, prefixes, &name.uri, &name.local)
         }
     }
 }

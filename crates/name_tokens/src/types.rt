@@ -1,14 +1,11 @@
 // Atomic types.
 ghost use Rattle.std.specs.Prelude.{◌≡◌, IfOk, IsTrue, nat_lt};
 ghost use Rattle.std.specs.List.{list_all};
-ghost use Rattle.expr_terms.specs.declared.productions.Class.TheVariants as class;
-ghost use Rattle.path_raws.specs.Names.{first_that, fitting, qualified};
-ghost use Rattle.control_raws.specs.Types.{local_name, same_atom, types, type_token};
+ghost use Rattle.control_raws.specs.Types.{local_name, type_token};
 
-use bound_prefixes::BoundPrefixes;
-use expr_meant::written_in;
-use expr_names::{ResolveFault, expr_name, no_text, type_named};
-use expr_terms::{Class, Token, fits};
+use crate::prefixed::qualified_token;
+use expr_terms::{Class, Token};
+use name_prefixes::NamePrefixes;
 use std::alloc::{AllocError, Global};
 use xt_names::{AtomType, Text};
 
@@ -33,71 +30,16 @@ fn local_name(alloc: Global, kind: AtomType) -> Result<Text, AllocError>
     }
 }
 
-fn same_atom(a: AtomType, b: AtomType) -> bool
-    ensures { result ≡ same_atom a b }
-{
-    match a {
-        AtomType::Str => matches!(b, AtomType::Str),
-        AtomType::Untyped => matches!(b, AtomType::Untyped),
-        AtomType::Int => matches!(b, AtomType::Int),
-        AtomType::Bool => matches!(b, AtomType::Bool),
-        AtomType::QName => matches!(b, AtomType::QName),
-        AtomType::Any => matches!(b, AtomType::Any),
-    }
-}
-
-/// Whether the token names the type, and its prefix is declared.
-#[tactic(auto, using(crate::proofs::Faults::faults), unfolding(expr_meant::specs::Names::written_of))]
-fn types(
-    alloc: Global,
-    bound: &BoundPrefixes,
-    kind: AtomType,
-    token: &Token,
-) -> Result<bool, AllocError>
-    ensures { IfOk result (λ means. means ≡ types bound.now kind token.now) }
-{
-    let written = written_in(alloc, token)?;
-    let none = no_text(alloc)?;
-    match expr_name(alloc, bound, &none, &written) {
-        Ok(name) => match type_named(&name) {
-            Some(found) => Ok(same_atom(found, kind)),
-            None => Ok(false),
-        },
-        Err(ResolveFault::Static(_)) => Ok(false),
-        Err(ResolveFault::Memory(e)) => Err(e),
-    }
-}
-
-/// The first of the tokens with a prefix that names the type by this local name.
-fn qualified_token(
-    alloc: Global,
-    bound: &BoundPrefixes,
-    kind: AtomType,
-    local: &Text,
-) -> Result<Option<Token>, AllocError>
-    ensures { IfOk result (λ token. token ≡ first_that (fitting class.Name (types bound.now kind))
-        (qualified bound.now local.now)) }
-{
-    for binding in bound.as_slice() {
-        if !binding.prefix.is_empty() {
-            let token = Token::Qname(binding.prefix.copy()?, local.copy()?);
-            if fits(Class::Name, &token) && types(alloc, bound, kind, &token)? {
-                return Ok(Some(token));
-            }
-        }
-    }
-    Ok(None)
-}
-
 /// The token of an atomic type; None where no prefix is bound to the uri of the types.
 /// (XPath 2.0, 2.5.3)
 pub fn type_token(
     alloc: Global,
-    bound: &BoundPrefixes,
+    prefixes: &NamePrefixes,
     kind: AtomType,
 ) -> Result<Option<Token>, AllocError>
-    ensures { IfOk result (λ token. token ≡ type_token bound.now kind) }
+    ensures { IfOk result (λ token. token ≡ type_token prefixes.now.bound kind) }
 {
+    let uri = ascii_text(alloc, "http://www.w3.org/2001/XMLSchema")?;
     let local = local_name(alloc, kind)?;
-    qualified_token(alloc, bound, kind, &local)
+    qualified_token(Class::Name, prefixes, &uri, &local)
 }

@@ -9,9 +9,10 @@ ghost use Rattle.expr_raws.specs.Raws.{form_of};
 use expr_drafts::{Draft, Spot, push_comma};
 use expr_places::SINGLE;
 use expr_terms::{Key, Level, tight};
+use name_prefixes::NamePrefixes;
 use query_pages::Gap;
 use std::alloc::AllocError;
-use xt_syntax::{Expr, Prefixes};
+use xt_syntax::Expr;
 
 /// `()`.
 fn push_empty(draft: &mut Draft<'_>, first: Gap) -> Result<(), AllocError>
@@ -25,7 +26,7 @@ fn push_empty(draft: &mut Draft<'_>, first: Gap) -> Result<(), AllocError>
 /// With commas between them.
 pub(crate) fn push_items<'a>(
     draft: &mut Draft<'a>,
-    prefixes: &'a Prefixes,
+    prefixes: &'a NamePrefixes,
     at: Spot,
     items: &'a [Expr],
 ) -> Result<(), AllocError>
@@ -44,7 +45,7 @@ pub(crate) fn push_items<'a>(
 /// A list of no or of several items; nothing where there is one.
 pub fn push_list<'a>(
     draft: &mut Draft<'a>,
-    prefixes: &'a Prefixes,
+    prefixes: &'a NamePrefixes,
     at: Spot,
     items: &'a [Expr],
 ) -> Result<(), AllocError>
@@ -61,7 +62,7 @@ pub fn push_list<'a>(
 /// Operands behind the first, each behind the operator.
 fn push_tails<'a>(
     draft: &mut Draft<'a>,
-    prefixes: &'a Prefixes,
+    prefixes: &'a NamePrefixes,
     at: Spot,
     level: Level,
     key: Key,
@@ -83,7 +84,7 @@ fn push_tails<'a>(
 /// `or` or `and` between two operands or more; nothing where there are fewer.
 pub fn push_many<'a>(
     draft: &mut Draft<'a>,
-    prefixes: &'a Prefixes,
+    prefixes: &'a NamePrefixes,
     at: Spot,
     level: Level,
     key: Key,

@@ -12,10 +12,11 @@ use expr_drafts::{Draft, Spot};
 use expr_places::{Operator, SIGNS, arithmetic, chained, once};
 use expr_terms::{Key, Level, tight};
 use leaf_pages::{push_single_type, push_type};
+use name_prefixes::NamePrefixes;
 use query_pages::Gap;
 use std::alloc::{AllocError, Global};
 use xt_names::{ArithOp, AtomType};
-use xt_syntax::{Expr, Prefixes};
+use xt_syntax::Expr;
 use xt_types::SeqType;
 
 /// The two words of an operator on a type.
@@ -29,7 +30,7 @@ fn push_words(draft: &mut Draft<'_>, first: Key, second: Key) -> Result<(), Allo
 /// Two operands.
 pub(crate) fn push_pair<'a>(
     draft: &mut Draft<'a>,
-    prefixes: &'a Prefixes,
+    prefixes: &'a NamePrefixes,
     at: Spot,
     by: Operator,
     a: &'a Expr,
@@ -46,7 +47,7 @@ pub(crate) fn push_pair<'a>(
 /// A comparison.
 pub fn push_comparison<'a>(
     draft: &mut Draft<'a>,
-    prefixes: &'a Prefixes,
+    prefixes: &'a NamePrefixes,
     at: Spot,
     key: Key,
     a: &'a Expr,
@@ -61,7 +62,7 @@ pub fn push_comparison<'a>(
 /// `a to b`.
 pub fn push_range<'a>(
     draft: &mut Draft<'a>,
-    prefixes: &'a Prefixes,
+    prefixes: &'a NamePrefixes,
     at: Spot,
     a: &'a Expr,
     b: &'a Expr,
@@ -74,7 +75,7 @@ pub fn push_range<'a>(
 
 pub fn push_arithmetic<'a>(
     draft: &mut Draft<'a>,
-    prefixes: &'a Prefixes,
+    prefixes: &'a NamePrefixes,
     at: Spot,
     op: ArithOp,
     a: &'a Expr,
@@ -83,14 +84,15 @@ pub fn push_arithmetic<'a>(
     ensures { OnOk result (draft.new ≡ (arithmetic op (form_of prefixes.now a.now)
         (form_of prefixes.now b.now)).tokens draft.old) }
 {
-    push_pair(draft, prefixes, at, arithmetic(prefixes, op, a), a, b)?;
+    let by = arithmetic(prefixes.plain(), op, a);
+    push_pair(draft, prefixes, at, by, a, b)?;
     Ok(())
 }
 
 /// An operator that may have others of its level at its left.
 pub fn push_chained<'a>(
     draft: &mut Draft<'a>,
-    prefixes: &'a Prefixes,
+    prefixes: &'a NamePrefixes,
     at: Spot,
     level: Level,
     key: Key,
@@ -100,14 +102,15 @@ pub fn push_chained<'a>(
     ensures { OnOk result (draft.new ≡ (left level key (form_of prefixes.now a.now)
         (form_of prefixes.now b.now)).tokens draft.old) }
 {
-    push_pair(draft, prefixes, at, chained(prefixes, level, key, a), a, b)?;
+    let by = chained(prefixes.plain(), level, key, a);
+    push_pair(draft, prefixes, at, by, a, b)?;
     Ok(())
 }
 
 /// `-a` or `+a`.
 pub fn push_signed<'a>(
     draft: &mut Draft<'a>,
-    prefixes: &'a Prefixes,
+    prefixes: &'a NamePrefixes,
     at: Spot,
     key: Key,
     a: &'a Expr,
@@ -123,7 +126,7 @@ pub fn push_signed<'a>(
 pub fn push_instance<'a>(
     alloc: Global,
     draft: &mut Draft<'a>,
-    prefixes: &'a Prefixes,
+    prefixes: &'a NamePrefixes,
     at: Spot,
     a: &'a Expr,
     kind: &SeqType,
@@ -141,7 +144,7 @@ pub fn push_instance<'a>(
 pub fn push_treat<'a>(
     alloc: Global,
     draft: &mut Draft<'a>,
-    prefixes: &'a Prefixes,
+    prefixes: &'a NamePrefixes,
     at: Spot,
     a: &'a Expr,
     kind: &SeqType,
@@ -159,7 +162,7 @@ pub fn push_treat<'a>(
 pub fn push_castable<'a>(
     alloc: Global,
     draft: &mut Draft<'a>,
-    prefixes: &'a Prefixes,
+    prefixes: &'a NamePrefixes,
     at: Spot,
     a: &'a Expr,
     kind: AtomType,
@@ -178,7 +181,7 @@ pub fn push_castable<'a>(
 pub fn push_cast<'a>(
     alloc: Global,
     draft: &mut Draft<'a>,
-    prefixes: &'a Prefixes,
+    prefixes: &'a NamePrefixes,
     at: Spot,
     a: &'a Expr,
     kind: AtomType,

@@ -9,11 +9,12 @@ use expr_drafts::{Draft, Spot};
 use expr_places::{LIST, PRIMARY, STEP, is_root, slash};
 use expr_terms::Key;
 use leaf_pages::{axis_key, push_test};
+use name_prefixes::NamePrefixes;
 use name_tokens::function_token;
 use query_pages::Gap;
 use std::alloc::{AllocError, Global};
 use xt_names::ExprName;
-use xt_syntax::{Expr, Prefixes};
+use xt_syntax::Expr;
 use xt_types::{Axis, Test};
 
 /// `/` alone, in parentheses.
@@ -30,7 +31,7 @@ pub fn push_root(draft: &mut Draft<'_>, first: Gap) -> Result<(), AllocError>
 pub fn push_call<'a>(
     alloc: Global,
     draft: &mut Draft<'a>,
-    prefixes: &'a Prefixes,
+    prefixes: &'a NamePrefixes,
     at: Spot,
     name: &ExprName,
     args: &'a [Expr],
@@ -38,8 +39,8 @@ pub fn push_call<'a>(
     ensures { OnOk result (draft.new ≡ (call prefixes.now name.now
         (map (form_of prefixes.now) args.now)).tokens draft.old) }
 {
-    let bound = &prefixes.bound;
-    match function_token(alloc, bound, &prefixes.function_default, name)? {
+    let plain = prefixes.plain();
+    match function_token(alloc, prefixes, &plain.function_default, name)? {
         None => Ok(()),
         Some(token) => {
             draft.push_key(Gap::Space, Key::CloseParen)?;
@@ -53,7 +54,7 @@ pub fn push_call<'a>(
 /// `[p]..`.
 fn push_predicates<'a>(
     draft: &mut Draft<'a>,
-    prefixes: &'a Prefixes,
+    prefixes: &'a NamePrefixes,
     at: Spot,
     tests: &'a [Expr],
 ) -> Result<(), AllocError>
@@ -74,7 +75,7 @@ fn push_predicates<'a>(
 pub fn push_step<'a>(
     alloc: Global,
     draft: &mut Draft<'a>,
-    prefixes: &'a Prefixes,
+    prefixes: &'a NamePrefixes,
     at: Spot,
     axis: Axis,
     test: &Test,
@@ -92,7 +93,7 @@ pub fn push_step<'a>(
 /// `a[p]..`; nothing where there are no predicates.
 pub fn push_filter<'a>(
     draft: &mut Draft<'a>,
-    prefixes: &'a Prefixes,
+    prefixes: &'a NamePrefixes,
     at: Spot,
     of: &'a Expr,
     tests: &'a [Expr],
@@ -112,7 +113,7 @@ pub fn push_filter<'a>(
 /// `a/b`, or `/b` where `a` is the root.
 pub fn push_slash<'a>(
     draft: &mut Draft<'a>,
-    prefixes: &'a Prefixes,
+    prefixes: &'a NamePrefixes,
     at: Spot,
     a: &'a Expr,
     b: &'a Expr,

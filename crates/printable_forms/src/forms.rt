@@ -23,17 +23,17 @@ use crate::roots::{
 };
 use crate::runs::can_run;
 use crate::types::{has_kind, has_node_test, has_sequence_type};
-use expr_places::Operand;
 use expr_terms::Class;
+use name_prefixes::NamePrefixes;
 use std::alloc::{AllocError, Global};
 use xt_names::Shared;
-use xt_syntax::{Arm, Bind, Clause, DirectAttr, Expr, Flwor, NameSource, Order, Part, Prefixes};
+use xt_syntax::{Arm, Bind, Clause, DirectAttr, Expr, Flwor, NameSource, Order, Part};
 
 /// Whether the expression can be printed under the prefixes, in all of its parts.
 /// (XPath 2.0, 3; XQuery 1.0, 3)
 #[cycle(can)]
 #[tactic(auto, using(crate::proofs::TokenLemmas::tokens, crate::proofs::ListLemmas::lists))]
-pub fn can_be_printed(alloc: Global, prefixes: &Prefixes, e: &Expr) -> Result<bool, AllocError>
+pub fn can_be_printed(alloc: Global, prefixes: &NamePrefixes, e: &Expr) -> Result<bool, AllocError>
     ensures { IfOk result (λ can. can ≡ is_printable prefixes.now e.now) }
 {
     match e {
@@ -66,20 +66,17 @@ pub fn can_be_printed(alloc: Global, prefixes: &Prefixes, e: &Expr) -> Result<bo
 /// A conditional or a quantified expression.
 #[cycle(can)]
 #[tactic(auto, using(crate::proofs::TokenLemmas::tokens, crate::proofs::ListLemmas::lists))]
-fn can_branch(alloc: Global, prefixes: &Prefixes, e: &Expr) -> Result<bool, AllocError>
+fn can_branch(alloc: Global, prefixes: &NamePrefixes, e: &Expr) -> Result<bool, AllocError>
     requires { is_branch e.now ≡ true }
     ensures { IfOk result (λ can. can ≡ is_printable prefixes.now e.now) }
 {
     match e {
         Expr::If(arms, other) => {
-            let last = Operand {
-                prefixes,
-                e: other.get(),
-            };
             Ok(
                 has_arms(arms.get().as_slice())
                     && (can_arms(alloc, prefixes, arms.get().as_slice())?
-                        && (can_be_printed(alloc, prefixes, other.get())? && !is_if(&last))),
+                        && (can_be_printed(alloc, prefixes, other.get())?
+                            && !is_if(prefixes, other.get()))),
             )
         }
         Expr::Quant(_, binds, test) => {
@@ -96,7 +93,7 @@ fn can_branch(alloc: Global, prefixes: &Prefixes, e: &Expr) -> Result<bool, Allo
 /// Two operands.
 #[cycle(can)]
 #[tactic(auto, using(crate::proofs::TokenLemmas::tokens, crate::proofs::ListLemmas::lists))]
-fn can_pair(alloc: Global, prefixes: &Prefixes, e: &Expr) -> Result<bool, AllocError>
+fn can_pair(alloc: Global, prefixes: &NamePrefixes, e: &Expr) -> Result<bool, AllocError>
     requires { is_pair e.now ≡ true }
     ensures { IfOk result (λ can. can ≡ is_printable prefixes.now e.now) }
 {
@@ -124,7 +121,7 @@ fn can_pair(alloc: Global, prefixes: &Prefixes, e: &Expr) -> Result<bool, AllocE
 /// An operator on a type.
 #[cycle(can)]
 #[tactic(auto, using(crate::proofs::TokenLemmas::tokens, crate::proofs::ListLemmas::lists))]
-fn can_typed(alloc: Global, prefixes: &Prefixes, e: &Expr) -> Result<bool, AllocError>
+fn can_typed(alloc: Global, prefixes: &NamePrefixes, e: &Expr) -> Result<bool, AllocError>
     requires { is_typed e.now ≡ true }
     ensures { IfOk result (λ can. can ≡ is_printable prefixes.now e.now) }
 {
@@ -145,7 +142,7 @@ fn can_typed(alloc: Global, prefixes: &Prefixes, e: &Expr) -> Result<bool, Alloc
 /// A step, a filter or a call.
 #[cycle(can)]
 #[tactic(auto, using(crate::proofs::TokenLemmas::tokens, crate::proofs::ListLemmas::lists))]
-fn can_step(alloc: Global, prefixes: &Prefixes, e: &Expr) -> Result<bool, AllocError>
+fn can_step(alloc: Global, prefixes: &NamePrefixes, e: &Expr) -> Result<bool, AllocError>
     requires { is_step e.now ≡ true }
     ensures { IfOk result (λ can. can ≡ is_printable prefixes.now e.now) }
 {
@@ -173,7 +170,7 @@ fn can_step(alloc: Global, prefixes: &Prefixes, e: &Expr) -> Result<bool, AllocE
 /// A constructor that has a name.
 #[cycle(can)]
 #[tactic(auto, using(crate::proofs::TokenLemmas::tokens, crate::proofs::ListLemmas::lists))]
-fn can_constructor(alloc: Global, prefixes: &Prefixes, e: &Expr) -> Result<bool, AllocError>
+fn can_constructor(alloc: Global, prefixes: &NamePrefixes, e: &Expr) -> Result<bool, AllocError>
     requires { is_named_constructor e.now ≡ true }
     ensures { IfOk result (λ can. can ≡ is_printable prefixes.now e.now) }
 {
@@ -208,7 +205,7 @@ fn can_constructor(alloc: Global, prefixes: &Prefixes, e: &Expr) -> Result<bool,
 }
 
 #[cycle(can)]
-fn can_each(alloc: Global, prefixes: &Prefixes, es: &[Expr]) -> Result<bool, AllocError>
+fn can_each(alloc: Global, prefixes: &NamePrefixes, es: &[Expr]) -> Result<bool, AllocError>
     ensures { IfOk result (λ can. can ≡ all_can (map (form_of prefixes.now) es.now)) }
 {
     for e in es {
@@ -222,7 +219,7 @@ fn can_each(alloc: Global, prefixes: &Prefixes, es: &[Expr]) -> Result<bool, All
 /// A comma list: of no item, or of several.
 #[cycle(can)]
 #[tactic(auto, using(crate::proofs::ListLemmas::lists))]
-fn can_list(alloc: Global, prefixes: &Prefixes, es: &[Expr]) -> Result<bool, AllocError>
+fn can_list(alloc: Global, prefixes: &NamePrefixes, es: &[Expr]) -> Result<bool, AllocError>
     ensures { IfOk result (λ can. can ≡ not_one (map (form_of prefixes.now) es.now)) }
 {
     match es {
@@ -234,7 +231,7 @@ fn can_list(alloc: Global, prefixes: &Prefixes, es: &[Expr]) -> Result<bool, All
 /// `or` or `and`, of two operands or more.
 #[cycle(can)]
 #[tactic(auto, using(crate::proofs::ListLemmas::lists))]
-fn can_many(alloc: Global, prefixes: &Prefixes, es: &[Expr]) -> Result<bool, AllocError>
+fn can_many(alloc: Global, prefixes: &NamePrefixes, es: &[Expr]) -> Result<bool, AllocError>
     ensures { IfOk result (λ can. can ≡ several (map (form_of prefixes.now) es.now)) }
 {
     match es {
@@ -245,7 +242,7 @@ fn can_many(alloc: Global, prefixes: &Prefixes, es: &[Expr]) -> Result<bool, All
 }
 
 #[cycle(can)]
-fn can_arms(alloc: Global, prefixes: &Prefixes, arms: &[Arm]) -> Result<bool, AllocError>
+fn can_arms(alloc: Global, prefixes: &NamePrefixes, arms: &[Arm]) -> Result<bool, AllocError>
     ensures { IfOk result (λ can. can ≡ arms_can (map (arm_form prefixes.now) arms.now)) }
 {
     for arm in arms {
@@ -262,7 +259,7 @@ fn can_arms(alloc: Global, prefixes: &Prefixes, arms: &[Arm]) -> Result<bool, Al
 }
 
 #[cycle(can)]
-fn can_binds(alloc: Global, prefixes: &Prefixes, binds: &[Bind]) -> Result<bool, AllocError>
+fn can_binds(alloc: Global, prefixes: &NamePrefixes, binds: &[Bind]) -> Result<bool, AllocError>
     ensures { IfOk result (λ can. can ≡ binds_can (map (bind_form prefixes.now) binds.now)) }
 {
     for bind in binds {
@@ -275,7 +272,7 @@ fn can_binds(alloc: Global, prefixes: &Prefixes, binds: &[Bind]) -> Result<bool,
 
 #[cycle(can)]
 #[tactic(auto, using(crate::proofs::TokenLemmas::tokens))]
-fn can_bind(alloc: Global, prefixes: &Prefixes, bind: &Bind) -> Result<bool, AllocError>
+fn can_bind(alloc: Global, prefixes: &NamePrefixes, bind: &Bind) -> Result<bool, AllocError>
     ensures { IfOk result (λ can. can ≡ bind_can (bind_form prefixes.now bind.now)) }
 {
     let name = has_name(alloc, prefixes, &bind.var)?;
@@ -287,7 +284,7 @@ fn can_bind(alloc: Global, prefixes: &Prefixes, bind: &Bind) -> Result<bool, All
 /// A FLWOR expression, with clauses, and stable with orders alone.
 #[cycle(can)]
 #[tactic(auto, using(crate::proofs::ListLemmas::lists))]
-fn can_flow(alloc: Global, prefixes: &Prefixes, f: &Flwor) -> Result<bool, AllocError>
+fn can_flow(alloc: Global, prefixes: &NamePrefixes, f: &Flwor) -> Result<bool, AllocError>
     ensures { IfOk result (λ can. can ≡ (flwor_form prefixes.now f.now).can) }
 {
     let some = has_clauses(f.clauses.get().as_slice());
@@ -300,7 +297,11 @@ fn can_flow(alloc: Global, prefixes: &Prefixes, f: &Flwor) -> Result<bool, Alloc
 }
 
 #[cycle(can)]
-fn can_clauses(alloc: Global, prefixes: &Prefixes, clauses: &[Clause]) -> Result<bool, AllocError>
+fn can_clauses(
+    alloc: Global,
+    prefixes: &NamePrefixes,
+    clauses: &[Clause],
+) -> Result<bool, AllocError>
     ensures { IfOk result (λ can. can
         ≡ clauses_can (map (clause_form prefixes.now) clauses.now)) }
 {
@@ -313,7 +314,7 @@ fn can_clauses(alloc: Global, prefixes: &Prefixes, clauses: &[Clause]) -> Result
 }
 
 #[cycle(can)]
-fn can_clause(alloc: Global, prefixes: &Prefixes, clause: &Clause) -> Result<bool, AllocError>
+fn can_clause(alloc: Global, prefixes: &NamePrefixes, clause: &Clause) -> Result<bool, AllocError>
     ensures { IfOk result (λ can. can ≡ (clause_form prefixes.now clause.now).can) }
 {
     match clause {
@@ -327,7 +328,7 @@ fn can_clause(alloc: Global, prefixes: &Prefixes, clause: &Clause) -> Result<boo
 #[cycle(can)]
 fn can_where(
     alloc: Global,
-    prefixes: &Prefixes,
+    prefixes: &NamePrefixes,
     test: &Option<Shared<Expr>>,
 ) -> Result<bool, AllocError>
     ensures { IfOk result (λ can. can ≡ may (option_map (form_of prefixes.now) test.now)) }
@@ -339,7 +340,7 @@ fn can_where(
 }
 
 #[cycle(can)]
-fn can_orders(alloc: Global, prefixes: &Prefixes, orders: &[Order]) -> Result<bool, AllocError>
+fn can_orders(alloc: Global, prefixes: &NamePrefixes, orders: &[Order]) -> Result<bool, AllocError>
     ensures { IfOk result (λ can. can ≡ orders_can (map (order_form prefixes.now) orders.now)) }
 {
     for order in orders {
@@ -353,7 +354,7 @@ fn can_orders(alloc: Global, prefixes: &Prefixes, orders: &[Order]) -> Result<bo
 #[cycle(can)]
 fn can_element_name(
     alloc: Global,
-    prefixes: &Prefixes,
+    prefixes: &NamePrefixes,
     name: &NameSource,
 ) -> Result<bool, AllocError>
     ensures { IfOk result (λ can. can ≡ named_can class_of.Name prefixes.now.bound
@@ -369,7 +370,7 @@ fn can_element_name(
 #[cycle(can)]
 fn can_bare_name(
     alloc: Global,
-    prefixes: &Prefixes,
+    prefixes: &NamePrefixes,
     class: Class,
     name: &NameSource,
 ) -> Result<bool, AllocError>
@@ -383,7 +384,11 @@ fn can_bare_name(
 }
 
 #[cycle(can)]
-fn can_attrs(alloc: Global, prefixes: &Prefixes, attrs: &[DirectAttr]) -> Result<bool, AllocError>
+fn can_attrs(
+    alloc: Global,
+    prefixes: &NamePrefixes,
+    attrs: &[DirectAttr],
+) -> Result<bool, AllocError>
     ensures { IfOk result (λ can. can
         ≡ attrs_can prefixes.now (map (attr_form prefixes.now) attrs.now)) }
 {
@@ -396,7 +401,7 @@ fn can_attrs(alloc: Global, prefixes: &Prefixes, attrs: &[DirectAttr]) -> Result
 }
 
 #[cycle(can)]
-fn can_attr(alloc: Global, prefixes: &Prefixes, attr: &DirectAttr) -> Result<bool, AllocError>
+fn can_attr(alloc: Global, prefixes: &NamePrefixes, attr: &DirectAttr) -> Result<bool, AllocError>
     ensures { IfOk result (λ can. can ≡ attr_can prefixes.now (attr_form prefixes.now attr.now)) }
 {
     Ok(
@@ -409,7 +414,7 @@ fn can_attr(alloc: Global, prefixes: &Prefixes, attr: &DirectAttr) -> Result<boo
 #[cycle(can)]
 fn can_parts(
     alloc: Global,
-    prefixes: &Prefixes,
+    prefixes: &NamePrefixes,
     value: bool,
     parts: &[Part],
 ) -> Result<bool, AllocError>
@@ -433,7 +438,7 @@ fn can_parts(
 #[cycle(can)]
 fn can_part(
     alloc: Global,
-    prefixes: &Prefixes,
+    prefixes: &NamePrefixes,
     value: bool,
     part: &Part,
 ) -> Result<bool, AllocError>
@@ -446,11 +451,7 @@ fn can_part(
             if value {
                 return Ok(false);
             }
-            let child = Operand {
-                prefixes,
-                e: e.get(),
-            };
-            Ok(can_be_printed(alloc, prefixes, e.get())? && is_direct(&child))
+            Ok(can_be_printed(alloc, prefixes, e.get())? && is_direct(prefixes, e.get()))
         }
     }
 }

@@ -10,37 +10,42 @@ ghost use Rattle.element_raws.specs.Direct.{front_token, attr_token};
 
 use expr_names::{call_type, no_text};
 use expr_terms::{Class, Token};
+use name_prefixes::NamePrefixes;
 use name_tokens::{
     bare_node_token, function_token, gives_name, name_token, node_token, test_token, type_token,
 };
 use std::alloc::{AllocError, Global};
 use xt_names::{AtomType, ExprName, Name};
-use xt_syntax::Prefixes;
 use xt_types::{Axis, NameTest};
 
 /// Whether some token means the name of a variable or an option.
 /// (XPath 2.0, 3.1.2)
-pub fn has_name(alloc: Global, prefixes: &Prefixes, name: &ExprName) -> Result<bool, AllocError>
+pub fn has_name(alloc: Global, prefixes: &NamePrefixes, name: &ExprName) -> Result<bool, AllocError>
     ensures { IfOk result (λ has. has ≡ is_some (name_token prefixes.now.bound [] name.now)) }
 {
-    let token = name_token(alloc, &prefixes.bound, name)?;
+    let token = name_token(alloc, prefixes, name)?;
     Ok(token.is_some())
 }
 
 /// Whether some token means the name of a function.
 /// (XPath 2.0, 3.1.5; XQuery 1.0, A.3)
-pub fn has_function(alloc: Global, prefixes: &Prefixes, name: &ExprName) -> Result<bool, AllocError>
+pub fn has_function(
+    alloc: Global,
+    prefixes: &NamePrefixes,
+    name: &ExprName,
+) -> Result<bool, AllocError>
     ensures { IfOk result (λ has. has ≡ is_some
         (function_token prefixes.now.bound prefixes.now.function_default name.now)) }
 {
-    let token = function_token(alloc, &prefixes.bound, &prefixes.function_default, name)?;
+    let plain = prefixes.plain();
+    let token = function_token(alloc, prefixes, &plain.function_default, name)?;
     Ok(token.is_some())
 }
 
 /// A function that a call may name: one of the name of an atomic type would be a cast.
 pub(crate) fn has_call(
     alloc: Global,
-    prefixes: &Prefixes,
+    prefixes: &NamePrefixes,
     name: &ExprName,
 ) -> Result<bool, AllocError>
     ensures { IfOk result (λ has. has ≡ (is_some
@@ -52,7 +57,7 @@ pub(crate) fn has_call(
 
 pub(crate) fn has_test(
     alloc: Global,
-    prefixes: &Prefixes,
+    prefixes: &NamePrefixes,
     class: Class,
     axis: Axis,
     test: &NameTest,
@@ -60,47 +65,50 @@ pub(crate) fn has_test(
     ensures { IfOk result (λ has. has ≡ is_some (test_token class prefixes.now.bound
         prefixes.now.element_default axis test.now)) }
 {
-    let default = &prefixes.element_default;
-    let token = test_token(alloc, class, &prefixes.bound, default, axis, test)?;
+    let plain = prefixes.plain();
+    let default = &plain.element_default;
+    let token = test_token(alloc, class, prefixes, default, axis, test)?;
     Ok(token.is_some())
 }
 
 pub(crate) fn has_type(
     alloc: Global,
-    prefixes: &Prefixes,
+    prefixes: &NamePrefixes,
     kind: AtomType,
 ) -> Result<bool, AllocError>
     ensures { IfOk result (λ has. has ≡ is_some (type_token prefixes.now.bound kind)) }
 {
-    let token = type_token(alloc, &prefixes.bound, kind)?;
+    let token = type_token(alloc, prefixes, kind)?;
     Ok(token.is_some())
 }
 
 /// The name of an element, which has the default uri without a prefix.
 pub(crate) fn has_element_name(
     alloc: Global,
-    prefixes: &Prefixes,
+    prefixes: &NamePrefixes,
     name: &Name,
 ) -> Result<bool, AllocError>
     ensures { IfOk result (λ has. has ≡ is_some (node_token class_of.Name prefixes.now.bound
         prefixes.now.element_default name.now)) }
 {
-    let default = &prefixes.element_default;
-    let token = node_token(alloc, Class::Name, &prefixes.bound, default, name)?;
+    let plain = prefixes.plain();
+    let default = &plain.element_default;
+    let token = node_token(alloc, Class::Name, &plain.bound, default, name)?;
     Ok(token.is_some())
 }
 
 /// The name of an attribute or a processing instruction, of the class.
 pub(crate) fn has_bare_name(
     alloc: Global,
-    prefixes: &Prefixes,
+    prefixes: &NamePrefixes,
     class: Class,
     name: &Name,
 ) -> Result<bool, AllocError>
     ensures { IfOk result (λ has. has ≡ is_some
         (node_token class prefixes.now.bound [] name.now)) }
 {
-    let token = bare_node_token(alloc, class, &prefixes.bound, name)?;
+    let plain = prefixes.plain();
+    let token = bare_node_token(alloc, class, &plain.bound, name)?;
     Ok(token.is_some())
 }
 
@@ -108,7 +116,7 @@ pub(crate) fn has_bare_name(
 #[tactic(auto, using(crate::proofs::TokenLemmas::tokens))]
 pub(crate) fn has_place(
     alloc: Global,
-    prefixes: &Prefixes,
+    prefixes: &NamePrefixes,
     place: &Option<ExprName>,
 ) -> Result<bool, AllocError>
     ensures { IfOk result (λ has. has ≡ may (placing prefixes.now place.now)) }
@@ -120,24 +128,23 @@ pub(crate) fn has_place(
 }
 
 /// The name of a direct element, with its own prefix.
-pub(crate) fn has_front(alloc: Global, prefixes: &Prefixes, name: &Name) -> Result<bool, AllocError>
+pub(crate) fn has_front(
+    alloc: Global,
+    prefixes: &NamePrefixes,
+    name: &Name,
+) -> Result<bool, AllocError>
     ensures { IfOk result (λ has. has ≡ gives_name prefixes.now.bound
         prefixes.now.element_default name.now (front_token name.now)) }
 {
     let token = Token::Outer(name.prefix.copy()?, name.local.copy()?);
-    gives_name(
-        alloc,
-        &prefixes.bound,
-        &prefixes.element_default,
-        name,
-        &token,
-    )
+    let plain = prefixes.plain();
+    gives_name(alloc, &plain.bound, &plain.element_default, name, &token)
 }
 
 /// The name of an attribute of a direct element, with its own prefix.
 pub(crate) fn has_attribute(
     alloc: Global,
-    prefixes: &Prefixes,
+    prefixes: &NamePrefixes,
     name: &Name,
 ) -> Result<bool, AllocError>
     ensures { IfOk result (λ has. has ≡ gives_name prefixes.now.bound [] name.now
@@ -145,5 +152,6 @@ pub(crate) fn has_attribute(
 {
     let none = no_text(alloc)?;
     let token = Token::Attribute(name.prefix.copy()?, name.local.copy()?);
-    gives_name(alloc, &prefixes.bound, &none, name, &token)
+    let plain = prefixes.plain();
+    gives_name(alloc, &plain.bound, &none, name, &token)
 }

@@ -9,8 +9,8 @@ ghost use Rattle.expr_raws.specs.Raws.{form_of};
 ghost use Rattle.expr_places.specs.Forms.{part_form};
 ghost use Rattle.printable_forms.specs.Roots.{is_if, is_direct};
 
-use expr_places::Operand;
-use xt_syntax::{Arm, Bind, Clause, Expr, Order, Part, Prefixes};
+use name_prefixes::NamePrefixes;
+use xt_syntax::{Arm, Bind, Clause, Expr, Order, Part};
 
 fn has_if(e: &Expr) -> bool
     ensures { result ≡ is_if e.now }
@@ -18,12 +18,12 @@ fn has_if(e: &Expr) -> bool
     matches!(e, Expr::If(_, _))
 }
 
-/// Whether it would go on with the chain of a conditional that it ends.
-pub(crate) fn is_if(last: &Operand<'_>) -> bool
+/// Whether it would go on with the chain of a conditional that it ends, under any prefixes.
+pub(crate) fn is_if(_prefixes: &NamePrefixes, last: &Expr) -> bool
     ensures { result ≡ is_some (as_inner_chain (out-Raw (at single
-        (form_of last.now.prefixes.now last.now.e.now)))) }
+        (form_of _prefixes.now last.now)))) }
 {
-    has_if(last.e)
+    has_if(last)
 }
 
 fn has_direct(e: &Expr) -> bool
@@ -32,16 +32,15 @@ fn has_direct(e: &Expr) -> bool
     matches!(e, Expr::Direct(_, _, _))
 }
 
-/// Whether it is a direct element.
-pub(crate) fn is_direct(child: &Operand<'_>) -> bool
-    ensures { result ≡ is_element
-        (out-Raw (form_of child.now.prefixes.now child.now.e.now).raw) }
+/// Whether it is a direct element, under any prefixes.
+pub(crate) fn is_direct(_prefixes: &NamePrefixes, child: &Expr) -> bool
+    ensures { result ≡ is_element (out-Raw (form_of _prefixes.now child.now).raw) }
 {
-    has_direct(child.e)
+    has_direct(child)
 }
 
 /// Whether it is characters, under any prefixes.
-pub(crate) fn is_characters(_prefixes: &Prefixes, part: &Part) -> bool
+pub(crate) fn is_characters(_prefixes: &NamePrefixes, part: &Part) -> bool
     ensures { result ≡ is_characters (part_form _prefixes.now part.now) }
 {
     matches!(part, Part::Chars(_))

@@ -6,15 +6,15 @@ ghost use Rattle.control_raws.specs.Bindings.{typing, may};
 
 use crate::names::{has_test, has_type};
 use expr_terms::Class;
+use name_prefixes::NamePrefixes;
 use std::alloc::{AllocError, Global};
-use xt_syntax::Prefixes;
 use xt_types::{Axis, ItemType, SeqType, Test};
 
 /// A node test on the axis.
 #[tactic(auto, using(crate::proofs::TokenLemmas::tokens))]
 pub(crate) fn has_node_test(
     alloc: Global,
-    prefixes: &Prefixes,
+    prefixes: &NamePrefixes,
     axis: Axis,
     test: &Test,
 ) -> Result<bool, AllocError>
@@ -31,7 +31,7 @@ pub(crate) fn has_node_test(
 }
 
 /// A kind test alone.
-fn has_kind_test(alloc: Global, prefixes: &Prefixes, test: &Test) -> Result<bool, AllocError>
+fn has_kind_test(alloc: Global, prefixes: &NamePrefixes, test: &Test) -> Result<bool, AllocError>
     ensures { IfOk result (λ can. can ≡ (kind_form prefixes.now test.now).can) }
 {
     match test {
@@ -41,7 +41,7 @@ fn has_kind_test(alloc: Global, prefixes: &Prefixes, test: &Test) -> Result<bool
 }
 
 #[tactic(auto, using(crate::proofs::TokenLemmas::tokens))]
-fn has_item(alloc: Global, prefixes: &Prefixes, item: &ItemType) -> Result<bool, AllocError>
+fn has_item(alloc: Global, prefixes: &NamePrefixes, item: &ItemType) -> Result<bool, AllocError>
     ensures { IfOk result (λ can. can ≡ (item_form prefixes.now item.now).can) }
 {
     match item {
@@ -54,7 +54,7 @@ fn has_item(alloc: Global, prefixes: &Prefixes, item: &ItemType) -> Result<bool,
 /// A sequence type.
 pub(crate) fn has_sequence_type(
     alloc: Global,
-    prefixes: &Prefixes,
+    prefixes: &NamePrefixes,
     kind: &SeqType,
 ) -> Result<bool, AllocError>
     ensures { IfOk result (λ can. can ≡ (sequence_form prefixes.now kind.now).can) }
@@ -69,7 +69,7 @@ pub(crate) fn has_sequence_type(
 /// (XPath 2.0, 2.5.3; XQuery 1.0, 4.14 and 4.15)
 pub fn has_kind(
     alloc: Global,
-    prefixes: &Prefixes,
+    prefixes: &NamePrefixes,
     kind: &Option<SeqType>,
 ) -> Result<bool, AllocError>
     ensures { IfOk result (λ can. can ≡ may (typing prefixes.now kind.now)) }

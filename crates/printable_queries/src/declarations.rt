@@ -5,14 +5,15 @@ ghost use Rattle.query_raws.specs.Declarations.{variable, function};
 ghost use Rattle.query_raws.specs.Queries.{all_can};
 
 use kept_rules::keeps_rules;
+use name_prefixes::NamePrefixes;
 use printable_forms::{can_be_printed, has_function, has_kind, has_name};
 use std::alloc::{AllocError, Global};
 use xt_names::ExprName;
-use xt_syntax::{Expr, Prefixes, QueryFunction, QueryParam, QueryVar};
+use xt_syntax::{Expr, QueryFunction, QueryParam, QueryVar};
 use xt_types::SeqType;
 
 /// An expression that can be printed and breaks no rule.
-pub(crate) fn is_clean(alloc: Global, prefixes: &Prefixes, e: &Expr) -> Result<bool, AllocError>
+pub(crate) fn is_clean(alloc: Global, prefixes: &NamePrefixes, e: &Expr) -> Result<bool, AllocError>
     ensures { IfOk result (λ clean. clean ≡ is_clean prefixes.now e.now) }
 {
     Ok(can_be_printed(alloc, prefixes, e)? && keeps_rules(alloc, e)?)
@@ -21,7 +22,7 @@ pub(crate) fn is_clean(alloc: Global, prefixes: &Prefixes, e: &Expr) -> Result<b
 /// `$v as T`.
 fn can_typed(
     alloc: Global,
-    prefixes: &Prefixes,
+    prefixes: &NamePrefixes,
     name: &ExprName,
     kind: &Option<SeqType>,
 ) -> Result<bool, AllocError>
@@ -30,7 +31,11 @@ fn can_typed(
     Ok(has_name(alloc, prefixes, name)? && has_kind(alloc, prefixes, kind)?)
 }
 
-fn can_value(alloc: Global, prefixes: &Prefixes, value: &Option<Expr>) -> Result<bool, AllocError>
+fn can_value(
+    alloc: Global,
+    prefixes: &NamePrefixes,
+    value: &Option<Expr>,
+) -> Result<bool, AllocError>
     ensures { IfOk result (λ can. can ≡ value_can prefixes.now value.now) }
 {
     match value {
@@ -40,7 +45,11 @@ fn can_value(alloc: Global, prefixes: &Prefixes, value: &Option<Expr>) -> Result
 }
 
 /// `declare variable $v as T := a`.
-fn can_variable(alloc: Global, prefixes: &Prefixes, declared: &QueryVar) -> Result<bool, AllocError>
+fn can_variable(
+    alloc: Global,
+    prefixes: &NamePrefixes,
+    declared: &QueryVar,
+) -> Result<bool, AllocError>
     ensures { IfOk result (λ can. can ≡ (variable prefixes.now declared.now).can) }
 {
     Ok(
@@ -51,7 +60,7 @@ fn can_variable(alloc: Global, prefixes: &Prefixes, declared: &QueryVar) -> Resu
 
 pub(crate) fn can_variables(
     alloc: Global,
-    prefixes: &Prefixes,
+    prefixes: &NamePrefixes,
     variables: &[QueryVar],
 ) -> Result<bool, AllocError>
     ensures { IfOk result (λ can. can
@@ -65,7 +74,11 @@ pub(crate) fn can_variables(
     Ok(true)
 }
 
-fn can_params(alloc: Global, prefixes: &Prefixes, params: &[QueryParam]) -> Result<bool, AllocError>
+fn can_params(
+    alloc: Global,
+    prefixes: &NamePrefixes,
+    params: &[QueryParam],
+) -> Result<bool, AllocError>
     ensures { IfOk result (λ can. can ≡ params_can prefixes.now params.now) }
 {
     for param in params {
@@ -79,7 +92,7 @@ fn can_params(alloc: Global, prefixes: &Prefixes, params: &[QueryParam]) -> Resu
 /// `declare function f($a as T, ..) as T { a }`.
 fn can_function(
     alloc: Global,
-    prefixes: &Prefixes,
+    prefixes: &NamePrefixes,
     declared: &QueryFunction,
 ) -> Result<bool, AllocError>
     ensures { IfOk result (λ can. can ≡ (function prefixes.now declared.now).can) }
@@ -94,7 +107,7 @@ fn can_function(
 
 pub(crate) fn can_functions(
     alloc: Global,
-    prefixes: &Prefixes,
+    prefixes: &NamePrefixes,
     functions: &[QueryFunction],
 ) -> Result<bool, AllocError>
     ensures { IfOk result (λ can. can

@@ -3,17 +3,18 @@ ghost use Rattle.std.specs.Prelude.{◌≡◌, [], map, is_some, IfOk, IsTrue, n
 ghost use Rattle.std.specs.List.{list_all};
 ghost use Rattle.path_raws.specs.Names.{name_token};
 ghost use Rattle.query_raws.specs.Prologs.{namespace, option_name, space_option, omit_option};
+ghost use Rattle.query_raws.specs.Prologs.{means_rules};
 ghost use Rattle.query_raws.specs.Queries.{all_can};
 
 use crate::rules::means_rules;
 use expr_meant::written_in;
 use expr_terms::fits_word;
+use name_prefixes::NamePrefixes;
 use name_tokens::word_term;
 use printable_forms::has_name;
 use prolog_drafts::rules_text;
 use std::alloc::{AllocError, Global};
 use xt_names::{Binding, ExprName, Text};
-use xt_syntax::Prefixes;
 use xt_types::SpaceRule;
 
 /// `declare namespace p = "u"`, where the prefix is a word.
@@ -46,7 +47,7 @@ fn ascii_text(alloc: Global, text: &str) -> Result<Text, AllocError>
 }
 
 /// Whether some token means the name of an option that has an effect.
-fn has_option(alloc: Global, prefixes: &Prefixes, local: &str) -> Result<bool, AllocError>
+fn has_option(alloc: Global, prefixes: &NamePrefixes, local: &str) -> Result<bool, AllocError>
     requires { IsTrue (list_all (λ b. nat_lt b 128) local.now) }
     ensures { IfOk result (λ has. has
         ≡ is_some (name_token prefixes.now.bound [] (option_name local.now))) }
@@ -58,12 +59,26 @@ fn has_option(alloc: Global, prefixes: &Prefixes, local: &str) -> Result<bool, A
     Ok(has)
 }
 
+/// Whether the text, read under the prefixes, breaks no rule and means these.
+fn are_read_back(
+    alloc: Global,
+    prefixes: &NamePrefixes,
+    text: &Text,
+    rules: &[SpaceRule],
+) -> Result<bool, AllocError>
+    ensures { IfOk result (λ means. means ≡ means_rules prefixes.now.bound text.now rules.now) }
+{
+    let plain = prefixes.plain();
+    let means = means_rules(alloc, &plain.bound, text, rules)?;
+    Ok(means)
+}
+
 /// The option `space`, where there are rules: its text means just these.
 /// (XQuery 1.0, 4.16)
 #[tactic(auto, using(crate::proofs::CodeLemmas::alone))]
 pub(crate) fn can_space(
     alloc: Global,
-    prefixes: &Prefixes,
+    prefixes: &NamePrefixes,
     rules: &[SpaceRule],
 ) -> Result<bool, AllocError>
     ensures { IfOk result (λ can. can ≡ all_can (space_option prefixes.now rules.now)) }
@@ -74,7 +89,7 @@ pub(crate) fn can_space(
             let text = rules_text(alloc, prefixes, rules)?;
             Ok(
                 has_option(alloc, prefixes, "space")?
-                    && means_rules(alloc, &prefixes.bound, &text, rules)?,
+                    && are_read_back(alloc, prefixes, &text, rules)?,
             )
         }
     }
@@ -83,7 +98,11 @@ pub(crate) fn can_space(
 /// The option `declaration`, where the declaration is left out.
 /// (XQuery 1.0, 4.16)
 #[tactic(auto, using(crate::proofs::CodeLemmas::alone))]
-pub(crate) fn can_omit(alloc: Global, prefixes: &Prefixes, omit: bool) -> Result<bool, AllocError>
+pub(crate) fn can_omit(
+    alloc: Global,
+    prefixes: &NamePrefixes,
+    omit: bool,
+) -> Result<bool, AllocError>
     ensures { IfOk result (λ can. can ≡ all_can (omit_option prefixes.now omit)) }
 {
     if omit {

@@ -4,11 +4,12 @@ ghost use Rattle.prolog_rules.specs.declared.setters.Setter.TheVariants as sette
 ghost use Rattle.query_raws.specs.Queries.{prefixes_of};
 ghost use Rattle.printed_queries.specs.Keeps.{has_own_prefixes};
 
+use name_prefixes::NamePrefixes;
 use prolog_rules::{Setter, broken_setter};
 use query_prologs::prefixes_of;
 use std::alloc::{AllocError, Global};
 use xt_names::{Binding, List};
-use xt_syntax::{Prefixes, Query};
+use xt_syntax::Query;
 
 /// The namespaces as setters.
 fn setters_of(alloc: Global, bindings: &[Binding]) -> Result<List<Setter>, AllocError>
@@ -24,11 +25,12 @@ fn setters_of(alloc: Global, bindings: &[Binding]) -> Result<List<Setter>, Alloc
 /// How names are resolved in the query as it is printed: by its namespaces alone.
 /// (XQuery 1.0, 4.12)
 #[tactic(auto, using(crate::proofs::PrefixLemmas::namespaces_alone))]
-pub fn prefixes_in(alloc: Global, query: &Query) -> Result<Prefixes, AllocError>
+pub fn prefixes_in(alloc: Global, query: &Query) -> Result<NamePrefixes, AllocError>
     ensures { IfOk result (λ prefixes. prefixes ≡ prefixes_of query.now) }
 {
     let setters = setters_of(alloc, query.prefixes.as_slice())?;
-    prefixes_of(alloc, setters.as_slice())
+    let prefixes = prefixes_of(alloc, setters.as_slice())?;
+    NamePrefixes::new(alloc, &prefixes)
 }
 
 /// Whether no prefix stands twice, and none is xml or xmlns or has the uri of one.

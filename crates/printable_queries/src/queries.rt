@@ -7,8 +7,9 @@ use crate::declarations::{can_functions, can_variables, is_clean};
 use crate::declared::keeps_declarations;
 use crate::options::{can_namespaces, can_omit, can_space};
 use crate::prefixes::has_own_prefixes;
+use name_prefixes::NamePrefixes;
 use std::alloc::{AllocError, Global};
-use xt_syntax::{Prefixes, Query};
+use xt_syntax::Query;
 
 /// Each of six.
 fn are_all(a: bool, b: bool, c: bool, d: bool, e: bool, f: bool) -> bool
@@ -17,7 +18,7 @@ fn are_all(a: bool, b: bool, c: bool, d: bool, e: bool, f: bool) -> bool
     a && (b && (c && (d && (e && f))))
 }
 
-fn can_print(alloc: Global, prefixes: &Prefixes, query: &Query) -> Result<bool, AllocError>
+fn can_print(alloc: Global, prefixes: &NamePrefixes, query: &Query) -> Result<bool, AllocError>
     requires { prefixes.now ≡ prefixes_of query.now }
     ensures { IfOk result (λ can. can ≡ can_print query.now) }
 {
@@ -33,7 +34,7 @@ fn can_print(alloc: Global, prefixes: &Prefixes, query: &Query) -> Result<bool, 
 /// Whether the query has a way to be written and breaks no rule, under the prefixes that it is
 /// written with.
 /// (XQuery 1.0, 2.2.4 and 4)
-pub fn is_kept(alloc: Global, prefixes: &Prefixes, query: &Query) -> Result<bool, AllocError>
+pub fn is_kept(alloc: Global, prefixes: &NamePrefixes, query: &Query) -> Result<bool, AllocError>
     requires { prefixes.now ≡ prefixes_of query.now }
     ensures { IfOk result (λ kept. kept ≡ is_kept query.now) }
 {

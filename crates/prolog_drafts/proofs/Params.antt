@@ -1,6 +1,6 @@
 -- Parameters, and rules of white space, one more of them.
 use Rattle.std.proofs.Common.{◌≡◌, ◌<◌, ◌≤◌, ℕ, ◌+◌, ◌-◌, List, [], ◌∷◌, ◌++◌, length, drop, get_or}
-use Rattle.std.proofs.Common.{refl, sym, ap, subst, ◌∙◌, append_assoc, arith, length-drop}
+use Rattle.std.proofs.Common.{refl, sym, ap, ◌∙◌, append_assoc, arith, length-drop}
 use Rattle.xt_names.proofs.ListLemmas.{drop_at}
 use Rattle.xt_types.specs.declared.node_tests.SpaceRule.{SpaceRule}
 use Rattle.xt_syntax.specs.declared.prefixes.Prefixes.{Prefixes}

@@ -1,5 +1,6 @@
 // Variables and functions on a draft.
-ghost use Rattle.std.specs.Prelude.{◌≡◌, ◌∷◌, [], ◌++◌, ◌<◌, ◌≤◌, ◌+◌, true, map, codes, IfOk, OnOk};
+ghost use Rattle.std.specs.Prelude.{◌≡◌, ◌∷◌, [], ◌++◌, ◌<◌, ◌≤◌, ◌+◌, true, map, codes};
+ghost use Rattle.std.specs.Prelude.{IfOk, OnOk};
 ghost use Rattle.expr_terms.specs.declared.keys.Key.TheVariants as key_of;
 ghost use Rattle.expr_terms.specs.declared.tokens.Token.TheVariants as token_of;
 ghost use Rattle.control_raws.specs.Bindings.{typing, typing_tokens, may};
@@ -13,32 +14,38 @@ use expr_drafts::{Draft, Spot, push_comma};
 use expr_places::SINGLE;
 use expr_terms::{Key, Token};
 use leaf_pages::push_typing;
+use name_prefixes::NamePrefixes;
 use name_tokens::{function_token, name_token};
 use query_pages::Gap;
 use std::alloc::{AllocError, Global};
 use xt_names::ExprName;
-use xt_syntax::{Expr, Prefixes, QueryFunction, QueryParam, QueryVar};
+use xt_syntax::{Expr, QueryFunction, QueryParam, QueryVar};
 use xt_types::SeqType;
 
 /// The token of a variable or a parameter.
-fn variable_token(alloc: Global, prefixes: &Prefixes, name: &ExprName) -> Result<Token, AllocError>
+fn variable_token(
+    alloc: Global,
+    prefixes: &NamePrefixes,
+    name: &ExprName,
+) -> Result<Token, AllocError>
     ensures { IfOk result (λ token. token ≡ variable_token prefixes.now name.now) }
 {
-    Ok(token_or(name_token(alloc, &prefixes.bound, name)?))
+    Ok(token_or(name_token(alloc, prefixes, name)?))
 }
 
-fn named_by(alloc: Global, prefixes: &Prefixes, name: &ExprName) -> Result<Token, AllocError>
+fn named_by(alloc: Global, prefixes: &NamePrefixes, name: &ExprName) -> Result<Token, AllocError>
     ensures { IfOk result (λ token. token ≡ named_by prefixes.now name.now) }
 {
-    let default = &prefixes.function_default;
-    Ok(token_or(function_token(alloc, &prefixes.bound, default, name)?))
+    let plain = prefixes.plain();
+    let default = &plain.function_default;
+    Ok(token_or(function_token(alloc, prefixes, default, name)?))
 }
 
 /// `$v as T`.
 fn push_typed(
     alloc: Global,
     draft: &mut Draft<'_>,
-    prefixes: &Prefixes,
+    prefixes: &NamePrefixes,
     name: &ExprName,
     kind: &Option<SeqType>,
 ) -> Result<(), AllocError>
@@ -55,7 +62,7 @@ fn push_typed(
 fn push_value<'a>(
     alloc: Global,
     draft: &mut Draft<'a>,
-    prefixes: &'a Prefixes,
+    prefixes: &'a NamePrefixes,
     value: &'a Option<Expr>,
 ) -> Result<(), AllocError>
     requires { value_can prefixes.now value.now ≡ true }
@@ -75,7 +82,7 @@ fn push_value<'a>(
 fn push_variable<'a>(
     alloc: Global,
     draft: &mut Draft<'a>,
-    prefixes: &'a Prefixes,
+    prefixes: &'a NamePrefixes,
     declared: &'a QueryVar,
 ) -> Result<(), AllocError>
     requires { (variable prefixes.now declared.now).can ≡ true }
@@ -94,7 +101,7 @@ fn push_variable<'a>(
 pub fn push_variables<'a>(
     alloc: Global,
     draft: &mut Draft<'a>,
-    prefixes: &'a Prefixes,
+    prefixes: &'a NamePrefixes,
     variables: &'a [QueryVar],
 ) -> Result<(), AllocError>
     requires { all_can (map (λ v. variable prefixes.now v) variables.now) ≡ true }
@@ -113,7 +120,7 @@ pub fn push_variables<'a>(
 fn push_params(
     alloc: Global,
     draft: &mut Draft<'_>,
-    prefixes: &Prefixes,
+    prefixes: &NamePrefixes,
     params: &[QueryParam],
 ) -> Result<(), AllocError>
     requires { params_can prefixes.now params.now ≡ true }
@@ -133,7 +140,7 @@ fn push_params(
 fn push_signature(
     alloc: Global,
     draft: &mut Draft<'_>,
-    prefixes: &Prefixes,
+    prefixes: &NamePrefixes,
     declared: &QueryFunction,
 ) -> Result<(), AllocError>
     requires params { params_can prefixes.now declared.now.params ≡ true }
@@ -153,7 +160,7 @@ fn push_signature(
 fn push_function<'a>(
     alloc: Global,
     draft: &mut Draft<'a>,
-    prefixes: &'a Prefixes,
+    prefixes: &'a NamePrefixes,
     declared: &'a QueryFunction,
 ) -> Result<(), AllocError>
     requires { (function prefixes.now declared.now).can ≡ true }
@@ -174,7 +181,7 @@ fn push_function<'a>(
 pub fn push_functions<'a>(
     alloc: Global,
     draft: &mut Draft<'a>,
-    prefixes: &'a Prefixes,
+    prefixes: &'a NamePrefixes,
     functions: &'a [QueryFunction],
 ) -> Result<(), AllocError>
     requires { all_can (map (λ f. function prefixes.now f) functions.now) ≡ true }

@@ -1,5 +1,6 @@
 // The text of the option `space`.
-ghost use Rattle.std.specs.Prelude.{◌≡◌, ◌<◌, ◌≤◌, ◌+◌, ◌∷◌, [], ◌++◌, codes, if◌then◌else◌, IfOk, OnOk};
+ghost use Rattle.std.specs.Prelude.{◌≡◌, ◌<◌, ◌≤◌, ◌+◌, ◌∷◌, [], ◌++◌, codes, if◌then◌else◌};
+ghost use Rattle.std.specs.Prelude.{IfOk, OnOk};
 ghost use Rattle.expr_terms.specs.declared.productions.Class.TheVariants as class_of;
 ghost use Rattle.xt_types.specs.declared.axes.Axis.TheVariants as axis_of;
 ghost use Rattle.path_raws.specs.Names.{test_token};
@@ -8,21 +9,21 @@ ghost use Rattle.query_raws.specs.Prologs.{token_or, rule_text, rules_text};
 use crate::words::{ascii_text, token_or};
 use expr_names::no_text;
 use expr_terms::{Class, Token};
+use name_prefixes::NamePrefixes;
 use name_tokens::test_token;
 use std::alloc::{AllocError, Global};
 use token_writer::push_token;
 use xt_names::{Text, TextBuilder};
-use xt_syntax::Prefixes;
 use xt_types::{Axis, NameTest, SpaceRule};
 
 /// The test as on an axis where a name without a prefix has no uri.
-fn rule_token(alloc: Global, prefixes: &Prefixes, test: &NameTest) -> Result<Token, AllocError>
+fn rule_token(alloc: Global, prefixes: &NamePrefixes, test: &NameTest) -> Result<Token, AllocError>
     ensures { IfOk result (λ token. token ≡ token_or
         (test_token class_of.NameTest prefixes.now.bound [] axis_of.Attribute test.now)) }
 {
     let none = no_text(alloc)?;
-    let bound = &prefixes.bound;
-    let token = test_token(alloc, Class::NameTest, bound, &none, Axis::Attribute, test)?;
+    let class = Class::NameTest;
+    let token = test_token(alloc, class, prefixes, &none, Axis::Attribute, test)?;
     Ok(token_or(token))
 }
 
@@ -44,7 +45,7 @@ fn push_mode(alloc: Global, out: &mut TextBuilder, strip: bool) -> Result<(), Al
 fn push_rule(
     alloc: Global,
     out: &mut TextBuilder,
-    prefixes: &Prefixes,
+    prefixes: &NamePrefixes,
     rule: &SpaceRule,
 ) -> Result<(), AllocError>
     ensures { OnOk result (out.new ≡ out.old ++ rule_text prefixes.now rule.now) }
@@ -68,7 +69,7 @@ fn push_gap(out: &mut TextBuilder, place: usize, count: usize) -> Result<(), All
 fn push_rules(
     alloc: Global,
     out: &mut TextBuilder,
-    prefixes: &Prefixes,
+    prefixes: &NamePrefixes,
     rules: &[SpaceRule],
 ) -> Result<(), AllocError>
     ensures { OnOk result (out.new ≡ out.old ++ rules_text prefixes.now rules.now) }
@@ -87,7 +88,7 @@ fn push_rules(
 /// (XQuery 1.0, 4.16)
 pub fn rules_text(
     alloc: Global,
-    prefixes: &Prefixes,
+    prefixes: &NamePrefixes,
     rules: &[SpaceRule],
 ) -> Result<Text, AllocError>
     ensures { IfOk result (λ text. text ≡ rules_text prefixes.now rules.now) }

@@ -12,11 +12,11 @@ use crate::rules::rules_text;
 use crate::words::{ascii_text, push_declare, push_quoted, push_word, token_or};
 use expr_drafts::Draft;
 use expr_terms::{Key, Token};
+use name_prefixes::NamePrefixes;
 use name_tokens::{name_token, word_term};
 use query_pages::Gap;
 use std::alloc::{AllocError, Global};
 use xt_names::{Binding, ExprName, Text};
-use xt_syntax::Prefixes;
 use xt_types::SpaceRule;
 
 /// `xquery version "1.0";`.
@@ -74,7 +74,7 @@ pub fn push_preserved(alloc: Global, draft: &mut Draft<'_>) -> Result<(), AllocE
 }
 
 /// The token of the name of an option.
-fn option_token(alloc: Global, prefixes: &Prefixes, local: &str) -> Result<Token, AllocError>
+fn option_token(alloc: Global, prefixes: &NamePrefixes, local: &str) -> Result<Token, AllocError>
     requires { IsTrue (list_all (λ b. nat_lt b 128) local.now) }
     ensures { IfOk result (λ token. token
         ≡ token_or (name_token prefixes.now.bound [] (option_name local.now))) }
@@ -82,7 +82,7 @@ fn option_token(alloc: Global, prefixes: &Prefixes, local: &str) -> Result<Token
     let uri = ascii_text(alloc, "urn:xslt2xq")?;
     let local = ascii_text(alloc, local)?;
     let name = ExprName { uri, local };
-    let token = name_token(alloc, &prefixes.bound, &name)?;
+    let token = name_token(alloc, prefixes, &name)?;
     Ok(token_or(token))
 }
 
@@ -90,7 +90,7 @@ fn option_token(alloc: Global, prefixes: &Prefixes, local: &str) -> Result<Token
 fn push_option(
     alloc: Global,
     draft: &mut Draft<'_>,
-    prefixes: &Prefixes,
+    prefixes: &NamePrefixes,
     local: &str,
     text: &Text,
 ) -> Result<(), AllocError>
@@ -111,7 +111,7 @@ fn push_option(
 pub fn push_space(
     alloc: Global,
     draft: &mut Draft<'_>,
-    prefixes: &Prefixes,
+    prefixes: &NamePrefixes,
     rules: &[SpaceRule],
 ) -> Result<(), AllocError>
     ensures { OnOk result (draft.new
@@ -131,7 +131,7 @@ pub fn push_space(
 pub fn push_omit(
     alloc: Global,
     draft: &mut Draft<'_>,
-    prefixes: &Prefixes,
+    prefixes: &NamePrefixes,
     omit: bool,
 ) -> Result<(), AllocError>
     ensures { OnOk result (draft.new

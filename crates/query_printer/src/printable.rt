@@ -7,15 +7,16 @@ ghost use Rattle.query_printer.specs.Printable.{is_printable};
 use crate::fitness::are_fit;
 use crate::printing::page_of;
 use closed_queries::query_closed;
+use name_prefixes::NamePrefixes;
 use printable_queries::{is_kept, nests_within, prefixes_in};
 use std::alloc::{AllocError, Global};
-use xt_syntax::{Prefixes, Query};
+use xt_syntax::Query;
 
 /// How deep a query nests at most that is printed.
 const DEEPEST: u32 = 400;
 
 /// Whether the texts of the tokens can be written.
-fn has_fit_tokens(alloc: Global, prefixes: &Prefixes, query: &Query) -> Result<bool, AllocError>
+fn has_fit_tokens(alloc: Global, prefixes: &NamePrefixes, query: &Query) -> Result<bool, AllocError>
     requires same { prefixes.now ≡ prefixes_of query.now }
     requires can { can_print query.now ≡ true }
     ensures { IfOk result (λ fit. fit ≡ are_fit (query_tokens query.now)) }

@@ -9,6 +9,7 @@ ghost use Rattle.query_printer.specs.Printable.{is_printable, deepest};
 
 use expr_drafts::{Draft, Spot};
 use expr_pages::{expr_page, settled};
+use name_prefixes::NamePrefixes;
 use printable_queries::prefixes_in;
 use prolog_drafts::{
     push_functions, push_namespaces, push_omit, push_preserved, push_space, push_variables,
@@ -23,7 +24,7 @@ use xt_syntax::{Expr, Prefixes, Query};
 fn push_late<'a>(
     alloc: Global,
     draft: &mut Draft<'a>,
-    prefixes: &'a Prefixes,
+    prefixes: &'a NamePrefixes,
     query: &'a Query,
 ) -> Result<(), AllocError>
     requires same { prefixes.now ≡ prefixes_of query.now }
@@ -41,7 +42,7 @@ fn push_late<'a>(
 fn push_query<'a>(
     alloc: Global,
     draft: &mut Draft<'a>,
-    prefixes: &'a Prefixes,
+    prefixes: &'a NamePrefixes,
     query: &'a Query,
 ) -> Result<(), AllocError>
     requires same { prefixes.now ≡ prefixes_of query.now }
@@ -60,7 +61,7 @@ fn push_query<'a>(
 /// The page of the tokens of the query.
 pub(crate) fn page_of<'a>(
     alloc: Global,
-    prefixes: &'a Prefixes,
+    prefixes: &'a NamePrefixes,
     query: &'a Query,
 ) -> Result<Page, AllocError>
     requires same { prefixes.now ≡ prefixes_of query.now }
@@ -90,6 +91,7 @@ pub fn print(alloc: Global, query: &Query) -> Result<Text, AllocError>
 pub fn print_expr(alloc: Global, prefixes: &Prefixes, e: &Expr) -> Result<Text, AllocError>
     ensures { IfOk result (λ text. IsTextOf (tokens_of prefixes.now e.now) text) }
 {
-    let page = expr_page(alloc, prefixes, Spot::behind_space(0), e)?;
+    let prefixes = NamePrefixes::new(alloc, prefixes)?;
+    let page = expr_page(alloc, &prefixes, Spot::behind_space(0), e)?;
     page.text(alloc)
 }

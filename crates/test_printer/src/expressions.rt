@@ -5,7 +5,7 @@ use query_prologs::prefixes_of;
 use std::alloc::AllocGlobal;
 use std::process::Abort;
 use xquery_syntax::parse_query;
-use xt_names::{List, Text};
+use xt_names::{Binding, List, Text};
 use xt_syntax::Prefixes;
 
 // how names are resolved where none are declared
@@ -38,6 +38,47 @@ fn is_printed(rt: &(impl Abort + AllocGlobal), text: &str, expected: &str) -> bo
     drop(twice);
     drop(prefixes);
     same
+}
+
+// how names are resolved where two prefixes are bound to one uri, and one prefix to two uris
+fn shared_uris(rt: &(impl Abort + AllocGlobal)) -> Prefixes {
+    let mut setters = List::new(rt.alloc());
+    for (prefix, uri) in [
+        ("p", "urn:1"),
+        ("p", "urn:2"),
+        ("q", "urn:2"),
+        ("r", "urn:2"),
+    ] {
+        let binding = Binding {
+            prefix: Text::make(rt.alloc(), prefix).expect(rt, "memory"),
+            uri: Text::make(rt.alloc(), uri).expect(rt, "memory"),
+        };
+        setters
+            .push(Setter::Namespace(binding))
+            .expect(rt, "memory");
+    }
+    let prefixes = prefixes_of(rt.alloc(), setters.as_slice()).expect(rt, "memory");
+    drop(setters);
+    prefixes
+}
+
+// the first prefix is taken that has the uri
+#[test]
+fn shared_prefixes(rt: HostRuntime) {
+    let prefixes = shared_uris(&rt);
+    let cases = [
+        ("declare namespace z = 'urn:1'; z:a", "child :: p:a"),
+        (
+            "declare namespace z = 'urn:2'; z:a, z:*, @z:a",
+            "child :: q:a , child :: q:* , attribute :: q:a",
+        ),
+    ];
+    for (text, expected) in cases {
+        let out = printed(&rt, &prefixes, text);
+        assert!(rt; out.as_str() == expected);
+        drop(out);
+    }
+    drop(prefixes);
 }
 
 #[test]

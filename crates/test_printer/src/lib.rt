@@ -6,6 +6,8 @@
 #![tactic(auto)]
 
 #[cfg(test)]
+mod again;
+#[cfg(test)]
 mod expressions;
 #[cfg(test)]
 mod large;
@@ -13,5 +15,7 @@ mod large;
 mod made;
 #[cfg(test)]
 mod queries;
+#[cfg(test)]
+mod same;
 #[cfg(test)]
 mod texts;

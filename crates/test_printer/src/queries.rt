@@ -170,6 +170,114 @@ fn constructors(rt: HostRuntime) {
     }
 }
 
+// signs, names with a hyphen, the root, and `<` before a name
+#[test]
+fn signs_and_names(rt: HostRuntime) {
+    let cases = [
+        ("a -1", "child :: a - 1"),
+        ("a-1", "child :: a-1"),
+        ("--1", "- - 1"),
+        ("1--1", "1 - - 1"),
+        ("1 - (- 1)", "1 - - 1"),
+        ("1 - (2 + 3)", "1 - ( 2 + 3 )"),
+        ("(1 - 2) * 3", "( 1 - 2 ) * 3"),
+        ("2 * (3 * 4)", "2 * ( 3 * 4 )"),
+        ("-(1 * 2)", "- ( 1 * 2 )"),
+        ("(-1) * 2", "- 1 * 2"),
+        ("(/) * 2", "( / ) * 2"),
+        ("/ + 2", "( / ) + 2"),
+        ("/ < a", "( / ) < child :: a"),
+        ("/ * * 2", "/ child :: * * 2"),
+        ("1 <a", "1 < child :: a"),
+        ("a<b", "child :: a < child :: b"),
+        ("a[1 <b]", "child :: a [ 1 < child :: b ]"),
+        ("* * *", "child :: * * child :: *"),
+        ("1 to (2 to 3)", "1 to ( 2 to 3 )"),
+        ("(1 to 2) = 3", "1 to 2 = 3"),
+        (
+            "(1 cast as xs:integer) cast as xs:string",
+            "( 1 cast as xs:integer ) cast as xs:string",
+        ),
+        ("(1, 2)[(3, 4)]", "( 1 , 2 ) [ 3 , 4 ]"),
+        ("1, (2, 3), ()", "1 , ( 2 , 3 ) , ( )"),
+        (
+            "count((1, 2)), (count(3))",
+            "count ( ( 1 , 2 ) ) , count ( 3 )",
+        ),
+    ];
+    for (text, expected) in cases {
+        assert!(rt; is_printed(&rt, text, HEAD, expected), "{text}");
+    }
+}
+
+#[test]
+fn axes_and_kinds(rt: HostRuntime) {
+    let cases = [
+        (
+            "ancestor::a, ancestor-or-self::a",
+            "ancestor :: a , ancestor-or-self :: a",
+        ),
+        (
+            "descendant::a, following::a",
+            "descendant :: a , following :: a",
+        ),
+        (
+            "following-sibling::a, preceding::a",
+            "following-sibling :: a , preceding :: a",
+        ),
+        (
+            "preceding-sibling::a, self::a",
+            "preceding-sibling :: a , self :: a",
+        ),
+        ("@*, @*:a", "attribute :: * , attribute :: *:a"),
+        ("comment()", "child :: comment ( )"),
+        (
+            "processing-instruction()",
+            "child :: processing-instruction ( )",
+        ),
+        ("document-node()", "child :: document-node ( )"),
+        ("element(a)", "child :: element ( a )"),
+        ("attribute(a)", "attribute :: attribute ( a )"),
+        (". instance of item()*", ". instance of item ( ) *"),
+        (
+            ". instance of xs:QName, . instance of xs:untypedAtomic+",
+            ". instance of xs:QName , . instance of xs:untypedAtomic +",
+        ),
+        (
+            ". instance of xs:anyAtomicType?",
+            ". instance of xs:anyAtomicType ?",
+        ),
+    ];
+    for (text, expected) in cases {
+        assert!(rt; is_printed(&rt, text, HEAD, expected), "{text}");
+    }
+}
+
+#[test]
+fn quotes_and_braces(rt: HostRuntime) {
+    let cases = [
+        ("<a>{{x}}</a>", "<a>{{x}}</a>"),
+        ("<a b='{{x}}'/>", "<a b=\"{{x}}\"/>"),
+        ("<a b='\"'/>", "<a b=\"\"\"\"/>"),
+        ("<a>{\"}\"}</a>", "<a>{ \"}\" }</a>"),
+        ("'\"'", "\"\"\"\""),
+        ("<a b='{1}{2}c'/>", "<a b=\"{ 1 }{ 2 }c\"/>"),
+        ("<a b='{<c d=\"e\"/>}'/>", "<a b=\"{ <c d=\"e\"/> }\"/>"),
+        ("<a>x<b>y</b>z</a>", "<a>x<b>y</b>z</a>"),
+        ("1 < <a/>", "1 < <a/>"),
+        ("/<a/>", "/ <a/>"),
+        ("attribute {'a'} {1}", "attribute { \"a\" } {\n  1\n}"),
+        (
+            "processing-instruction {'a'} {}",
+            "processing-instruction { \"a\" } {\n  ( )\n}",
+        ),
+        ("attribute if {1}", "attribute if {\n  1\n}"),
+    ];
+    for (text, expected) in cases {
+        assert!(rt; is_printed(&rt, text, HEAD, expected), "{text}");
+    }
+}
+
 // quotes, marks, ends of lines, and characters past those of 16 bits
 #[test]
 fn characters(rt: HostRuntime) {

@@ -1,5 +1,16 @@
-use Rattle.std.proofs.Common.{◌∙◌}
+use Rattle.std.proofs.Common.{◌≡◌, ◌∷◌, subst, ◌∙◌}
+use Rattle.xt_syntax.specs.declared.prefixes.Prefixes.{Prefixes}
+use Rattle.expr_terms.specs.declared.tokens.Token.TheVariants as token
+use Rattle.path_raws.specs.Forms.{said}
+use Rattle.control_raws.specs.Operators.{arithmetic}
+use Rattle.expr_raws.specs.Raws.{form_of}
 use Rattle.operator_drafts.proofs.operators.push_arithmetic.Goals as goal
 
 pub returns : goal.returns
-returns c = c.in_ok-push_pair.ensures ∙ c.arithmetic.ensures c.args.b.now c.args.draft.now
+returns c =
+    let ts = c.args.draft.now in
+    c.in_ok-push_pair.ensures
+    ∙ subst (λ (p : Prefixes). said c.arithmetic-by.result.left (form_of p c.args.a.now)
+    (token.Key c.arithmetic-by.result.key ∷ said c.arithmetic-by.result.right (form_of p c.args.b.now) ts)
+    ≡ (arithmetic c.args.op (form_of p c.args.a.now) (form_of p c.args.b.now)).tokens ts)
+    c.plain.ensures (c.arithmetic-by.ensures c.args.b.now ts)

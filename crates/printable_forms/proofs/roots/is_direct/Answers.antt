@@ -4,4 +4,4 @@ use Rattle.printable_forms.proofs.roots.is_direct.Goals as goal
 
 pub returns : goal.returns
 returns c =
-    c.has_direct.ensures ∙ sym (element_is c.args.child.now.prefixes.now c.args.child.now.e.now)
+    c.has_direct.ensures ∙ sym (element_is c.args._prefixes.now c.args.child.now)

@@ -1,4 +1,4 @@
-use Rattle.std.proofs.Common.{◌≤◌, ◌<◌, ◌-◌, length, arith}
+use Rattle.std.proofs.Common.{◌<◌, ◌-◌, length, arith}
 use Rattle.xt_syntax.specs.declared.queries.QueryParam.{QueryParam}
 use Rattle.query_raws.specs.Declarations.{typed_can}
 use Rattle.prolog_drafts.proofs.CanLemmas.{all_at}

@@ -1,4 +1,4 @@
-use Rattle.std.proofs.Common.{◌≡◌, ◌≤◌, ◌++◌, length, drop, map}
+use Rattle.std.proofs.Common.{◌≡◌, ◌≤◌, ◌++◌, length, drop}
 use Rattle.query_raws.specs.Declarations.{params_tokens}
 use Rattle.prolog_drafts.proofs.declarations.push_params.Given as goal
 

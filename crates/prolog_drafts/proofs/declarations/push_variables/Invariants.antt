@@ -1,4 +1,4 @@
-use Rattle.std.proofs.Common.{◌≡◌, ◌≤◌, ◌++◌, length, drop, map}
+use Rattle.std.proofs.Common.{◌≡◌, ◌≤◌, length, drop, map}
 use Rattle.query_raws.specs.Declarations.{variable}
 use Rattle.query_raws.specs.Queries.{prolog_tokens}
 use Rattle.prolog_drafts.proofs.declarations.push_variables.Given as goal

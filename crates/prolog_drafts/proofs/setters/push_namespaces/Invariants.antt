@@ -1,4 +1,4 @@
-use Rattle.std.proofs.Common.{◌≡◌, ◌≤◌, ◌++◌, length, drop, map}
+use Rattle.std.proofs.Common.{◌≡◌, ◌≤◌, length, drop, map}
 use Rattle.query_raws.specs.Prologs.{namespace}
 use Rattle.query_raws.specs.Queries.{prolog_tokens}
 use Rattle.prolog_drafts.proofs.setters.push_namespaces.Given as goal
