@@ -7,7 +7,7 @@ use Rattle.operator_values.specs.Nodes.{is_value, before_value, after_value, uni
 use Rattle.operator_values.specs.Nodes.{intersect_value, except_value}
 use Rattle.operator_values.specs.Numbers.{arithmetic_value, range_value, negated_value}
 use Rattle.operator_values.specs.Numbers.{signed_value}
-use Rattle.operator_values.specs.Types.{instance_value, cast_value, castable_value}
+use Rattle.operator_values.specs.Types.{cast_value, castable_value}
 use Rattle.eval_values.specs.declared.operators.Operator.{Operator}
 use Rattle.eval_values.specs.declared.operators.Operator.TheVariants as two
 use Rattle.eval_values.specs.declared.operators.OneOperator.{OneOperator}
@@ -28,6 +28,5 @@ value_of_two two.Except = except_value
 abbrev pub value_of_one : OneOperator → List Item → Result (List Item) Code
 value_of_one one.Minus = negated_value
 value_of_one one.Plus = signed_value
-value_of_one (one.Instance kind) = instance_value kind.now
 value_of_one (one.Castable kind empty) = castable_value kind empty
 value_of_one (one.Cast kind empty) = cast_value kind empty

@@ -4,14 +4,13 @@ ghost use Rattle.operator_values.specs.Numbers.{range_value};
 ghost use Rattle.eval_values.specs.Operators.{value_of_two, value_of_one};
 
 use operator_values::{
-    after, arithmetic, before, cast_list, castable_list, except, general, instance, intersect, is,
-    negated, range, signed, single, treated, union,
+    after, arithmetic, before, cast_list, castable_list, except, general, intersect, is, negated,
+    range, signed, single, union,
 };
 use std::alloc::Global;
 use xdm_items::ItemList;
 use xt_atoms::ValueFault;
 use xt_names::{ArithOp, AtomType, CompareOp};
-use xt_types::SeqType;
 
 /// An operator of two operands (XPath 2.0, 3.3 to 3.5).
 #[derive(Clone, Copy)]
@@ -40,13 +39,11 @@ pub enum Operator {
 
 /// An operator of one operand (XPath 2.0, 3.4 and 3.10).
 #[derive(Clone, Copy)]
-pub enum OneOperator<'a> {
+pub enum OneOperator {
     /// `-`.
     Minus,
     /// `+`.
     Plus,
-    /// `instance of`.
-    Instance(&'a SeqType),
     /// `castable as`, where the empty list is taken or not.
     Castable(AtomType, bool),
     /// `cast as`, where the empty list is taken or not.
@@ -92,12 +89,11 @@ pub fn apply_to_one(
     operator: OneOperator,
     operand: &ItemList,
 ) -> Result<ItemList, ValueFault>
-    ensures { Answers (value_of_one operator.entry operand.now) result }
+    ensures { Answers (value_of_one operator operand.now) result }
 {
     match operator {
         OneOperator::Minus => negated(alloc, operand),
         OneOperator::Plus => signed(alloc, operand),
-        OneOperator::Instance(of) => instance(alloc, operand, of),
         OneOperator::Castable(to, empty) => castable_list(alloc, operand, to, empty),
         OneOperator::Cast(to, empty) => cast_list(alloc, operand, to, empty),
     }

@@ -1,12 +1,17 @@
 // Direct elements.
-ghost use Rattle.std.specs.Prelude.{map};
+ghost use Rattle.std.specs.Prelude.{ℕ, [], ◌∷◌, ◌++◌, map};
+ghost use Rattle.xt_tree.specs.declared.trees.Tree.TheVariants.{Text as text_tree};
+ghost use Rattle.node_builder.specs.Trees.{element_of};
+ghost use Rattle.node_builder.specs.declared.kinds.Duplicates.TheVariants.{Refuse};
 ghost use Rattle.eval_scopes.specs.Answers.{Answers};
 ghost use Rattle.eval_scopes.specs.Scopes.{env_of, program_of};
 ghost use Rattle.expr_eval.specs.Serves.{Serves};
 ghost use Rattle.eval_steps.specs.Parts.{attr_outcome, part_outcome};
-ghost use Rattle.outcomes.specs.Outcome.{for_each};
+ghost use Rattle.outcomes.specs.Outcome.{Ends, for_each};
 ghost use Rattle.expr_meaning.specs.Making.{direct_made, direct_attribute, attribute_text};
-ghost use Rattle.expr_meaning.specs.Making.{attribute_part, content_part};
+ghost use Rattle.expr_meaning.specs.Meaning.{outcome};
+ghost use Rattle.expr_meaning.specs.Making.{attribute_part, content_part, enclosed, literal_node};
+ghost use Rattle.expr_meaning.specs.Making.{made};
 
 use crate::hosts::{Callee, Host};
 use eval_nodes::{joined_atoms, make_element, spaced_text, text_node};
@@ -14,9 +19,10 @@ use eval_scopes::{Env, EvalFault};
 use eval_steps::push_attribute;
 use eval_values::{append, one};
 use expr_names::no_text;
+use std::alloc::Global;
 use xdm_items::ItemList;
 use xt_names::{ExprName, Name, Text, TextBuilder};
-use xt_syntax::{DirectAttr, Part};
+use xt_syntax::{DirectAttr, Expr, Part};
 
 impl<'a, G: Callee, F: Fn(&ExprName, &[ItemList], &mut u64) -> Result<ItemList, EvalFault>> Host<
     'a,
@@ -43,8 +49,7 @@ impl<'a, G: Callee, F: Fn(&ExprName, &[ItemList], &mut u64) -> Result<ItemList, 
     {
         let list = self.eval_attributes(env, next, attributes)?;
         let content = self.eval_content(env, next, parts)?;
-        let all = append(list, content)?;
-        make_element(self.alloc, next, name.copy()?, &all)
+        make_direct(self.alloc, next, name, list, content)
     }
 
     /// The attributes of a direct element (XQuery 1.0, 3.7.1.1).
@@ -162,12 +167,53 @@ impl<'a, G: Callee, F: Fn(&ExprName, &[ItemList], &mut u64) -> Result<ItemList, 
             next.old) }
     {
         match part {
-            Part::Chars(text) => Ok(one(self.alloc, text_node(self.alloc, text.copy()?)?)?),
-            Part::Enclosed(e) => {
-                let list = self.eval(env, next, e.get())?;
-                Ok(joined_atoms(self.alloc, &list)?)
-            }
+            Part::Chars(text) => characters(self.alloc, text),
+            Part::Enclosed(e) => self.eval_enclosed(env, next, e.get()),
             Part::Child(e) => self.eval(env, next, e.get()),
         }
     }
+
+    /// An expression in braces within the content of a direct element (XQuery 1.0, 3.7.1.3).
+    #[cycle(eval)]
+    #[inline(never)]
+    pub(crate) fn eval_enclosed(
+        &self,
+        env: &Env,
+        next: &mut u64,
+        e: &Expr,
+    ) -> Result<ItemList, EvalFault>
+        requires callable { F.IsAlwaysCallable self.now.calls }
+        requires serves { Serves (F.post self.now.calls) (G.calls self.now.given) }
+        ensures { let p = program_of self.now.fixed (G.calls self.now.given)
+            (G.keys self.now.given) in
+            Answers result next.new (content_part (env_of env.now) (enclosed (outcome p e.now))
+            next.old) }
+    {
+        let list = self.eval(env, next, e)?;
+        Ok(joined_atoms(self.alloc, &list)?)
+    }
+}
+
+/// The text of the content of a direct element (XQuery 1.0, 3.7.1.3).
+#[inline(never)]
+fn characters(alloc: Global, text: &Text) -> Result<ItemList, EvalFault>
+    ensures { (k : ℕ) → Answers result k (Ends (literal_node (text_tree text.now) ∷ []) k) }
+{
+    Ok(one(alloc, text_node(alloc, text.copy()?)?)?)
+}
+
+/// The element with these attributes and this content (XQuery 1.0, 3.7.1).
+#[inline(never)]
+fn make_direct(
+    alloc: Global,
+    next: &mut u64,
+    name: &Name,
+    attributes: ItemList,
+    content: ItemList,
+) -> Result<ItemList, EvalFault>
+    ensures { Answers result next.new (made (element_of Refuse name.now (attributes ++ content))
+        next.old) }
+{
+    let all = append(attributes, content)?;
+    make_element(alloc, next, name.copy()?, &all)
 }

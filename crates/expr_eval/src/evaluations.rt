@@ -5,15 +5,14 @@ ghost use Rattle.eval_scopes.specs.Scopes.{env_of, program_of};
 ghost use Rattle.expr_eval.specs.Serves.{Serves};
 ghost use Rattle.expr_meaning.specs.Meaning.{outcome};
 ghost use Rattle.expr_meaning.specs.Values.{comma_of, unary, binary};
-ghost use Rattle.operator_values.specs.Types.{treated_value};
+ghost use Rattle.operator_values.specs.Types.{instance_value, treated_value};
 ghost use Rattle.eval_values.specs.Operators.{value_of_one, value_of_two};
 
 use crate::hosts::{Callee, Host};
 use eval_scopes::{Env, EvalFault, context_item, document_root, variable_list};
 use eval_steps::{literal_integer, literal_text, truth_list};
 use eval_values::{OneOperator, Operator, append, apply, apply_to_one};
-use operator_values::treated;
-use quiet_steps::{has_late_walk, late_walk_list};
+use operator_values::{instance, treated};
 use xdm_items::ItemList;
 use xt_names::ExprName;
 use xt_syntax::{Expr, Flwor};
@@ -98,7 +97,7 @@ impl<'a, G: Callee, F: Fn(&ExprName, &[ItemList], &mut u64) -> Result<ItemList, 
                 b.get(),
             ),
             Expr::Except(a, b) => self.eval_two(env, next, Operator::Except, a.get(), b.get()),
-            Expr::InstanceOf(a, of) => self.eval_one(env, next, OneOperator::Instance(of), a.get()),
+            Expr::InstanceOf(a, of) => self.eval_instance(env, next, a.get(), of),
             Expr::Treat(a, to) => self.eval_treat(env, next, a.get(), to),
             Expr::Castable(a, to, empty) => {
                 self.eval_one(env, next, OneOperator::Castable(*to, *empty), a.get())
@@ -109,18 +108,15 @@ impl<'a, G: Callee, F: Fn(&ExprName, &[ItemList], &mut u64) -> Result<ItemList, 
                 OneOperator::Cast(*to, *empty),
                 a.get(),
             ),
-            Expr::Slash(a, b) => {
-                if has_late_walk(alloc, env, e)? {
-                    return late_walk_list(alloc, env, e);
-                }
-                self.eval_slash(env, next, a.get(), b.get())
-            }
-            Expr::Step(axis, test, tests) => {
-                if has_late_walk(alloc, env, e)? {
-                    return late_walk_list(alloc, env, e);
-                }
-                self.eval_step(env, next, *axis, test, tests.get().as_slice())
-            }
+            Expr::Slash(a, b) => self.eval_slash(env, next, e, a.get(), b.get()),
+            Expr::Step(axis, test, tests) => self.eval_step(
+                env,
+                next,
+                e,
+                *axis,
+                test,
+                tests.get().as_slice(),
+            ),
             Expr::Filter(of, tests) => self.eval_filter(
                 env,
                 next,
@@ -178,11 +174,32 @@ impl<'a, G: Callee, F: Fn(&ExprName, &[ItemList], &mut u64) -> Result<ItemList, 
         requires serves { Serves (F.post self.now.calls) (G.calls self.now.given) }
         ensures { let p = program_of self.now.fixed (G.calls self.now.given)
             (G.keys self.now.given) in
-            Answers result next.new (unary (value_of_one operator.entry) (outcome p a.now)
+            Answers result next.new (unary (value_of_one operator) (outcome p a.now)
             (env_of env.now) next.old) }
     {
         let operand = self.eval(env, next, a)?;
         Ok(apply_to_one(self.alloc, operator, &operand)?)
+    }
+
+    /// `instance of` (XPath 2.0, 3.10.1).
+    #[cycle(eval)]
+    #[inline(never)]
+    pub(crate) fn eval_instance(
+        &self,
+        env: &Env,
+        next: &mut u64,
+        a: &Expr,
+        of: &SeqType,
+    ) -> Result<ItemList, EvalFault>
+        requires callable { F.IsAlwaysCallable self.now.calls }
+        requires serves { Serves (F.post self.now.calls) (G.calls self.now.given) }
+        ensures { let p = program_of self.now.fixed (G.calls self.now.given)
+            (G.keys self.now.given) in
+            Answers result next.new (unary (instance_value of.now) (outcome p a.now)
+            (env_of env.now) next.old) }
+    {
+        let operand = self.eval(env, next, a)?;
+        Ok(instance(self.alloc, &operand, of)?)
     }
 
     /// `treat as` (XPath 2.0, 3.10.5).
@@ -225,6 +242,27 @@ impl<'a, G: Callee, F: Fn(&ExprName, &[ItemList], &mut u64) -> Result<ItemList, 
             (outcome p b.now) (env_of env.now) next.old) }
     {
         let left = self.eval(env, next, a)?;
+        self.eval_right(env, next, operator, left, b)
+    }
+
+    /// The same, once the left operand is evaluated.
+    #[cycle(eval)]
+    #[inline(never)]
+    pub(crate) fn eval_right(
+        &self,
+        env: &Env,
+        next: &mut u64,
+        operator: Operator,
+        left: ItemList,
+        b: &Expr,
+    ) -> Result<ItemList, EvalFault>
+        requires callable { F.IsAlwaysCallable self.now.calls }
+        requires serves { Serves (F.post self.now.calls) (G.calls self.now.given) }
+        ensures { let p = program_of self.now.fixed (G.calls self.now.given)
+            (G.keys self.now.given) in
+            Answers result next.new (unary (value_of_two operator left) (outcome p b.now)
+            (env_of env.now) next.old) }
+    {
         let right = self.eval(env, next, b)?;
         Ok(apply(self.alloc, operator, &left, &right)?)
     }

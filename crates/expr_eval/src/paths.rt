@@ -1,5 +1,6 @@
 // Paths, steps and predicates.
-ghost use Rattle.std.specs.Prelude.{map};
+ghost use Rattle.std.specs.Prelude.{◌≡◌, map};
+ghost use Rattle.xt_syntax.specs.declared.exprs.Expr.TheVariants.{Slash, Step};
 ghost use Rattle.eval_scopes.specs.Answers.{Answers};
 ghost use Rattle.eval_scopes.specs.Scopes.{env_of, program_of};
 ghost use Rattle.expr_eval.specs.Serves.{Serves};
@@ -16,6 +17,7 @@ use eval_steps::{
     push_kept, step_from,
 };
 use eval_values::append;
+use quiet_steps::{has_late_walk, late_walk_list};
 use xdm_items::{Item, ItemList};
 use xt_names::ExprName;
 use xt_syntax::Expr;
@@ -26,23 +28,28 @@ impl<'a, G: Callee, F: Fn(&ExprName, &[ItemList], &mut u64) -> Result<ItemList, 
     G,
     F,
 > {
-    /// `a/b` (XPath 2.0, 3.2).
+    /// `a/b`, which is walked on demand where one walk along an axis answers it (XPath 2.0, 3.2).
     #[cycle(eval)]
     #[inline(never)]
     pub(crate) fn eval_slash(
         &self,
         env: &Env,
         next: &mut u64,
+        whole: &Expr,
         a: &Expr,
         b: &Expr,
     ) -> Result<ItemList, EvalFault>
         requires callable { F.IsAlwaysCallable self.now.calls }
         requires serves { Serves (F.post self.now.calls) (G.calls self.now.given) }
+        requires form { whole.now ≡ Slash a.now b.now }
         ensures { let p = program_of self.now.fixed (G.calls self.now.given)
             (G.keys self.now.given) in
             Answers result next.new (slash_of (outcome p a.now) (outcome p b.now)
             (env_of env.now) next.old) }
     {
+        if has_late_walk(self.alloc, env, whole)? {
+            return late_walk_list(self.alloc, env, whole);
+        }
         let nodes = self.eval(env, next, a)?;
         let items = self.eval_each(env, next, nodes.as_slice(), b)?;
         path_items(self.alloc, items)
@@ -87,24 +94,30 @@ impl<'a, G: Callee, F: Fn(&ExprName, &[ItemList], &mut u64) -> Result<ItemList, 
         Ok(list)
     }
 
-    /// `axis::test[p]..` (XPath 2.0, 3.2.1).
+    /// `axis::test[p]..`, which is walked on demand where one walk along the axis answers it (XPath
+    /// 2.0, 3.2.1).
     #[cycle(eval)]
     #[inline(never)]
     pub(crate) fn eval_step(
         &self,
         env: &Env,
         next: &mut u64,
+        whole: &Expr,
         axis: Axis,
         test: &Test,
         tests: &[Expr],
     ) -> Result<ItemList, EvalFault>
         requires callable { F.IsAlwaysCallable self.now.calls }
         requires serves { Serves (F.post self.now.calls) (G.calls self.now.given) }
+        requires form { whole.now ≡ Step axis test.now tests.now }
         ensures { let p = program_of self.now.fixed (G.calls self.now.given)
             (G.keys self.now.given) in
             Answers result next.new (step_of axis test.now (map (outcome p) tests.now)
             (env_of env.now) next.old) }
     {
+        if has_late_walk(self.alloc, env, whole)? {
+            return late_walk_list(self.alloc, env, whole);
+        }
         let items = step_from(self.alloc, env, axis, test)?;
         let kept = self.eval_predicates(env, next, tests, items)?;
         ordered_items(self.alloc, kept)

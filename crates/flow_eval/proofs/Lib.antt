@@ -1,3 +1,4 @@
 pub mod RowLemmas
 pub mod Tuples
 pub mod Keys
+mod Lets

@@ -33,7 +33,6 @@ use xt_syntax::{Bind, Clause, Expr, Order};
 
 impl<'a, W: Within, E: Fn(&Env, &mut u64, &Expr) -> Result<ItemList, EvalFault>> Flows<'a, W, E> {
     /// The value of the FLWOR expression (XQuery 1.0, 3.8).
-    #[inline(never)]
     pub fn eval_flwor(&self, env: &Env, next: &mut u64) -> Result<ItemList, EvalFault>
         requires callable { CanEvaluate (E.pre self.now.eval) (flwor_nodes self.now.whole.now) }
         requires serves { Evaluates (E.post self.now.eval) (W.program self.now.within.now) }

@@ -1,12 +1,15 @@
 // FLWOR expressions whose tuples are not held.
 ghost use Rattle.std.specs.Prelude.{◌≤◌, ◌+◌, map};
-ghost use Rattle.xt_syntax.specs.declared.exprs.Clause.TheViews.{out-Flwor};
+ghost use Rattle.xt_syntax.specs.declared.exprs.Clause.TheViews.{out-Bind, out-Flwor};
 ghost use Rattle.outcomes.specs.Outcome.{and_then, for_each, step_outcome};
 ghost use Rattle.sort_meaning.specs.Sorted.{places};
+ghost use Rattle.expr_meaning.specs.Logic.{typed};
 ghost use Rattle.expr_meaning.specs.Meaning.{outcome};
 ghost use Rattle.eval_inner.specs.Inner.{CanEvaluate, Evaluates};
+ghost use Rattle.eval_steps.specs.Lists.{AnswersPushed};
 ghost use Rattle.eval_steps.specs.Parts.{bind_outcome};
 ghost use Rattle.eval_steps.specs.Sizes.{bind_nodes, clause_nodes, flwor_nodes, total};
+ghost use Rattle.eval_steps.specs.Steps.{bound_outcome};
 ghost use Rattle.eval_scopes.specs.Answers.{Answers};
 ghost use Rattle.eval_scopes.specs.Scopes.{env_of};
 ghost use Rattle.flow_streams.specs.Streams.{stream_of, stream_for, stream_let, stream_item};
@@ -14,7 +17,7 @@ ghost use Rattle.flow_streams.specs.Streams.{stream_place, binder_of};
 
 use crate::inner::Flows;
 use eval_inner::Within;
-use eval_scopes::{Env, EvalFault, Scope};
+use eval_scopes::{Env, EvalFault, Scope, Variable};
 use eval_steps::{list_size, place_in, pop_variable, push_item, push_position, push_value};
 use eval_values::append;
 use xdm_items::{Item, ItemList};
@@ -67,9 +70,8 @@ impl<'a, W: Within, E: Fn(&Env, &mut u64, &Expr) -> Result<ItemList, EvalFault>>
             (stream_of (map (binder_of p) rest.now) (outcome p (out-Flwor self.now.whole.now).body))
             (env_of env.now) next.old) }
     {
-        let items = self.value(env, next, bind.source.get())?;
         let mut bound = Vec::new(self.alloc);
-        push_value(self.alloc, &mut bound, bind, items)?;
+        self.push_let(env, next, bind, &mut bound)?;
         let scope = Scope::Inner {
             variables: bound.as_slice(),
             outer: &*env.locals,
@@ -79,7 +81,32 @@ impl<'a, W: Within, E: Fn(&Env, &mut u64, &Expr) -> Result<ItemList, EvalFault>>
             focus: &*env.focus,
             state: &*env.state,
         };
-        self.eval_stream(&inner, next, rest)
+        match rest {
+            [] => self.value(&inner, next, self.whole.body.get()),
+            _ => self.eval_stream(&inner, next, rest),
+        }
+    }
+
+    /// The variable of a `let` behind those that are bound (XQuery 1.0, 3.8.1).
+    #[inline(never)]
+    fn push_let(
+        &self,
+        env: &Env,
+        next: &mut u64,
+        bind: &Bind,
+        bound: &mut Vec<Variable>,
+    ) -> Result<(), EvalFault>
+        requires callable { CanEvaluate (E.pre self.now.eval) (flwor_nodes self.now.whole.now) }
+        requires serves { Evaluates (E.post self.now.eval) (W.program self.now.within.now) }
+        requires within { bind_nodes bind.now ≤ flwor_nodes self.now.whole.now }
+        ensures { let b = out-Bind bind.now in
+            let source = outcome (W.program self.now.within.now) b.source in
+            AnswersPushed result bound.old.items bound.new.items next.new
+            (and_then (source (env_of env.now) next.old)
+            (λ xs. bound_outcome b.var (typed b.kind xs))) }
+    {
+        let items = self.value(env, next, bind.source.get())?;
+        push_value(self.alloc, bound, bind, items)
     }
 
     /// A `for` and what follows it (XQuery 1.0, 3.8.1).

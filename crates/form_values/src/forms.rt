@@ -2,13 +2,13 @@
 ghost use Rattle.std.specs.Prelude.{◌≡◌, IfOk, Some, is_some, true};
 ghost use Rattle.node_walks.specs.Moves.{given};
 ghost use Rattle.operator_values.specs.Numbers.{AnswersItems};
-ghost use Rattle.operator_values.specs.Types.{treated_value};
+ghost use Rattle.operator_values.specs.Types.{instance_value, treated_value};
 ghost use Rattle.eval_values.specs.Operators.{value_of_one, value_of_two};
 ghost use Rattle.form_values.specs.Forms.{Answer, lists_of, value_of, with_one, with_two};
 
 use eval_values::{OneOperator, Operator, apply, apply_to_one};
 use lazy_seq::Seq;
-use operator_values::{range, treated};
+use operator_values::{instance, range, treated};
 use std::alloc::{AllocError, Global};
 use xdm_items::ItemList;
 use xt_atoms::ValueFault;
@@ -47,7 +47,7 @@ fn on_two(alloc: Global, operator: Operator, operands: &[Seq]) -> Result<Seq, Va
 }
 
 fn of_one(alloc: Global, operator: OneOperator, operand: &Seq) -> Result<Seq, ValueFault>
-    ensures { AnswersItems (value_of_one operator.entry (given operand.now.moves)) result }
+    ensures { AnswersItems (value_of_one operator (given operand.now.moves)) result }
 {
     let list = list_of(alloc, operand)?;
     Ok(Seq::of_list(apply_to_one(alloc, operator, &list)?))
@@ -56,11 +56,30 @@ fn of_one(alloc: Global, operator: OneOperator, operand: &Seq) -> Result<Seq, Va
 fn on_one(alloc: Global, operator: OneOperator, operands: &[Seq]) -> Result<Seq, ValueFault>
     requires { is_some (with_one (value_of_one operator) (lists_of operands.now)) ≡ true }
     ensures { (answer : Answer) →
-        with_one (value_of_one operator.entry) (lists_of operands.now) ≡ Some answer →
+        with_one (value_of_one operator) (lists_of operands.now) ≡ Some answer →
         AnswersItems answer result }
 {
     match operands {
         [operand] => of_one(alloc, operator, operand),
+        _ => unreachable!(),
+    }
+}
+
+fn of_instance(alloc: Global, kind: &SeqType, operand: &Seq) -> Result<Seq, ValueFault>
+    ensures { AnswersItems (instance_value kind.now (given operand.now.moves)) result }
+{
+    let list = list_of(alloc, operand)?;
+    Ok(Seq::of_list(instance(alloc, &list, kind)?))
+}
+
+fn on_instance(alloc: Global, kind: &SeqType, operands: &[Seq]) -> Result<Seq, ValueFault>
+    requires { is_some (with_one (instance_value kind.now) (lists_of operands.now)) ≡ true }
+    ensures { (answer : Answer) →
+        with_one (instance_value kind.now) (lists_of operands.now) ≡ Some answer →
+        AnswersItems answer result }
+{
+    match operands {
+        [operand] => of_instance(alloc, kind, operand),
         _ => unreachable!(),
     }
 }
@@ -105,7 +124,7 @@ pub fn on_values(alloc: Global, expr: &Expr, operands: &[Seq]) -> Result<Seq, Va
         Expr::Union(_, _) => on_two(alloc, Operator::Union, operands),
         Expr::Intersect(_, _) => on_two(alloc, Operator::Intersect, operands),
         Expr::Except(_, _) => on_two(alloc, Operator::Except, operands),
-        Expr::InstanceOf(_, of) => on_one(alloc, OneOperator::Instance(of), operands),
+        Expr::InstanceOf(_, of) => on_instance(alloc, of, operands),
         Expr::Treat(_, to) => on_treated(alloc, to, operands),
         Expr::Castable(_, to, empty) => {
             on_one(alloc, OneOperator::Castable(*to, *empty), operands)

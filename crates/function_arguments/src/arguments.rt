@@ -1,8 +1,9 @@
 // Arguments that are one value or none.
 ghost use Rattle.xt_atoms.specs.Casts.{Answers};
 ghost use Rattle.function_arguments.specs.Arguments.{text_argument, optional_text_argument, text_or_empty_argument, integer_argument, optional_integer_argument, atom_argument, optional_atom_argument, optional_name_argument, optional_node_argument};
+ghost use Rattle.function_arguments.specs.Arguments.{of_only, of_at_most_one, text_of_item, integer_of_item, atom_of_item};
 
-use crate::conversions::{atomic, converted};
+use crate::conversions::{atomic, converted, is_atomic};
 use crate::forms::{
     WRONG_TYPE, atom_of_item, integer_of_item, name_of_item, node_of_item, text_of_item,
 };
@@ -30,8 +31,17 @@ pub fn text(alloc: Global, items: &ItemList) -> Result<Text, ValueFault>
 pub fn optional_text(alloc: Global, items: &ItemList) -> Result<Option<Text>, ValueFault>
     ensures { Answers (optional_text_argument items.now) result }
 {
+    if is_atomic(items, AtomType::Str, Count::Opt) {
+        return text_if_any(items);
+    }
     let made = atomic(alloc, items, AtomType::Str, Count::Opt)?;
-    match made.as_slice() {
+    text_if_any(&made)
+}
+
+fn text_if_any(items: &ItemList) -> Result<Option<Text>, ValueFault>
+    ensures { Answers (of_at_most_one text_of_item items.now) result }
+{
+    match items.as_slice() {
         [] => Ok(None),
         [only] => Ok(Some(text_of_item(only)?)),
         _ => Err(WRONG_TYPE),
@@ -43,8 +53,17 @@ pub fn optional_text(alloc: Global, items: &ItemList) -> Result<Option<Text>, Va
 pub fn integer(alloc: Global, items: &ItemList) -> Result<i64, ValueFault>
     ensures { Answers (integer_argument items.now) result }
 {
+    if is_atomic(items, AtomType::Int, Count::One) {
+        return only_integer(items);
+    }
     let made = atomic(alloc, items, AtomType::Int, Count::One)?;
-    match made.as_slice() {
+    only_integer(&made)
+}
+
+fn only_integer(items: &ItemList) -> Result<i64, ValueFault>
+    ensures { Answers (of_only integer_of_item items.now) result }
+{
+    match items.as_slice() {
         [only] => integer_of_item(only),
         _ => Err(WRONG_TYPE),
     }
@@ -80,8 +99,17 @@ pub fn atom(alloc: Global, items: &ItemList) -> Result<Atom, ValueFault>
 pub fn optional_atom(alloc: Global, items: &ItemList) -> Result<Option<Atom>, ValueFault>
     ensures { Answers (optional_atom_argument items.now) result }
 {
+    if is_atomic(items, AtomType::Any, Count::Opt) {
+        return atom_if_any(items);
+    }
     let made = atomic(alloc, items, AtomType::Any, Count::Opt)?;
-    match made.as_slice() {
+    atom_if_any(&made)
+}
+
+fn atom_if_any(items: &ItemList) -> Result<Option<Atom>, ValueFault>
+    ensures { Answers (of_at_most_one atom_of_item items.now) result }
+{
+    match items.as_slice() {
         [] => Ok(None),
         [only] => Ok(Some(atom_of_item(only)?)),
         _ => Err(WRONG_TYPE),

@@ -1,10 +1,14 @@
 // Arguments that are lists.
+ghost use Rattle.std.specs.Prelude.{◌≡◌, true, Ok};
+ghost use Rattle.xt_names.specs.declared.kinds.AtomType.TheVariants.{Any};
+ghost use Rattle.xt_types.specs.declared.types.Count.TheVariants.{Many};
 ghost use Rattle.xt_atoms.specs.Casts.{Answers};
 ghost use Rattle.xdm_items.specs.Conversion.{converted};
+ghost use Rattle.xdm_items.specs.Matching.{matches_type};
 ghost use Rattle.function_arguments.specs.Arguments.{atomic, text_arguments, integer_arguments, atom_arguments};
 
 use std::alloc::Global;
-use xdm_items::{ItemList, convert, copy_item_list};
+use xdm_items::{ItemList, convert, copy_item_list, matches};
 use xt_atoms::ValueFault;
 use xt_names::AtomType;
 use xt_types::{Count, ItemType, SeqType};
@@ -31,6 +35,24 @@ pub fn atoms(alloc: Global, items: &ItemList) -> Result<ItemList, ValueFault>
     ensures { Answers (atom_arguments items.now) result }
 {
     atomic(alloc, items, AtomType::Any, Count::Many)
+}
+
+/// Whether the argument is any number of atomic values as it stands, so that its conversion to
+/// them changes nothing (XPath 2.0, 3.1.5).
+pub fn are_atoms(items: &ItemList) -> bool
+    ensures exactly { result ≡ matches_type (atomic Any Many) items.now }
+    ensures stay { result ≡ true → atom_arguments items.now ≡ Ok items.now }
+{
+    is_atomic(items, AtomType::Any, Count::Many)
+}
+
+/// Whether the argument is so many atoms of the type as it stands, so that its conversion changes
+/// nothing.
+pub(crate) fn is_atomic(items: &ItemList, kind: AtomType, count: Count) -> bool
+    ensures exactly { result ≡ matches_type (atomic kind count) items.now }
+    ensures stay { result ≡ true → converted (atomic kind count) items.now ≡ Ok items.now }
+{
+    matches(items, &SeqType::Of(ItemType::Atomic(kind), count))
 }
 
 /// The argument as so many atoms of the type.

@@ -17,4 +17,4 @@ pub use arguments::{
     atom, integer, optional_atom, optional_integer, optional_name, optional_node, optional_text,
     text, text_or_empty,
 };
-pub use conversions::{atoms, integers, texts};
+pub use conversions::{are_atoms, atoms, integers, texts};

@@ -24,9 +24,12 @@ sum_of items = and_then (atom_arguments items) (λ atoms. as_integer (integer_su
 unfoldable pub sum_with_of : List Item → List Item → Outcome
 sum_with_of items zero = and_then (atom_arguments items) (λ atoms. and_then (optional_atom_argument zero) (λ z. sum_or atoms z))
 
--- with `Gt` the greatest, with `Lt` the least
+-- with `Gt` the greatest atom, with `Lt` the least
+abbrev pub extreme_atom : CompareOp → List Item → Outcome
+extreme_atom op atoms = and_then (extreme op atoms) (λ best. Ok (of_optional_atom best))
+
 unfoldable pub extreme_of : CompareOp → List Item → Outcome
-extreme_of op items = and_then (atom_arguments items) (λ atoms. and_then (extreme op atoms) (λ best. Ok (of_optional_atom best)))
+extreme_of op items = and_then (atom_arguments items) (extreme_atom op)
 
 abbrev pub absolute_of : Option ℤ → Outcome
 absolute_of None = Ok []

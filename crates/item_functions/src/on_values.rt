@@ -3,12 +3,13 @@ ghost use Rattle.std.specs.Prelude.{Ok, option_map};
 ghost use Rattle.xt_names.specs.declared.kinds.CompareOp.TheVariants as op;
 ghost use Rattle.xt_atoms.specs.Casts.{Answers};
 ghost use Rattle.node_functions.specs.Roots.{root_of as root_place};
-ghost use Rattle.item_functions.specs.OnValues.{abs_of, absolute_of, boolean_of, extreme_of, not_of, root_of, sum_of, sum_or, sum_with_of};
+ghost use Rattle.item_functions.specs.OnValues.{abs_of, absolute_of, boolean_of, not_of, root_of};
+ghost use Rattle.item_functions.specs.OnValues.{extreme_atom, extreme_of, sum_of, sum_or, sum_with_of};
 ghost use Rattle.item_functions.specs.Outcomes.{of_optional_node};
 
 use crate::outcomes::{integer_outcome, node_list, optional_atom_list, truth_outcome};
 use function_arguments::{
-    atoms, no_items, optional_atom, optional_integer, optional_node, truth_list,
+    are_atoms, atoms, no_items, optional_atom, optional_integer, optional_node, truth_list,
 };
 use node_functions as nodes;
 use number_functions as numbers;
@@ -22,6 +23,9 @@ use xt_tree::Node;
 pub fn sum(alloc: Global, items: &ItemList) -> Result<ItemList, ValueFault>
     ensures { Answers (sum_of items.now) result }
 {
+    if are_atoms(items) {
+        return integer_outcome(alloc, numbers::sum(items.as_slice()));
+    }
     let atoms = atoms(alloc, items)?;
     integer_outcome(alloc, numbers::sum(atoms.as_slice()))
 }
@@ -41,9 +45,11 @@ pub fn sum_with(alloc: Global, items: &ItemList, zero: &ItemList) -> Result<Item
 pub fn max(alloc: Global, items: &ItemList) -> Result<ItemList, ValueFault>
     ensures { Answers (extreme_of op.Gt items.now) result }
 {
+    if are_atoms(items) {
+        return greatest_atom(alloc, items);
+    }
     let atoms = atoms(alloc, items)?;
-    let greatest = numbers::max(alloc, atoms.as_slice())?;
-    Ok(optional_atom_list(alloc, greatest)?)
+    greatest_atom(alloc, &atoms)
 }
 
 /// The least value (`fn:min`, Functions and Operators, 15.4.4).
@@ -51,9 +57,11 @@ pub fn max(alloc: Global, items: &ItemList) -> Result<ItemList, ValueFault>
 pub fn min(alloc: Global, items: &ItemList) -> Result<ItemList, ValueFault>
     ensures { Answers (extreme_of op.Lt items.now) result }
 {
+    if are_atoms(items) {
+        return least_atom(alloc, items);
+    }
     let atoms = atoms(alloc, items)?;
-    let least = numbers::min(alloc, atoms.as_slice())?;
-    Ok(optional_atom_list(alloc, least)?)
+    least_atom(alloc, &atoms)
 }
 
 /// The absolute value (`fn:abs`, Functions and Operators, 6.4.1).
@@ -100,6 +108,20 @@ fn sum_or(alloc: Global, atoms: &ItemList, zero: Option<Atom>) -> Result<ItemLis
         [] => Ok(optional_atom_list(alloc, zero)?),
         items => integer_outcome(alloc, numbers::sum(items)),
     }
+}
+
+fn greatest_atom(alloc: Global, atoms: &ItemList) -> Result<ItemList, ValueFault>
+    ensures { Answers (extreme_atom op.Gt atoms.now) result }
+{
+    let greatest = numbers::max(alloc, atoms.as_slice())?;
+    Ok(optional_atom_list(alloc, greatest)?)
+}
+
+fn least_atom(alloc: Global, atoms: &ItemList) -> Result<ItemList, ValueFault>
+    ensures { Answers (extreme_atom op.Lt atoms.now) result }
+{
+    let least = numbers::min(alloc, atoms.as_slice())?;
+    Ok(optional_atom_list(alloc, least)?)
 }
 
 fn absolute_of(alloc: Global, number: Option<i64>) -> Result<ItemList, ValueFault>

@@ -53,6 +53,30 @@ fn sums_within_each_other(rt: HostRuntime) {
     }
 }
 
+const DEEPEST: &[&str] = &["query", "q.xq", "d.xml", "--depth", "602"];
+
+const CALL: &str = "declare function local:f($n) { if ($n = 1) then 0 else ";
+
+// What stands twenty times before and behind each of 602 open calls, and what they give.
+const FORMS: [(&str, &str, &str); 2] = [
+    ("(", " + 1)", "12020"),
+    ("(if ($n = 0) then 9 else ", ")", "0"),
+];
+
+#[test]
+fn forms_around_calls(rt: HostRuntime) {
+    for (before, behind, said) in FORMS {
+        let front = around(&rt, CALL, before, 20, "local:f($n - 1)");
+        let query = around(&rt, front.as_str(), behind, 20, " }; local:f(602)");
+        assert!(rt;
+            ends_so(&rt, DEEPEST, query.as_bytes(), b"<a/>", 0, said),
+            "{before}"
+        );
+        drop(front);
+        drop(query);
+    }
+}
+
 #[test]
 fn bytes_of_a_query(rt: HostRuntime) {
     let query = vec![in rt.alloc(); b' '; 67_108_865].expect(&rt, "memory");

@@ -33,6 +33,7 @@ use Rattle.xt_syntax.specs.declared.exprs.Part.{Part}
 use Rattle.xt_syntax.specs.declared.exprs.Clause.TheViews.{out-Arm, out-DirectAttr}
 use Rattle.eval_inner.specs.Inner.{CanEvaluate, Evaluates}
 use Rattle.eval_steps.proofs.Places.{placed_item, placed_length}
+use Rattle.expr_eval.proofs.Steps.{slash_means, step_means}
 use Rattle.expr_eval.proofs.hosts.+eval.Goals as goal
 
 pub Host::eval_comma-eval-requires : goal.Host::eval_comma-eval-requires
@@ -601,7 +602,8 @@ pub Host::eval_step-returns-in_err-items : goal.Host::eval_step-returns-in_err-i
 Host::eval_step-returns-in_err-items g t c =
     let p = program_of c.args.self.now.fixed (g.G.Callee.calls c.args.self.now.given)
     (g.G.Callee.keys c.args.self.now.given) in
-    let q = err_from_is_err_and c.from_residual.result c.from_residual.ensures.1 in
+    let q = err_from_is_err_and c.from_residual-in_err-items.result
+    c.from_residual-in_err-items.ensures.1 in
     rw (q.1, q.2) (step_fault c.args.axis c.args.test.now (map (outcome p) c.args.tests.now)
     (env_of c.args.env.now) c.args.next.now _ (c.in_err-items.ensures _))
 
@@ -642,17 +644,19 @@ Host::eval_filter-returns-in-Some g t c =
     (kept (literal n) (env_of c.args.env.now)))) (to_z-of_z w64 c.in-Some.place fits)
     c.eval_place.ensures)
 
-pub Host::eval-returns-then-branch : goal.Host::eval-returns-then-branch
-Host::eval-returns-then-branch g t c =
+pub Host::eval_slash-returns-then-branch : goal.Host::eval_slash-returns-then-branch
+Host::eval_slash-returns-then-branch g t c =
     let p = program_of c.args.self.now.fixed (g.G.Callee.calls c.args.self.now.given)
     (g.G.Callee.keys c.args.self.now.given) in
-    c.late_walk_list.ensures p c.args.next.now
+    rw (c.requires.form, slash_means p c.args.a.now c.args.b.now) at
+    (c.late_walk_list.ensures p c.args.next.now)
 
-pub Host::eval-returns-then-branch-2 : goal.Host::eval-returns-then-branch-2
-Host::eval-returns-then-branch-2 g t c =
+pub Host::eval_step-returns-then-branch : goal.Host::eval_step-returns-then-branch
+Host::eval_step-returns-then-branch g t c =
     let p = program_of c.args.self.now.fixed (g.G.Callee.calls c.args.self.now.given)
     (g.G.Callee.keys c.args.self.now.given) in
-    c.late_walk_list-then-branch-2.ensures p c.args.next.now
+    rw (c.requires.form, step_means p c.args.axis c.args.test.now c.args.tests.now) at
+    (c.late_walk_list.ensures p c.args.next.now)
 
 pub Host::eval_late-returns-then-branch : goal.Host::eval_late-returns-then-branch
 Host::eval_late-returns-then-branch g t c =

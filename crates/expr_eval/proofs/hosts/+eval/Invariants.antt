@@ -49,7 +49,16 @@ abbrev pub decreases-Host::eval_treat : goal.decreases-Host::eval_treat
 decreases-Host::eval_treat g l = 8 * nodes l.a.now + 1
 
 abbrev pub decreases-Host::eval_two : goal.decreases-Host::eval_two
-decreases-Host::eval_two g l = 8 * (nodes l.a.now + nodes l.b.now) + 1
+decreases-Host::eval_two g l = 8 * (nodes l.a.now + nodes l.b.now) + 2
+
+abbrev pub decreases-Host::eval_right : goal.decreases-Host::eval_right
+decreases-Host::eval_right g l = 8 * nodes l.b.now + 1
+
+abbrev pub decreases-Host::eval_instance : goal.decreases-Host::eval_instance
+decreases-Host::eval_instance g l = 8 * nodes l.a.now + 1
+
+abbrev pub decreases-Host::eval_enclosed : goal.decreases-Host::eval_enclosed
+decreases-Host::eval_enclosed g l = 8 * nodes l.e.now + 1
 
 abbrev pub decreases-Host::eval_slash : goal.decreases-Host::eval_slash
 decreases-Host::eval_slash g l = 8 * (nodes l.a.now + nodes l.b.now) + 2

@@ -10,10 +10,11 @@ use Rattle.eval_steps.proofs.Places.{places_by_count, count_is}
 use Rattle.flow_streams.specs.Streams.{stream_of, binder_of}
 use Rattle.flow_streams.proofs.Clauses.{for_binds, let_binds}
 use Rattle.flow_streams.proofs.Turns.{item_streams, item_fails, place_streams, place_fails}
-use Rattle.flow_streams.proofs.Turns.{let_streams, let_value_fails, let_fails, for_fails}
+use Rattle.flow_streams.proofs.Turns.{for_fails}
 use Rattle.flow_streams.proofs.Turns.{for_turns as stream_turns_of}
 use Rattle.xt_syntax.specs.declared.exprs.Clause.TheViews.{out-Flwor}
 use Rattle.eval_steps.proofs.Places.{placed_item, placed_length}
+use Rattle.flow_eval.proofs.Lets.{let_behind}
 use Rattle.flow_eval.proofs.inner.Flows.+stream.Goals as goal
 
 pub eval_stream-returns-in-empty : goal.eval_stream-returns-in-empty
@@ -41,31 +42,41 @@ eval_stream-returns-in-Let g t c =
       let_binds p c.in-Let.bind,
     ) c.stream_let.ensures
 
-pub stream_let-returns-in_err-items : goal.stream_let-returns-in_err-items
-stream_let-returns-in_err-items g t c =
+pub stream_let-returns-in_err-push_let : goal.stream_let-returns-in_err-push_let
+stream_let-returns-in_err-push_let g t c =
     let p = g.W.Within.program c.args.self.now.within.now in
     let q = err_from_is_err_and c.from_residual.result c.from_residual.ensures.1 in
-    rw (q.1, q.2) (let_fails p c.args.bind.now (stream_of (map (binder_of p) c.args.rest.now)
-    (outcome p (out-Flwor c.args.self.now.whole.now).body)) (env_of c.args.env.now) c.args.next.now _
-    (rw c.get.ensures at c.in_err-items.ensures))
+    rw (
+      q.1,
+      q.2,
+      let_behind p c.args.bind.now (stream_of (map (binder_of p) c.args.rest.now)
+          (outcome p (out-Flwor c.args.self.now.whole.now).body)) (env_of c.args.env.now) c.args.next.now,
+    )
+    (fault_first _ _ _ c.in_err-push_let.ensures)
 
-pub stream_let-returns-in_err-push_value : goal.stream_let-returns-in_err-push_value
-stream_let-returns-in_err-push_value g t c =
+pub stream_let-returns-in-empty : goal.stream_let-returns-in-empty
+stream_let-returns-in-empty g t c =
     let p = g.W.Within.program c.args.self.now.within.now in
-    let q = err_from_is_err_and c.from_residual-in_err-push_value.result
-    c.from_residual-in_err-push_value.ensures.1 in
-    rw (q.1, q.2) (let_value_fails p c.args.bind.now (stream_of (map (binder_of p) c.args.rest.now)
-    (outcome p (out-Flwor c.args.self.now.whole.now).body)) (env_of c.args.env.now) c.args.next.now _ _ _
-    (rw c.get.ensures at c.in_ok-items.ensures) (c.in_err-push_value.ensures _))
+    let b = c.in_ok-push_let.ensures in
+    rw (
+      let_behind p c.args.bind.now (stream_of (map (binder_of p) c.args.rest.now)
+          (outcome p (out-Flwor c.args.self.now.whole.now).body)) (env_of c.args.env.now)
+          c.args.next.now,
+      b.2,
+      no_items c.args.rest.now c.in-empty.len_below,
+    ) (rw (c.get.ensures, c.as_slice.ensures.value, b.1, c.new-bound.ensures.items) at
+    c.value.ensures)
 
 pub stream_let-returns : goal.stream_let-returns
 stream_let-returns g t c =
     let p = g.W.Within.program c.args.self.now.within.now in
-    let b = c.in_ok-push_value.ensures c.value.new.next in
-    rw (let_streams p c.args.bind.now (stream_of (map (binder_of p) c.args.rest.now)
-    (outcome p (out-Flwor c.args.self.now.whole.now).body)) (env_of c.args.env.now) c.args.next.now _ _ _
-    (rw c.get.ensures at c.in_ok-items.ensures) b.2)
-    (rw (c.as_slice.ensures.value, b.1, c.new-bound.ensures.items) at c.eval_stream.ensures)
+    let b = c.in_ok-push_let.ensures in
+    rw (
+      let_behind p c.args.bind.now (stream_of (map (binder_of p) c.args.rest.now)
+          (outcome p (out-Flwor c.args.self.now.whole.now).body)) (env_of c.args.env.now)
+          c.args.next.now,
+      b.2,
+    ) (rw (c.as_slice.ensures.value, b.1, c.new-bound.ensures.items) at c.eval_stream.ensures)
 
 pub stream_for-returns-in_err-items : goal.stream_for-returns-in_err-items
 stream_for-returns-in_err-items g t c =
