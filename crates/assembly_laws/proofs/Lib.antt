@@ -1,7 +1,8 @@
-mod Rules
-mod Functions
-mod Globals
-mod Levels
-mod Parts
-mod Modes
-mod Spaces
+pub mod Rules
+pub mod Functions
+pub mod Globals
+pub mod Levels
+pub mod Lists
+pub mod Parts
+pub mod Modes
+pub mod Spaces

@@ -96,6 +96,12 @@ abbrev pub PartsAreDeclared : Type 0
 PartsAreDeclared = (a : Asked) (p : Parts) → a.of_template no_template ≡ true
     → list_all (λ d. declares a d.part) p.declarations ≡ true → has_asked a (sheet_of p) ≡ true
 
+-- what each part of each module has, each declaration has
+abbrev pub DeclarationsAreParts : Type 0
+DeclarationsAreParts = (q : Part Expr Pattern → Bool) (modules : List (List (Part Expr Pattern)))
+    (levels : List SheetLevel) → list_all (list_all q) modules ≡ true
+    → list_all (λ d. q d.part) (declarations_of modules levels) ≡ true
+
 -- modes by their numbers, of which there are so many
 abbrev pub has_modes : ℕ → ModeSet → Bool
 has_modes modes All = true

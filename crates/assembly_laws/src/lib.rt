@@ -3,12 +3,13 @@
 //!
 //! Whatever the declarations are, each rule has the place of a template and the precedence of a
 //! level, no two functions have one name and number of parameters, and no two globals one name: of
-//! those that stand twice the last one counts. What all declarations have, the stylesheet has.
+//! those that stand twice the last one counts. What the parts of all modules have, all declarations
+//! have, and what these have, the stylesheet has.
 #![tactic(auto)]
 
 ghost use Rattle.assembly_laws.specs.Laws.{RulesHaveTemplates, RulesHaveLevels, FunctionsDiffer};
 ghost use Rattle.assembly_laws.specs.Laws.{GlobalsDiffer, PartsAreDeclared, RulesHaveModes};
-ghost use Rattle.assembly_laws.specs.Laws.{SpacesAreDeclared};
+ghost use Rattle.assembly_laws.specs.Laws.{SpacesAreDeclared, DeclarationsAreParts};
 
 /// The template of each rule of the stylesheet stands among its templates (XSLT 2.0, 6.4).
 pub fn rules_have_templates()
@@ -46,4 +47,9 @@ pub fn parts_are_declared()
 /// What each rule on white space has that is declared, the rules of the stylesheet have (XSLT 2.0, 4.4).
 pub fn spaces_are_declared()
     ensures { SpacesAreDeclared }
+{}
+
+/// What each part of each module has, each declaration of all modules has (XSLT 2.0, 3.10.3).
+pub fn declarations_are_parts()
+    ensures { DeclarationsAreParts }
 {}

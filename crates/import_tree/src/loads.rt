@@ -1,7 +1,8 @@
 // Stylesheets that are loaded and read.
-ghost use Rattle.std.specs.Prelude.{◌≡◌, ◌+◌, ◌<◌, ◌^◌, [], length, Ok, Err, IfOk, IfErr};
+ghost use Rattle.std.specs.Prelude.{◌≡◌, ◌+◌, ◌<◌, ◌^◌, [], length, true, Ok, Err, IfOk, IfErr};
 ghost use Rattle.std.specs.Str.{chars};
 ghost use Rattle.xt_io.specs.Files.{KeepsFiles};
+ghost use Rattle.sheet_closure.specs.Closed.{is_closed};
 ghost use Rattle.loaded_parts.specs.Names.{AllCanBeRead};
 ghost use Rattle.loaded_sheets.specs.Sheets.{sheet_faults, sheet_value};
 ghost use Rattle.import_tree.specs.Sheets.{IsSheet, HoldsSheet, IsUnreadAs, IsSheetRefusedAs};
@@ -23,7 +24,8 @@ pub struct ReadSheet {
     pub sheet: Sheet,
 }
 
-/// The stylesheet whose first module has this name (XSLT 2.0, 3.10).
+/// The stylesheet whose first module has this name (XSLT 2.0, 3.10). It is closed: it uses nothing
+/// but what it declares.
 ///
 /// `Load` and `TooLong` come with the name of the module that was asked for, and `Malformed` with
 /// that of one that is no document. `Static` comes with XTSE0180, XTSE0210 or XTLM0003 of a link,
@@ -32,6 +34,7 @@ pub struct ReadSheet {
 /// break together.
 pub fn load_sheet<F: Files>(alloc: Global, files: &mut F, name: &str) -> Result<Sheet, SheetFault>
     ensures sheet { IfOk result (HoldsSheet (F.state files.old).held (chars name.now)) }
+    ensures closed { IfOk result (λ sheet. is_closed sheet ≡ true) }
     ensures refused { IfErr result
         (IsSheetRefusedAs (chars name.now) (F.state files.old) (F.state files.new)) }
     ensures keeps { KeepsFiles (F.state files.old) (F.state files.new) }
@@ -47,6 +50,7 @@ pub fn load_sheet<F: Files>(alloc: Global, files: &mut F, name: &str) -> Result<
 
 /// The stylesheet whose first module has this name, with its modules. It refuses what `load_sheet`
 /// refuses.
+#[tactic(auto, using(crate::proofs::Closed::value_closed))]
 pub fn load_with_modules<F: Files>(
     alloc: Global,
     files: &mut F,
@@ -54,6 +58,7 @@ pub fn load_with_modules<F: Files>(
 ) -> Result<ReadSheet, SheetFault>
     ensures sheet { IfOk result (λ read.
         IsSheet (F.state files.old).held (chars name.now) read.loaded read.sheet) }
+    ensures closed { IfOk result (λ read. is_closed read.sheet ≡ true) }
     ensures refused { IfErr result
         (IsSheetRefusedAs (chars name.now) (F.state files.old) (F.state files.new)) }
     ensures keeps { KeepsFiles (F.state files.old) (F.state files.new) }

@@ -19,4 +19,5 @@ mod modules;
 
 pub use laws::documents_can_be_read;
 pub use links::{document_content, links_of};
+pub use mentions::Mention;
 pub use modules::{collect_names, read_module, read_parts};

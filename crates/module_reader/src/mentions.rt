@@ -20,9 +20,9 @@ use std::alloc::{AllocError, Global};
 use xt_names::{ExprName, List, Name};
 use xt_tree::Attribute;
 
-/// Which names are looked for.
+/// Which names are looked for where modes and called templates are numbered (XSLT 2.0, 6.5 and 10.1).
 #[derive(Clone, Copy)]
-pub(crate) enum Mention {
+pub enum Mention {
     /// The modes of templates and of `xsl:apply-templates`.
     Modes,
     /// The names of templates that are called.

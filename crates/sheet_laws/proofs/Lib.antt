@@ -1,3 +1,3 @@
 mod Literals
-mod Lexed
-mod Types
+pub mod Lexed
+pub mod Types

@@ -1,0 +1,4 @@
+pub mod Exprs
+pub mod Ends
+pub mod Bodies
+pub mod Keys

@@ -1,0 +1,5 @@
+pub mod Nodes
+pub mod Values
+pub mod Sorts
+pub mod Heads
+pub mod Bounds

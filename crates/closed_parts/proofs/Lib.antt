@@ -1,0 +1,4 @@
+pub mod Params
+pub mod Parts
+pub mod Tops
+pub mod Sheets

@@ -1,0 +1,4 @@
+pub mod Tests
+pub mod Goods
+pub mod Patterns
+pub mod Texts

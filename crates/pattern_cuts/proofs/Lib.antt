@@ -1,0 +1,3 @@
+pub mod Cut
+pub mod Parted
+pub mod Steps

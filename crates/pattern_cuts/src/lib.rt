@@ -1,0 +1,28 @@
+//! The steps of patterns, each read of its own tokens alone (XSLT 2.0, 5.5.2). Laws alone.
+//!
+//! The grammar reads a step in front of what stands behind it. The proofs cut that off, so that
+//! what is known of whole expressions is known of each step of a pattern.
+#![tactic(auto)]
+
+ghost use Rattle.std.specs.Prelude.{◌≡◌, List, [], true};
+ghost use Rattle.expr_grammar.specs.Grammar.{Derives, Spells};
+ghost use Rattle.expr_terms.specs.declared.productions.Language.TheVariants.{Xpath as xpath};
+ghost use Rattle.expr_terms.specs.declared.productions.Nonterminal.TheVariants.{Step as step};
+ghost use Rattle.expr_terms.specs.declared.raws.Raw.{Raw};
+ghost use Rattle.expr_terms.specs.declared.tokens.Token.{Token};
+ghost use Rattle.pattern_cuts.specs.Steps.{AreAlternatives};
+ghost use Rattle.pattern_shapes.specs.Shapes.{is_pattern};
+ghost use Rattle.pattern_syntax.specs.Parts.{alternatives};
+ghost use Rattle.sound_forms.specs.Sound.{are_sound};
+
+/// Of a pattern that sound tokens spell, each alternative has the shape of one, and each step of it
+/// is read, as a step, of sound tokens alone (XSLT 2.0, 5.5.2).
+pub fn steps_of_patterns_are_read()
+    ensures { (ts : List Token) (v : Raw) → Spells xpath ts v → are_sound ts ≡ true
+        → is_pattern v ≡ true → AreAlternatives (alternatives v) }
+{}
+
+/// What is read as a step alone is a whole expression (XPath 2.0, 3.2).
+pub fn steps_are_expressions()
+    ensures { (ts : List Token) (v : Raw) → Derives xpath step ts v [] → Spells xpath ts v }
+{}
