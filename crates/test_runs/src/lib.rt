@@ -19,4 +19,4 @@ mod limits;
 #[cfg(test)]
 mod made;
 #[cfg(test)]
-mod sheet_forms;
+mod whole_sheets;
