@@ -4,4 +4,5 @@ pub mod NestLemmas
 pub mod TestLemmas
 pub mod CallLemmas
 pub mod KeyLemmas
+pub mod NameLemmas
 pub mod ReadingLemmas

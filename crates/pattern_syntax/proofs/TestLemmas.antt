@@ -18,7 +18,7 @@ use Rattle.expr_terms.specs.Nest.{Levels, levels_step, levels_of, raw_nest_of}
 use Rattle.expr_grammar.specs.Grammar.{Derives, by, Seq, end, taken, next, without, with}
 use Rattle.expr_nest.proofs.Levels.{levels-out, nest-node}
 
-leaf_flat : (t : Token) → raw_nest_of (leaf t) ≡ 0
+pub leaf_flat : (t : Token) → raw_nest_of (leaf t) ≡ 0
 leaf_flat t = ap (λ x. x.nest) (levels-out (leaf t)
     ∙ ap (λ f. levels_step (map-Raw Raw Levels levels_of f)) (outs-Leaf t))
 

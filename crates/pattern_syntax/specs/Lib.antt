@@ -1,5 +1,6 @@
 pub mod Parts
 pub mod Meant
+pub mod Names
 pub mod Readings
 pub mod Spelled
 pub mod Predicates

@@ -12,6 +12,7 @@
 
 mod alternatives;
 mod laws;
+mod names;
 mod parts;
 mod patterns;
 mod tests_of_steps;

@@ -18,6 +18,7 @@ ghost use Rattle.pattern_syntax.specs.Readings.{Answer, keyed};
 ghost use Rattle.pattern_syntax.specs.Spelled.{Parsed};
 
 use crate::alternatives::{are_allowed, patterns};
+use crate::names::parse_name;
 use crate::tests_of_steps::has_pattern_tests;
 use expr_names::ResolveFault;
 use expr_reader::{Reading, parse_as_pattern};
@@ -27,7 +28,7 @@ use expr_tokens::terms;
 use pattern_shapes::is_pattern;
 use std::alloc::Global;
 use xpath_lex::{LexFault, Token, TokenKind, tokens};
-use xt_names::{Code, List, SheetStaticCode, is_ascii_text};
+use xt_names::{Code, List, SheetStaticCode, is_ascii_text, is_ncname};
 use xt_syntax::{ParseFault, Pattern};
 
 /// How deep the predicates of a pattern may nest.
@@ -194,6 +195,9 @@ fn parse_within(
 ) -> Result<List<Pattern>, ParseFault>
     ensures { GivesText result setting.now limit text.now }
 {
+    if is_ncname(text) {
+        return parse_name(alloc, text, setting);
+    }
     match tokens(alloc, text) {
         Err(LexFault::Memory(e)) => Err(ParseFault::Memory(e)),
         Err(LexFault::BadToken(_)) => Err(ParseFault::Syntax),

@@ -1,0 +1,25 @@
+-- The pattern that is one name (XSLT 2.0, 5.5.2).
+use Rattle.std.specs.Prelude.{ℕ, List, [], ◌∷◌, false}
+use Rattle.xt_types.specs.declared.axes.Axis.TheVariants as axis
+use Rattle.xt_types.specs.declared.node_tests.Test.{Test}
+use Rattle.xt_types.specs.declared.node_tests.Test.TheVariants as test
+use Rattle.xt_types.specs.declared.node_tests.NameTest.TheVariants as name
+use Rattle.xt_syntax.specs.declared.patterns.Pattern.{Pattern}
+use Rattle.xt_syntax.specs.declared.patterns.PatternStep.{PatternStep}
+use Rattle.expr_resolve.specs.declared.setting.Setting.{Setting}
+
+-- the test for an element of this name, where names without prefix have the uri
+abbrev pub named : List ℕ → List ℕ → Test
+named uri local = test.Named (name.Exact (record { uri = uri; local = local }))
+
+-- the step to the children that pass the test
+abbrev pub child_step : Test → PatternStep
+child_step wanted = record { axis = axis.Child; test = wanted; quiet = []; deep = false }
+
+-- the alternative that has this step alone
+abbrev pub alone : PatternStep → Pattern
+alone step = record { rooted = false; steps = step ∷ [] }
+
+-- what a name means
+abbrev pub name_meant : Setting → List ℕ → List Pattern
+name_meant s local = alone (child_step (named s.prefixes.element_default local)) ∷ []
