@@ -5,8 +5,9 @@ use Rattle.std.proofs.Common.{refl, sym, subst, ap, ◌∙◌, arith}
 use Rattle.std.proofs.lemmas.Bool.{le-leb}
 use Rattle.std.proofs.lemmas.List.{append-nil}
 use Rattle.std.proofs.lemmas.Str.{chars-IsAscii, encodes-chars}
-use Rattle.std.specs.Prelude.{encode_utf8_all, Ok}
+use Rattle.std.specs.Prelude.{encode_utf8_all, Result, Ok, Err, IfOk}
 use Rattle.std.specs.List.{list_all}
+use Rattle.std.specs.declared.alloc.AllocError.{AllocError}
 use Rattle.std.specs.Str.{chars, IsUtf8}
 use Rattle.xt_names.specs.Allowed.{is_empty_text}
 use Rattle.xt_names.specs.Classes.{is_ncname_text, begins_name, is_in_ranges}
@@ -37,7 +38,7 @@ use Rattle.expr_terms.specs.declared.productions.Level.TheVariants as level
 use Rattle.expr_terms.specs.declared.productions.Production.TheVariants as production
 use Rattle.expr_terms.specs.declared.tokens.Token.{Token}
 use Rattle.expr_terms.specs.declared.raws.Raw.{Raw}
-use Rattle.expr_terms.specs.declared.raws.Raw.TheVariants.{Leaf as leaf, Node as node}
+use Rattle.expr_terms.specs.declared.raws.Raw.TheVariants.{Leaf as leaf}
 use Rattle.expr_terms.specs.declared.raws.Raw.TheVariants.{outs-Leaf, outs-Node}
 use Rattle.expr_terms.specs.declared.raws.Raw.TheFolds.{map-Raw, fold_out-Raw}
 use Rattle.expr_terms.specs.declared.raws.Raw.TheOpen.{Raw-F, Node}
@@ -65,15 +66,18 @@ use Rattle.expr_rules.specs.Known.{name_test_of}
 use Rattle.expr_rules.specs.Rules.{own_broken, end_broken, test_broken_of}
 use Rattle.expr_resolve.specs.declared.setting.Setting.{Setting}
 use Rattle.expr_resolve.specs.Folds.{Found, found_layer, found_of, value_of}
-use Rattle.expr_resolve.specs.Tables.{family_of, value_in, is_chain, is_tag, before_last}
+use Rattle.expr_resolve.specs.Tables.{own, family_of, value_in, is_chain, is_tag, before_last}
 use Rattle.expr_resolve.proofs.Follow.{found-node}
 use Rattle.pattern_shapes.specs.Shapes.{is_pattern}
 use Rattle.pattern_syntax.specs.Meant.{patterns_of, pattern_broken, step_in, have_allowed, left_out}
-use Rattle.pattern_syntax.specs.Names.{named, alone, name_meant}
+use Rattle.pattern_syntax.specs.Names.{named, alone, name_meant, is_lone_test, lone_step}
 use Rattle.pattern_syntax.specs.Parts.{has_pattern_tests}
 use Rattle.pattern_syntax.specs.Readings.{value, static, value_or, resolved, shaped, answer_of}
 use Rattle.pattern_syntax.specs.Readings.{reading_in, pattern_reading, IsLexed, GivesText}
 use Rattle.pattern_syntax.proofs.TestLemmas.{leaf_flat}
+
+never : {P : Type 0} → false ≡ true → P
+never e = cc
 
 -- the text is one word
 
@@ -170,10 +174,7 @@ word_tests cs (Some k) h e =
 
 -- it is read as a step
 
-abbrev step_raw : Token → Raw
-step_raw t = node production.TestStep (leaf t ∷ [])
-
-test_spells : (t : Token) → fits name_test_class t ≡ true → Spells xpath (t ∷ []) (step_raw t)
+test_spells : (t : Token) → fits name_test_class t ≡ true → Spells xpath (t ∷ []) (lone_step t)
 test_spells t f =
     let test = by production.NameTested refl refl (taken f end) in
     let step = by production.TestStep refl refl (next test (stop end)) in
@@ -196,11 +197,40 @@ test_spells t f =
     let listing = by production.Listing refl refl (next plain (stop end)) in
     by production.Top refl refl (next listing end)
 
-step_flat : (t : Token) → predicate_nest_of (step_raw t) ≡ 0
+step_flat : (t : Token) → predicate_nest_of (lone_step t) ≡ 0
 step_flat t =
     let h = leaf_flat t in
     let e = within-node production.TestStep (leaf t ∷ []) in
     omega arith
+
+test_within : (k : ℕ) (t : Token) → fits name_test_class t ≡ true
+    → within_by Predicates k (read_whole xpath (t ∷ [])) ≡ read.Value (lone_step t)
+test_within k t f =
+    let r : read_whole xpath (t ∷ []) ≡ Some (lone_step t) = spells_runs (test_spells t f) in
+    let h : nat_le (predicate_nest_of (lone_step t)) k ≡ true =
+    ap (λ n. nat_le n k) (step_flat t) ∙ le-leb 0 k (omega arith) in
+    ap (within_by Predicates k) r
+    ∙ ap (λ b. cond b (read.Value (lone_step t)) read.TooDeep) h
+
+lone_is : (us xs : List Token) (t : Token) → is_lone_test us ≡ true → us ≡ xs ++ t ∷ []
+    → (us ≡ t ∷ []) × (fits name_test_class t ≡ true)
+lone_is us [] t h e = (e, subst (λ ts. is_lone_test ts ≡ true) e h)
+lone_is us (x ∷ []) t h e = never (subst (λ ts. is_lone_test ts ≡ true) e h)
+lone_is us (x ∷ y ∷ xs) t h e = never (subst (λ ts. is_lone_test ts ≡ true) e h)
+
+lone_within : (k : ℕ) (us xs : List Token) (t : Token) (raw : Raw) → is_lone_test us ≡ true
+    → us ≡ xs ++ t ∷ [] → raw ≡ lone_step t
+    → within_by Predicates k (read_whole xpath us) ≡ read.Value raw
+lone_within k us xs t raw h e f =
+    let l = lone_is us xs t h e in
+    ap (λ ts. within_by Predicates k (read_whole xpath ts)) l.0 ∙ test_within k t l.1
+    ∙ ap read.Value (sym f)
+
+pub lone_made : (us xs : List Token) (t : Token) (r : Result Raw AllocError)
+    → is_lone_test us ≡ true → us ≡ xs ++ t ∷ [] → IfOk r (λ raw. raw ≡ lone_step t)
+    → IfOk r (λ raw. (k : ℕ) → within_by Predicates k (read_whole xpath us) ≡ read.Value raw)
+lone_made us xs t (Ok raw) h e f = λ k. lone_within k us xs t raw h e f
+lone_made us xs t (Err x) h e f = tt
 
 -- what the step means
 
@@ -209,24 +239,38 @@ found_leaf : (s : Setting) (t : Token) → found_of s (leaf t)
 found_leaf s t = fold_out-Raw _ _ (leaf t)
     ∙ ap (λ (f : Raw-F Raw). found_layer s (map-Raw Raw Found (found_of s) f)) (outs-Leaf t)
 
+name_tests : (s : Setting) (cs : List ℕ) (t : Token)
+    → written_test_in t ≡ test.Exact (record { prefix = []; local = cs })
+    → test_on s.prefixes.bound s.prefixes.element_default axis.Child (meant.Token t)
+    ≡ named s.prefixes.element_default cs
+unfolding test_on defaulted default_in default_name name_test_of name_test uri_in is_empty_text
+name_tests s cs t e = rw e refl
+
+name_unbroken : (s : Setting) (cs : List ℕ) (t : Token)
+    → written_test_in t ≡ test.Exact (record { prefix = []; local = cs })
+    → own s production.TestStep true (meant.Token t) ≡ []
+unfolding own_broken test_broken_of test_broken undeclared_in is_empty_text
+name_unbroken s cs t e = rw e refl
+
 step_found : (s : Setting) (cs : List ℕ) (t : Token)
     → written_test_in t ≡ test.Exact (record { prefix = []; local = cs })
-    → found_of s (step_raw t) ≡ record {
+    → found_of s (lone_step t) ≡ record {
       value = meant.Expr (expr.Step axis.Child (named s.prefixes.element_default cs) []);
       broken = [];
     }
-unfolding is_tag is_chain before_last family_of value_in path_value axis_for test_on defaulted default_in default_name name_test_of name_test uri_in own_broken test_broken_of test_broken undeclared_in end_broken is_empty_text
+unfolding is_tag is_chain before_last family_of value_in path_value axis_for end_broken
 step_found s cs t e = found-node s production.TestStep (leaf t ∷ [])
-    ∙ ap (λ f. found_layer s (Node production.TestStep (f ∷ []))) (found_leaf s t) ∙ rw e refl
+    ∙ ap (λ f. found_layer s (Node production.TestStep (f ∷ []))) (found_leaf s t)
+    ∙ rw (name_tests s cs t e, name_unbroken s cs t e) refl
 
 step_means : (s : Setting) (cs : List ℕ) (t : Token)
     → written_test_in t ≡ test.Exact (record { prefix = []; local = cs })
-    → patterns_of s (step_raw t) ≡ name_meant s cs
+    → patterns_of s (lone_step t) ≡ name_meant s cs
 unfolding expr_of
 step_means s cs t e =
     let o = outs-Node production.TestStep (leaf t ∷ []) in
-    let same : patterns_of s (step_raw t)
-    ≡ alone (step_in false (out-Expr (expr_of (value_of s (step_raw t))))) ∷ [] =
+    let same : patterns_of s (lone_step t)
+    ≡ alone (step_in false (out-Expr (expr_of (value_of s (lone_step t))))) ∷ [] =
     simp (o) refl in
     same
     ∙ ap (λ (f : Found). alone (step_in false (out-Expr (expr_of f.value))) ∷ []) (step_found s cs
@@ -236,24 +280,24 @@ step_means s cs t e =
 
 step_unbroken : (s : Setting) (cs : List ℕ) (t : Token)
     → written_test_in t ≡ test.Exact (record { prefix = []; local = cs })
-    → pattern_broken s (step_raw t) ≡ []
+    → pattern_broken s (lone_step t) ≡ []
 step_unbroken s cs t e =
     let o = outs-Node production.TestStep (leaf t ∷ []) in
-    let same : pattern_broken s (step_raw t) ≡ (found_of s (step_raw t)).broken ++ [] ++ [] =
+    let same : pattern_broken s (lone_step t) ≡ (found_of s (lone_step t)).broken ++ [] ++ [] =
     simp (o) refl in
     same ∙ ap (λ (f : Found). f.broken ++ [] ++ []) (step_found s cs t e)
 
-step_tested : (t : Token) → has_pattern_tests (step_raw t) ≡ true
+step_tested : (t : Token) → has_pattern_tests (lone_step t) ≡ true
 step_tested t = simp (outs-Node production.TestStep (leaf t ∷ []), outs-Leaf t) refl
 
-step_pattern : (t : Token) → is_pattern (step_raw t) ≡ true
+step_pattern : (t : Token) → is_pattern (lone_step t) ≡ true
 step_pattern t = rw (outs-Node production.TestStep (leaf t ∷ [])) refl
 
 step_shaped : (s : Setting) (cs : List ℕ) (t : Token)
     → written_test_in t ≡ test.Exact (record { prefix = []; local = cs })
-    → shaped s (step_raw t) ≡ value (name_meant s cs)
+    → shaped s (lone_step t) ≡ value (name_meant s cs)
 step_shaped s cs t e =
-    let v = step_raw t in
+    let v = lone_step t in
     ap (λ b. cond b (resolved s v) (static (SheetStatic XTSE0340))) (step_pattern t)
     ∙ ap (λ xs. value_or (first (xs ++ left_out s v)) (patterns_of s v)) (step_unbroken s cs t e)
     ∙ ap (λ b. value_or (first (cond (b && list_all have_allowed (patterns_of s v)) [] (SheetStatic
@@ -265,13 +309,7 @@ step_shaped s cs t e =
 
 name_read : (s : Setting) (k : ℕ) (cs : List ℕ) (t : Token) → IsTest cs t
     → reading_in s k (Some (t ∷ [])) ≡ value (name_meant s cs)
-name_read s k cs t i =
-    let r : read_whole xpath (t ∷ []) ≡ Some (step_raw t) = spells_runs (test_spells t i.fits) in
-    let h : nat_le (predicate_nest_of (step_raw t)) k ≡ true =
-    ap (λ n. nat_le n k) (step_flat t) ∙ le-leb 0 k (omega arith) in
-    ap (λ o. answer_of s (within_by Predicates k o)) r
-    ∙ ap (λ b. answer_of s (cond b (read.Value (step_raw t)) read.TooDeep)) h
-    ∙ step_shaped s cs t i.written
+name_read s k cs t i = ap (answer_of s) (test_within k t i.fits) ∙ step_shaped s cs t i.written
 
 word_read : (s : Setting) (k : ℕ) (cs : List ℕ) → is_ncname_text cs ≡ true
     → pattern_reading s k (Some (word cs ∷ [])) ≡ value (name_meant s cs)

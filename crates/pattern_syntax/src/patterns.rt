@@ -1,5 +1,5 @@
 // From a text to the alternatives of its pattern.
-ghost use Rattle.std.specs.Prelude.{◌≡◌, ◌∷◌, ◌&&◌, [], map, if◌then◌else◌, List as Items};
+ghost use Rattle.std.specs.Prelude.{◌≡◌, ◌∷◌, ◌&&◌, [], map, if◌then◌else◌, List as Items, ℕ, true};
 ghost use Rattle.std.specs.List.{list_all};
 ghost use Rattle.std.specs.Str.{chars};
 ghost use Rattle.xt_names.specs.declared.codes.Code.{Code};
@@ -15,10 +15,11 @@ ghost use Rattle.pattern_syntax.specs.Readings.{Gives, GivesText, resolved, shap
 ghost use Rattle.pattern_syntax.specs.Readings.{reading_of, reading_in, reading_tokens};
 ghost use Rattle.pattern_syntax.specs.Readings.{begins_with_key, is_key_text, is_open_text};
 ghost use Rattle.pattern_syntax.specs.Readings.{Answer, keyed};
+ghost use Rattle.pattern_syntax.specs.Names.{is_lone_test};
 ghost use Rattle.pattern_syntax.specs.Spelled.{Parsed};
 
 use crate::alternatives::{are_allowed, patterns};
-use crate::names::parse_name;
+use crate::names::{is_lone_test, lone_raw, parse_name};
 use crate::tests_of_steps::has_pattern_tests;
 use expr_names::ResolveFault;
 use expr_reader::{Reading, parse_as_pattern};
@@ -110,6 +111,17 @@ fn meant(alloc: Global, s: &Setting, raw: Raw) -> Result<List<Pattern>, ParseFau
     as_parsed(found)
 }
 
+/// What one test of names is read as: a step.
+fn read_test(alloc: Global, s: &Setting, terms: Vec<Term>) -> Result<List<Pattern>, ParseFault>
+    requires { is_lone_test terms.items ≡ true }
+    ensures { (limit : ℕ) → Gives result (reading_of s.now limit terms.items) }
+{
+    match lone_raw(alloc, terms) {
+        Err(e) => Err(ParseFault::Memory(e)),
+        Ok(raw) => meant(alloc, s, raw),
+    }
+}
+
 /// What the tokens of the grammar are read as.
 fn read(
     alloc: Global,
@@ -119,6 +131,9 @@ fn read(
 ) -> Result<List<Pattern>, ParseFault>
     ensures { Gives result (reading_of s.now limit terms.items) }
 {
+    if is_lone_test(terms.as_slice()) {
+        return read_test(alloc, s, terms);
+    }
     let found = parse_as_pattern(alloc, Language::Xpath, terms.as_slice(), limit);
     drop(terms);
     match found {
