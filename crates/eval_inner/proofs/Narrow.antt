@@ -4,4 +4,4 @@ use Rattle.eval_inner.specs.Inner.{Pre, CanEvaluate}
 
 pub narrow : (pre : Pre) (n m : ℕ) → CanEvaluate pre n → m ≤ n → CanEvaluate pre m
 unfolding CanEvaluate
-narrow pre n m can le = λ env next e h. can env next e (omega (arith, h, le))
+narrow pre n m can le = λ env next e value h. can env next e value (omega (arith, h, le))

@@ -4,6 +4,7 @@ ghost use Rattle.xt_tree.specs.declared.trees.Tree.TheVariants.{Text as text_tre
 ghost use Rattle.node_builder.specs.Trees.{element_of};
 ghost use Rattle.node_builder.specs.declared.kinds.Duplicates.TheVariants.{Refuse};
 ghost use Rattle.eval_scopes.specs.Answers.{Answers};
+ghost use Rattle.value_slots.specs.Slots.{Leaves};
 ghost use Rattle.eval_scopes.specs.Scopes.{env_of, program_of};
 ghost use Rattle.expr_eval.specs.Serves.{Serves};
 ghost use Rattle.eval_steps.specs.Parts.{attr_outcome, part_outcome};
@@ -11,17 +12,18 @@ ghost use Rattle.outcomes.specs.Outcome.{Ends, for_each};
 ghost use Rattle.expr_meaning.specs.Making.{direct_made, direct_attribute, attribute_text};
 ghost use Rattle.expr_meaning.specs.Meaning.{outcome};
 ghost use Rattle.expr_meaning.specs.Making.{attribute_part, content_part, enclosed, literal_node};
-ghost use Rattle.expr_meaning.specs.Making.{made};
+ghost use Rattle.expr_meaning.specs.Making.{joined_atoms, made};
 
 use crate::hosts::{Callee, Host};
 use eval_nodes::{joined_atoms, make_element, spaced_text, text_node};
 use eval_scopes::{Env, EvalFault};
 use eval_steps::push_attribute;
-use eval_values::{append, one};
+use eval_values::one;
 use expr_names::no_text;
 use std::alloc::Global;
+use value_slots::{clear, join, put};
 use xdm_items::ItemList;
-use xt_names::{ExprName, Name, Text, TextBuilder};
+use xt_names::{ExprName, List, Name, Text, TextBuilder};
 use xt_syntax::{DirectAttr, Expr, Part};
 
 impl<'a, G: Callee, F: Fn(&ExprName, &[ItemList], &mut u64) -> Result<ItemList, EvalFault>> Host<
@@ -37,19 +39,21 @@ impl<'a, G: Callee, F: Fn(&ExprName, &[ItemList], &mut u64) -> Result<ItemList, 
         env: &Env,
         next: &mut u64,
         name: &Name,
-        attributes: &[DirectAttr],
-        parts: &[Part],
-    ) -> Result<ItemList, EvalFault>
+        attributes: &List<DirectAttr>,
+        parts: &List<Part>,
+        value: &mut ItemList,
+    ) -> Result<(), EvalFault>
         requires callable { F.IsAlwaysCallable self.now.calls }
         requires serves { Serves (F.post self.now.calls) (G.calls self.now.given) }
         ensures { let p = program_of self.now.fixed (G.calls self.now.given)
             (G.keys self.now.given) in
-            Answers result next.new (direct_made name.now (map (attr_outcome p) attributes.now)
+            Leaves result value.new next.new (direct_made name.now (map (attr_outcome p) attributes.now)
             (map (part_outcome p) parts.now) (env_of env.now) next.old) }
     {
-        let list = self.eval_attributes(env, next, attributes)?;
-        let content = self.eval_content(env, next, parts)?;
-        make_direct(self.alloc, next, name, list, content)
+        self.eval_attributes(env, next, attributes.as_slice(), value)?;
+        let mut content = ItemList::new(self.alloc);
+        self.eval_content(env, next, parts.as_slice(), &mut content)?;
+        make_direct(self.alloc, next, name, &mut content, value)
     }
 
     /// The attributes of a direct element (XQuery 1.0, 3.7.1.1).
@@ -60,20 +64,21 @@ impl<'a, G: Callee, F: Fn(&ExprName, &[ItemList], &mut u64) -> Result<ItemList, 
         env: &Env,
         next: &mut u64,
         attributes: &[DirectAttr],
-    ) -> Result<ItemList, EvalFault>
+        list: &mut ItemList,
+    ) -> Result<(), EvalFault>
         requires callable { F.IsAlwaysCallable self.now.calls }
         requires serves { Serves (F.post self.now.calls) (G.calls self.now.given) }
         ensures { let p = program_of self.now.fixed (G.calls self.now.given)
             (G.keys self.now.given) in
-            Answers result next.new (for_each (direct_attribute (env_of env.now))
+            Leaves result list.new next.new (for_each (direct_attribute (env_of env.now))
             (map (attr_outcome p) attributes.now) next.old) }
     {
-        let mut list = ItemList::new(self.alloc);
+        clear(self.alloc, list);
         for attribute in attributes {
             let text = self.eval_value(env, next, attribute.parts.get().as_slice())?;
-            push_attribute(self.alloc, &mut list, &attribute.name, text)?;
+            push_attribute(self.alloc, list, &attribute.name, text)?;
         }
-        Ok(list)
+        Ok(())
     }
 
     /// The value of a direct attribute (XQuery 1.0, 3.7.1.1).
@@ -128,26 +133,27 @@ impl<'a, G: Callee, F: Fn(&ExprName, &[ItemList], &mut u64) -> Result<ItemList, 
 
     /// The content of a direct element (XQuery 1.0, 3.7.1.3).
     #[cycle(eval)]
-    #[inline(never)]
     pub(crate) fn eval_content(
         &self,
         env: &Env,
         next: &mut u64,
         parts: &[Part],
-    ) -> Result<ItemList, EvalFault>
+        list: &mut ItemList,
+    ) -> Result<(), EvalFault>
         requires callable { F.IsAlwaysCallable self.now.calls }
         requires serves { Serves (F.post self.now.calls) (G.calls self.now.given) }
         ensures { let p = program_of self.now.fixed (G.calls self.now.given)
             (G.keys self.now.given) in
-            Answers result next.new (for_each (content_part (env_of env.now))
+            Leaves result list.new next.new (for_each (content_part (env_of env.now))
             (map (part_outcome p) parts.now) next.old) }
     {
-        let mut list = ItemList::new(self.alloc);
+        clear(self.alloc, list);
+        let mut more = ItemList::new(self.alloc);
         for part in parts {
-            let more = self.eval_part(env, next, part)?;
-            list = append(list, more)?;
+            self.eval_part(env, next, part, &mut more)?;
+            join(self.alloc, list, &mut more)?;
         }
-        Ok(list)
+        Ok(())
     }
 
     /// A part of the content of a direct element (XQuery 1.0, 3.7.1.3).
@@ -158,18 +164,19 @@ impl<'a, G: Callee, F: Fn(&ExprName, &[ItemList], &mut u64) -> Result<ItemList, 
         env: &Env,
         next: &mut u64,
         part: &Part,
-    ) -> Result<ItemList, EvalFault>
+        value: &mut ItemList,
+    ) -> Result<(), EvalFault>
         requires callable { F.IsAlwaysCallable self.now.calls }
         requires serves { Serves (F.post self.now.calls) (G.calls self.now.given) }
         ensures { let p = program_of self.now.fixed (G.calls self.now.given)
             (G.keys self.now.given) in
-            Answers result next.new (content_part (env_of env.now) (part_outcome p part.now)
+            Leaves result value.new next.new (content_part (env_of env.now) (part_outcome p part.now)
             next.old) }
     {
         match part {
-            Part::Chars(text) => characters(self.alloc, text),
-            Part::Enclosed(e) => self.eval_enclosed(env, next, e.get()),
-            Part::Child(e) => self.eval(env, next, e.get()),
+            Part::Chars(text) => put_characters(self.alloc, text, value),
+            Part::Enclosed(e) => self.eval_enclosed(env, next, e.get(), value),
+            Part::Child(e) => self.eval_into(env, next, e.get(), value),
         }
     }
 
@@ -181,39 +188,51 @@ impl<'a, G: Callee, F: Fn(&ExprName, &[ItemList], &mut u64) -> Result<ItemList, 
         env: &Env,
         next: &mut u64,
         e: &Expr,
-    ) -> Result<ItemList, EvalFault>
+        value: &mut ItemList,
+    ) -> Result<(), EvalFault>
         requires callable { F.IsAlwaysCallable self.now.calls }
         requires serves { Serves (F.post self.now.calls) (G.calls self.now.given) }
         ensures { let p = program_of self.now.fixed (G.calls self.now.given)
             (G.keys self.now.given) in
-            Answers result next.new (content_part (env_of env.now) (enclosed (outcome p e.now))
+            Leaves result value.new next.new (content_part (env_of env.now) (enclosed (outcome p e.now))
             next.old) }
     {
-        let list = self.eval(env, next, e)?;
-        Ok(joined_atoms(self.alloc, &list)?)
+        self.eval_into(env, next, e, value)?;
+        join_atoms(self.alloc, value)
     }
 }
 
-/// The text of the content of a direct element (XQuery 1.0, 3.7.1.3).
+/// Puts the text of the content of a direct element (XQuery 1.0, 3.7.1.3).
 #[inline(never)]
-fn characters(alloc: Global, text: &Text) -> Result<ItemList, EvalFault>
-    ensures { (k : ℕ) → Answers result k (Ends (literal_node (text_tree text.now) ∷ []) k) }
+fn put_characters(alloc: Global, text: &Text, value: &mut ItemList) -> Result<(), EvalFault>
+    ensures { (k : ℕ) → Leaves result value.new k
+        (Ends (literal_node (text_tree text.now) ∷ []) k) }
 {
-    Ok(one(alloc, text_node(alloc, text.copy()?)?)?)
+    *value = one(alloc, text_node(alloc, text.copy()?)?)?;
+    Ok(())
 }
 
-/// The element with these attributes and this content (XQuery 1.0, 3.7.1).
+/// Joins atoms that stand next to each other to texts (XQuery 1.0, 3.7.1.3).
+#[inline(never)]
+fn join_atoms(alloc: Global, value: &mut ItemList) -> Result<(), EvalFault>
+    ensures { (k : ℕ) → Leaves result value.new k (Ends (joined_atoms value.old) k) }
+{
+    *value = joined_atoms(alloc, &*value)?;
+    Ok(())
+}
+
+/// Puts the element with this content in place of its attributes (XQuery 1.0, 3.7.1).
 #[inline(never)]
 fn make_direct(
     alloc: Global,
     next: &mut u64,
     name: &Name,
-    attributes: ItemList,
-    content: ItemList,
-) -> Result<ItemList, EvalFault>
-    ensures { Answers result next.new (made (element_of Refuse name.now (attributes ++ content))
-        next.old) }
+    content: &mut ItemList,
+    value: &mut ItemList,
+) -> Result<(), EvalFault>
+    ensures { Leaves result value.new next.new
+        (made (element_of Refuse name.now (value.old ++ content.old)) next.old) }
 {
-    let all = append(attributes, content)?;
-    make_element(alloc, next, name.copy()?, &all)
+    join(alloc, value, content)?;
+    put(make_element(alloc, next, name.copy()?, &*value), value)
 }

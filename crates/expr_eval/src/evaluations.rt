@@ -1,6 +1,7 @@
 // The value of an expression, form by form.
 ghost use Rattle.std.specs.Prelude.{map};
 ghost use Rattle.eval_scopes.specs.Answers.{Answers};
+ghost use Rattle.value_slots.specs.Slots.{Leaves};
 ghost use Rattle.eval_scopes.specs.Scopes.{env_of, program_of};
 ghost use Rattle.expr_eval.specs.Serves.{Serves};
 ghost use Rattle.expr_meaning.specs.Meaning.{outcome};
@@ -9,10 +10,12 @@ ghost use Rattle.operator_values.specs.Types.{instance_value, treated_value};
 ghost use Rattle.eval_values.specs.Operators.{value_of_one, value_of_two};
 
 use crate::hosts::{Callee, Host};
-use eval_scopes::{Env, EvalFault, context_item, document_root, variable_list};
-use eval_steps::{literal_integer, literal_text, truth_list};
-use eval_values::{OneOperator, Operator, append, apply, apply_to_one};
-use operator_values::{instance, treated};
+use eval_scopes::{Env, EvalFault};
+use eval_values::{OneOperator, Operator, append};
+use value_slots::{
+    apply_alone, apply_to, check_instance, put_context, put_integer, put_root, put_text,
+    put_variable, treat,
+};
 use xdm_items::ItemList;
 use xt_names::ExprName;
 use xt_syntax::{Expr, Flwor};
@@ -27,7 +30,6 @@ impl<'a, G: Callee, F: Fn(&ExprName, &[ItemList], &mut u64) -> Result<ItemList, 
     /// 3). Errors come by their codes exactly where the meaning of the expression has them, in its
     /// order.
     #[cycle(eval)]
-    #[inline(never)]
     pub fn eval(&self, env: &Env, next: &mut u64, e: &Expr) -> Result<ItemList, EvalFault>
         requires callable { F.IsAlwaysCallable self.now.calls }
         requires serves { Serves (F.post self.now.calls) (G.calls self.now.given) }
@@ -35,104 +37,99 @@ impl<'a, G: Callee, F: Fn(&ExprName, &[ItemList], &mut u64) -> Result<ItemList, 
             (G.keys self.now.given) in
             Answers result next.new (outcome p e.now (env_of env.now) next.old) }
     {
+        let mut value = ItemList::new(self.alloc);
+        self.eval_into(env, next, e, &mut value)?;
+        Ok(value)
+    }
+
+    /// Puts the value of an expression in place of what stands there, form by form (XPath 2.0, 3;
+    /// XQuery 1.0, 3).
+    #[cycle(eval)]
+    #[inline(never)]
+    pub(crate) fn eval_into(
+        &self,
+        env: &Env,
+        next: &mut u64,
+        e: &Expr,
+        value: &mut ItemList,
+    ) -> Result<(), EvalFault>
+        requires callable { F.IsAlwaysCallable self.now.calls }
+        requires serves { Serves (F.post self.now.calls) (G.calls self.now.given) }
+        ensures { let p = program_of self.now.fixed (G.calls self.now.given)
+            (G.keys self.now.given) in
+            Leaves result value.new next.new (outcome p e.now (env_of env.now) next.old) }
+    {
         let alloc = self.alloc;
         match e {
-            Expr::Int(number) => literal_integer(alloc, *number),
-            Expr::Str(text) => literal_text(alloc, text),
-            Expr::Var(name) => variable_list(alloc, &self.fixed, env, name),
-            Expr::Context => context_item(alloc, env),
-            Expr::Root => document_root(alloc, env),
-            Expr::Comma(all) => self.eval_comma(env, next, all.get().as_slice()),
-            Expr::Or(all) => {
-                truth_list(
-                    alloc,
-                    self.eval_first(env, next, true, all.get().as_slice()),
-                )
+            Expr::Int(number) => put_integer(alloc, *number, value),
+            Expr::Str(text) => put_text(alloc, text, value),
+            Expr::Var(name) => put_variable(alloc, &self.fixed, env, name, value),
+            Expr::Context => put_context(alloc, env, value),
+            Expr::Root => put_root(alloc, env, value),
+            Expr::Comma(all) => self.eval_comma(env, next, all.get().as_slice(), value),
+            Expr::Or(all) => self.eval_or(env, next, all.get().as_slice(), value),
+            Expr::And(all) => self.eval_and(env, next, all.get().as_slice(), value),
+            Expr::If(arms, other) => {
+                self.eval_if(env, next, arms.get().as_slice(), other.get(), value)
             }
-            Expr::And(all) => {
-                truth_list(
-                    alloc,
-                    self.eval_first(env, next, false, all.get().as_slice()),
-                )
-            }
-            Expr::If(arms, other) => self.eval_if(env, next, arms.get().as_slice(), other.get()),
-            Expr::Flwor(parts) => self.eval_flwor(env, next, parts),
+            Expr::Flwor(parts) => self.eval_flwor(env, next, parts, value),
             Expr::Quant(every, binds, test) => {
-                let some = self.eval_binds(env, next, !*every, binds.get().as_slice(), test.get());
-                truth_list(alloc, some)
+                self.eval_quantifier(env, next, *every, binds.get().as_slice(), test.get(), value)
             }
-            Expr::General(op, a, b) => self.eval_two(
-                env,
-                next,
-                Operator::General(*op),
-                a.get(),
-                b.get(),
-            ),
-            Expr::Value(op, a, b) => self.eval_two(
-                env,
-                next,
-                Operator::Value(*op),
-                a.get(),
-                b.get(),
-            ),
-            Expr::Is(a, b) => self.eval_two(env, next, Operator::Is, a.get(), b.get()),
-            Expr::Before(a, b) => self.eval_two(env, next, Operator::Before, a.get(), b.get()),
-            Expr::After(a, b) => self.eval_two(env, next, Operator::After, a.get(), b.get()),
-            Expr::Range(a, b) => self.eval_two(env, next, Operator::Range, a.get(), b.get()),
-            Expr::Arith(op, a, b) => self.eval_two(
-                env,
-                next,
-                Operator::Arith(*op),
-                a.get(),
-                b.get(),
-            ),
-            Expr::Minus(a) => self.eval_one(env, next, OneOperator::Minus, a.get()),
-            Expr::Plus(a) => self.eval_one(env, next, OneOperator::Plus, a.get()),
-            Expr::Union(a, b) => self.eval_two(env, next, Operator::Union, a.get(), b.get()),
-            Expr::Intersect(a, b) => self.eval_two(
-                env,
-                next,
-                Operator::Intersect,
-                a.get(),
-                b.get(),
-            ),
-            Expr::Except(a, b) => self.eval_two(env, next, Operator::Except, a.get(), b.get()),
-            Expr::InstanceOf(a, of) => self.eval_instance(env, next, a.get(), of),
-            Expr::Treat(a, to) => self.eval_treat(env, next, a.get(), to),
+            Expr::General(op, a, b) => {
+                self.eval_two(env, next, Operator::General(*op), a.get(), b.get(), value)
+            }
+            Expr::Value(op, a, b) => {
+                self.eval_two(env, next, Operator::Value(*op), a.get(), b.get(), value)
+            }
+            Expr::Is(a, b) => self.eval_two(env, next, Operator::Is, a.get(), b.get(), value),
+            Expr::Before(a, b) => {
+                self.eval_two(env, next, Operator::Before, a.get(), b.get(), value)
+            }
+            Expr::After(a, b) => self.eval_two(env, next, Operator::After, a.get(), b.get(), value),
+            Expr::Range(a, b) => self.eval_two(env, next, Operator::Range, a.get(), b.get(), value),
+            Expr::Arith(op, a, b) => {
+                self.eval_two(env, next, Operator::Arith(*op), a.get(), b.get(), value)
+            }
+            Expr::Minus(a) => self.eval_one(env, next, OneOperator::Minus, a.get(), value),
+            Expr::Plus(a) => self.eval_one(env, next, OneOperator::Plus, a.get(), value),
+            Expr::Union(a, b) => self.eval_two(env, next, Operator::Union, a.get(), b.get(), value),
+            Expr::Intersect(a, b) => {
+                self.eval_two(env, next, Operator::Intersect, a.get(), b.get(), value)
+            }
+            Expr::Except(a, b) => {
+                self.eval_two(env, next, Operator::Except, a.get(), b.get(), value)
+            }
+            Expr::InstanceOf(a, of) => self.eval_instance(env, next, a.get(), of, value),
+            Expr::Treat(a, to) => self.eval_treat(env, next, a.get(), to, value),
             Expr::Castable(a, to, empty) => {
-                self.eval_one(env, next, OneOperator::Castable(*to, *empty), a.get())
+                self.eval_one(
+                    env,
+                    next,
+                    OneOperator::Castable(*to, *empty),
+                    a.get(),
+                    value,
+                )
             }
-            Expr::Cast(a, to, empty) => self.eval_one(
-                env,
-                next,
-                OneOperator::Cast(*to, *empty),
-                a.get(),
-            ),
-            Expr::Slash(a, b) => self.eval_slash(env, next, e, a.get(), b.get()),
-            Expr::Step(axis, test, tests) => self.eval_step(
-                env,
-                next,
-                e,
-                *axis,
-                test,
-                tests.get().as_slice(),
-            ),
-            Expr::Filter(of, tests) => self.eval_filter(
-                env,
-                next,
-                of.get(),
-                tests.get().as_slice(),
-            ),
-            Expr::Call(name, args) => self.eval_call(env, next, name, args.get().as_slice()),
-            Expr::ElemC(name, content) => self.eval_element(env, next, name, content.get()),
-            Expr::AttrC(name, value) => self.eval_attribute(env, next, name, value.get()),
-            Expr::DocC(content) => self.eval_document(env, next, content.get()),
-            Expr::TextC(value) => self.eval_text(env, next, value.get()),
-            Expr::CommentC(value) => self.eval_comment(env, next, value.get()),
-            Expr::PiC(name, value) => self.eval_pi(env, next, name, value.get()),
+            Expr::Cast(a, to, empty) => {
+                self.eval_one(env, next, OneOperator::Cast(*to, *empty), a.get(), value)
+            }
+            Expr::Slash(a, b) => self.eval_slash(env, next, e, a.get(), b.get(), value),
+            Expr::Step(axis, test, tests) => {
+                self.eval_step(env, next, e, *axis, test, tests.get(), value)
+            }
+            Expr::Filter(of, tests) => {
+                self.eval_filter(env, next, of.get(), tests.get().as_slice(), value)
+            }
+            Expr::Call(name, args) => self.eval_call(env, next, name, args.get().as_slice(), value),
+            Expr::ElemC(name, content) => self.eval_element(env, next, name, content.get(), value),
+            Expr::AttrC(name, of) => self.eval_attribute(env, next, name, of.get(), value),
+            Expr::DocC(content) => self.eval_document(env, next, content.get(), value),
+            Expr::TextC(of) => self.eval_text(env, next, of.get(), value),
+            Expr::CommentC(of) => self.eval_comment(env, next, of.get(), value),
+            Expr::PiC(name, of) => self.eval_pi(env, next, name, of.get(), value),
             Expr::Direct(name, attributes, parts) => {
-                let attributes = attributes.get().as_slice();
-                self.eval_direct(env, next, name, attributes, parts.get().as_slice())
+                self.eval_direct(env, next, name, attributes.get(), parts.get(), value)
             }
         }
     }
@@ -145,19 +142,21 @@ impl<'a, G: Callee, F: Fn(&ExprName, &[ItemList], &mut u64) -> Result<ItemList, 
         env: &Env,
         next: &mut u64,
         all: &[Expr],
-    ) -> Result<ItemList, EvalFault>
+        value: &mut ItemList,
+    ) -> Result<(), EvalFault>
         requires callable { F.IsAlwaysCallable self.now.calls }
         requires serves { Serves (F.post self.now.calls) (G.calls self.now.given) }
         ensures { let p = program_of self.now.fixed (G.calls self.now.given)
             (G.keys self.now.given) in
-            Answers result next.new (comma_of (map (outcome p) all.now) (env_of env.now) next.old) }
+            Leaves result value.new next.new (comma_of (map (outcome p) all.now) (env_of env.now) next.old) }
     {
         let mut list = ItemList::new(self.alloc);
         for e in all {
             let more = self.eval(env, next, e)?;
             list = append(list, more)?;
         }
-        Ok(list)
+        *value = list;
+        Ok(())
     }
 
     /// An operator on one value (XPath 2.0, 3.4 and 3.10).
@@ -169,16 +168,17 @@ impl<'a, G: Callee, F: Fn(&ExprName, &[ItemList], &mut u64) -> Result<ItemList, 
         next: &mut u64,
         operator: OneOperator,
         a: &Expr,
-    ) -> Result<ItemList, EvalFault>
+        value: &mut ItemList,
+    ) -> Result<(), EvalFault>
         requires callable { F.IsAlwaysCallable self.now.calls }
         requires serves { Serves (F.post self.now.calls) (G.calls self.now.given) }
         ensures { let p = program_of self.now.fixed (G.calls self.now.given)
             (G.keys self.now.given) in
-            Answers result next.new (unary (value_of_one operator) (outcome p a.now)
+            Leaves result value.new next.new (unary (value_of_one operator) (outcome p a.now)
             (env_of env.now) next.old) }
     {
-        let operand = self.eval(env, next, a)?;
-        Ok(apply_to_one(self.alloc, operator, &operand)?)
+        self.eval_into(env, next, a, value)?;
+        apply_alone(self.alloc, operator, value)
     }
 
     /// `instance of` (XPath 2.0, 3.10.1).
@@ -190,16 +190,17 @@ impl<'a, G: Callee, F: Fn(&ExprName, &[ItemList], &mut u64) -> Result<ItemList, 
         next: &mut u64,
         a: &Expr,
         of: &SeqType,
-    ) -> Result<ItemList, EvalFault>
+        value: &mut ItemList,
+    ) -> Result<(), EvalFault>
         requires callable { F.IsAlwaysCallable self.now.calls }
         requires serves { Serves (F.post self.now.calls) (G.calls self.now.given) }
         ensures { let p = program_of self.now.fixed (G.calls self.now.given)
             (G.keys self.now.given) in
-            Answers result next.new (unary (instance_value of.now) (outcome p a.now)
+            Leaves result value.new next.new (unary (instance_value of.now) (outcome p a.now)
             (env_of env.now) next.old) }
     {
-        let operand = self.eval(env, next, a)?;
-        Ok(instance(self.alloc, &operand, of)?)
+        self.eval_into(env, next, a, value)?;
+        check_instance(self.alloc, of, value)
     }
 
     /// `treat as` (XPath 2.0, 3.10.5).
@@ -211,16 +212,17 @@ impl<'a, G: Callee, F: Fn(&ExprName, &[ItemList], &mut u64) -> Result<ItemList, 
         next: &mut u64,
         a: &Expr,
         to: &SeqType,
-    ) -> Result<ItemList, EvalFault>
+        value: &mut ItemList,
+    ) -> Result<(), EvalFault>
         requires callable { F.IsAlwaysCallable self.now.calls }
         requires serves { Serves (F.post self.now.calls) (G.calls self.now.given) }
         ensures { let p = program_of self.now.fixed (G.calls self.now.given)
             (G.keys self.now.given) in
-            Answers result next.new (unary (treated_value to.now) (outcome p a.now)
+            Leaves result value.new next.new (unary (treated_value to.now) (outcome p a.now)
             (env_of env.now) next.old) }
     {
-        let operand = self.eval(env, next, a)?;
-        Ok(treated(operand, to)?)
+        self.eval_into(env, next, a, value)?;
+        treat(self.alloc, to, value)
     }
 
     /// An operator on two values (XPath 2.0, 3.3 to 3.5).
@@ -233,37 +235,18 @@ impl<'a, G: Callee, F: Fn(&ExprName, &[ItemList], &mut u64) -> Result<ItemList, 
         operator: Operator,
         a: &Expr,
         b: &Expr,
-    ) -> Result<ItemList, EvalFault>
+        value: &mut ItemList,
+    ) -> Result<(), EvalFault>
         requires callable { F.IsAlwaysCallable self.now.calls }
         requires serves { Serves (F.post self.now.calls) (G.calls self.now.given) }
         ensures { let p = program_of self.now.fixed (G.calls self.now.given)
             (G.keys self.now.given) in
-            Answers result next.new (binary (value_of_two operator) (outcome p a.now)
+            Leaves result value.new next.new (binary (value_of_two operator) (outcome p a.now)
             (outcome p b.now) (env_of env.now) next.old) }
     {
-        let left = self.eval(env, next, a)?;
-        self.eval_right(env, next, operator, left, b)
-    }
-
-    /// The same, once the left operand is evaluated.
-    #[cycle(eval)]
-    #[inline(never)]
-    pub(crate) fn eval_right(
-        &self,
-        env: &Env,
-        next: &mut u64,
-        operator: Operator,
-        left: ItemList,
-        b: &Expr,
-    ) -> Result<ItemList, EvalFault>
-        requires callable { F.IsAlwaysCallable self.now.calls }
-        requires serves { Serves (F.post self.now.calls) (G.calls self.now.given) }
-        ensures { let p = program_of self.now.fixed (G.calls self.now.given)
-            (G.keys self.now.given) in
-            Answers result next.new (unary (value_of_two operator left) (outcome p b.now)
-            (env_of env.now) next.old) }
-    {
-        let right = self.eval(env, next, b)?;
-        Ok(apply(self.alloc, operator, &left, &right)?)
+        self.eval_into(env, next, a, value)?;
+        let mut right = ItemList::new(self.alloc);
+        self.eval_into(env, next, b, &mut right)?;
+        apply_to(self.alloc, operator, &right, value)
     }
 }

@@ -1,11 +1,14 @@
 // The program that expressions stand in.
-ghost use Rattle.std.specs.Prelude.{◌≡◌, ◌≤◌, map, length};
-ghost use Rattle.outcomes.specs.Outcome.{step_outcome};
+ghost use Rattle.std.specs.Prelude.{◌≡◌, ◌≤◌, map, length, ℕ};
+ghost use Rattle.outcomes.specs.Outcome.{Ends, step_outcome};
 ghost use Rattle.expr_meaning.specs.Env.{Calls, Keys};
-ghost use Rattle.expr_meaning.specs.Calls.{call_value, found_by_key};
+ghost use Rattle.expr_meaning.specs.Calls.{call_value, found_by_key, document_value};
+ghost use Rattle.fn_lib.specs.Values.{argument};
+ghost use Rattle.expr_meaning.specs.Calls.{current_value, key_of, library_value, members_of};
 ghost use Rattle.operator_values.specs.Operands.{atom_of};
 ghost use Rattle.eval_calls.specs.Called.{called_as};
 ghost use Rattle.eval_scopes.specs.Answers.{Answers};
+ghost use Rattle.value_slots.specs.Slots.{Leaves};
 ghost use Rattle.eval_scopes.specs.Scopes.{env_of, program_of};
 ghost use Rattle.eval_steps.specs.Parts.{flwor_outcome};
 ghost use Rattle.eval_steps.specs.Sizes.{flwor_nodes, nodes};
@@ -19,7 +22,9 @@ use eval_inner::Within;
 use eval_scopes::{Env, EvalFault, Fixed, document_value};
 use flow_eval::Flows;
 use fn_lib::argument;
+use function_table::Builtin;
 use std::alloc::Global;
+use value_slots::put;
 use xdm_items::ItemList;
 use xt_names::{ExprName, Text};
 use xt_syntax::{Expr, Flwor};
@@ -102,6 +107,17 @@ impl<'a, G: Callee, F: Fn(&ExprName, &[ItemList], &mut u64) -> Result<ItemList, 
             .find_by_key(alloc, &name, argument(lists, 1, &none), &root, next)
     }
 
+    /// doc() and document(), once the argument is evaluated (Functions and Operators, 15.5.4).
+    #[inline(never)]
+    fn document(&self, lists: &[ItemList]) -> Result<ItemList, EvalFault>
+        ensures { (k : ℕ) → Answers result k (step_outcome (document_value
+            (program_of self.now.fixed (G.calls self.now.given) (G.keys self.now.given))
+            (argument lists.now 0)) k) }
+    {
+        let none = ItemList::new(self.alloc);
+        document_value(self.alloc, &self.fixed, argument(lists, 0, &none))
+    }
+
     /// A call, once its arguments are evaluated (XPath 2.0, 3.1.5).
     #[inline(never)]
     pub(crate) fn call(
@@ -111,27 +127,26 @@ impl<'a, G: Callee, F: Fn(&ExprName, &[ItemList], &mut u64) -> Result<ItemList, 
         called: Called,
         name: &ExprName,
         lists: &[ItemList],
-    ) -> Result<ItemList, EvalFault>
+        value: &mut ItemList,
+    ) -> Result<(), EvalFault>
         requires callable { F.IsAlwaysCallable self.now.calls }
         requires serves { Serves (F.post self.now.calls) (G.calls self.now.given) }
         ensures { let p = program_of self.now.fixed (G.calls self.now.given)
             (G.keys self.now.given) in
-            Answers result next.new (call_value p (called_as called) name.now (env_of env.now)
+            Leaves result value.new next.new (call_value p (called_as called) name.now (env_of env.now)
             lists.now next.old) }
     {
         let alloc = self.alloc;
-        match called {
-            Called::Library(f) => Ok(call_library(alloc, f, env.focus, lists)?),
-            Called::Document => {
-                let none = ItemList::new(alloc);
-                document_value(alloc, &self.fixed, argument(lists, 0, &none))
-            }
-            Called::Current => Ok(current_item(alloc, env.state.current)?),
-            Called::CurrentGroup => Ok(group_members(alloc, env.state.group)?),
-            Called::CurrentKey => Ok(group_key(alloc, env.state.group)?),
+        let found = match called {
+            Called::Library(f) => library(alloc, f, env, lists),
+            Called::Document => self.document(lists),
+            Called::Current => current(alloc, env),
+            Called::CurrentGroup => members(alloc, env),
+            Called::CurrentKey => grouping_key(alloc, env),
             Called::Key => self.call_key(env, next, lists),
             Called::Declared => self.call_declared(next, name, lists),
-        }
+        };
+        put(found, value)
     }
 
     /// A FLWOR expression, with what evaluates the expressions within it (XQuery 1.0, 3.8).
@@ -142,24 +157,28 @@ impl<'a, G: Callee, F: Fn(&ExprName, &[ItemList], &mut u64) -> Result<ItemList, 
         env: &Env,
         next: &mut u64,
         parts: &Flwor,
-    ) -> Result<ItemList, EvalFault>
+        value: &mut ItemList,
+    ) -> Result<(), EvalFault>
         requires callable { F.IsAlwaysCallable self.now.calls }
         requires serves { Serves (F.post self.now.calls) (G.calls self.now.given) }
         ensures { let p = program_of self.now.fixed (G.calls self.now.given)
             (G.keys self.now.given) in
-            Answers result next.new (flwor_outcome p parts.now (env_of env.now) next.old) }
+            Leaves result value.new next.new (flwor_outcome p parts.now (env_of env.now) next.old) }
     {
-        let eval = |env: &Env, next: &mut u64, e: &Expr| -> Result<ItemList, EvalFault>
+        let eval = |env: &Env, next: &mut u64, e: &Expr, value: &mut ItemList| -> Result<
+            (),
+            EvalFault,
+        >
             requires callable { F.IsAlwaysCallable self.now.calls }
             requires serves { Serves (F.post self.now.calls) (G.calls self.now.given) }
             requires within { nodes e.now ≤ flwor_nodes parts.now }
             ensures { let host = self.entry.now in
                 let p = program_of host.fixed (G.calls host.given) (G.keys host.given) in
-                Answers result next.new (outcome p e.now (env_of env.now) next.old) }
+                Leaves result value.new next.new (outcome p e.now (env_of env.now) next.old) }
         {
             // What is captured is what a clause can name.
             let _whole = parts;
-            self.eval(env, next, e)
+            self.eval_into(env, next, e, value)
         };
         let flows = Flows {
             alloc: self.alloc,
@@ -167,6 +186,40 @@ impl<'a, G: Callee, F: Fn(&ExprName, &[ItemList], &mut u64) -> Result<ItemList, 
             whole: &*parts,
             eval,
         };
-        flows.eval_flwor(env, next)
+        flows.eval_flwor(env, next, value)
     }
+}
+
+/// What a function of the library gives (XQuery 1.0 and XPath 2.0 Functions and Operators).
+#[inline(never)]
+fn library(alloc: Global, f: Builtin, env: &Env, lists: &[ItemList]) -> Result<ItemList, EvalFault>
+    ensures { (k : ℕ) → Answers result k
+        (step_outcome (library_value f (env_of env.now).focus lists.now) k) }
+{
+    Ok(call_library(alloc, f, env.focus, lists)?)
+}
+
+/// current() (XSLT 2.0, 16.6.1).
+#[inline(never)]
+fn current(alloc: Global, env: &Env) -> Result<ItemList, EvalFault>
+    ensures { (k : ℕ) → Answers result k
+        (step_outcome (current_value (env_of env.now).state.current) k) }
+{
+    Ok(current_item(alloc, env.state.current)?)
+}
+
+/// current-group() (XSLT 2.0, 14.1).
+#[inline(never)]
+fn members(alloc: Global, env: &Env) -> Result<ItemList, EvalFault>
+    ensures { (k : ℕ) → Answers result k (Ends (members_of (env_of env.now).state.group) k) }
+{
+    Ok(group_members(alloc, env.state.group)?)
+}
+
+/// current-grouping-key() (XSLT 2.0, 14.2).
+#[inline(never)]
+fn grouping_key(alloc: Global, env: &Env) -> Result<ItemList, EvalFault>
+    ensures { (k : ℕ) → Answers result k (Ends (key_of (env_of env.now).state.group) k) }
+{
+    Ok(group_key(alloc, env.state.group)?)
 }

@@ -1,5 +1,5 @@
 // Computed constructors.
-ghost use Rattle.eval_scopes.specs.Answers.{Answers};
+ghost use Rattle.value_slots.specs.Slots.{Leaves};
 ghost use Rattle.eval_scopes.specs.Scopes.{env_of, program_of};
 ghost use Rattle.expr_eval.specs.Serves.{Serves};
 ghost use Rattle.expr_meaning.specs.Meaning.{outcome};
@@ -12,6 +12,7 @@ use eval_nodes::{
     make_attribute, make_comment, make_document, make_element, make_pi, make_text, spaced_text,
 };
 use eval_scopes::{Env, EvalFault};
+use value_slots::put;
 use xdm_items::ItemList;
 use xt_names::ExprName;
 use xt_syntax::{Expr, NameSource};
@@ -30,17 +31,18 @@ impl<'a, G: Callee, F: Fn(&ExprName, &[ItemList], &mut u64) -> Result<ItemList, 
         next: &mut u64,
         name: &NameSource,
         content: &Expr,
-    ) -> Result<ItemList, EvalFault>
+        made: &mut ItemList,
+    ) -> Result<(), EvalFault>
         requires callable { F.IsAlwaysCallable self.now.calls }
         requires serves { Serves (F.post self.now.calls) (G.calls self.now.given) }
         ensures { let p = program_of self.now.fixed (G.calls self.now.given)
             (G.keys self.now.given) in
-            Answers result next.new (element_made p (name_outcome p name.now)
+            Leaves result made.new next.new (element_made p (name_outcome p name.now)
             (outcome p content.now) (env_of env.now) next.old) }
     {
         let name = self.eval_element_name(env, next, name)?;
         let list = self.eval(env, next, content)?;
-        make_element(self.alloc, next, name, &list)
+        put(make_element(self.alloc, next, name, &list), made)
     }
 
     /// `document { a }` (XQuery 1.0, 3.7.3.3).
@@ -51,16 +53,17 @@ impl<'a, G: Callee, F: Fn(&ExprName, &[ItemList], &mut u64) -> Result<ItemList, 
         env: &Env,
         next: &mut u64,
         content: &Expr,
-    ) -> Result<ItemList, EvalFault>
+        made: &mut ItemList,
+    ) -> Result<(), EvalFault>
         requires callable { F.IsAlwaysCallable self.now.calls }
         requires serves { Serves (F.post self.now.calls) (G.calls self.now.given) }
         ensures { let p = program_of self.now.fixed (G.calls self.now.given)
             (G.keys self.now.given) in
-            Answers result next.new (document_made (outcome p content.now) (env_of env.now)
+            Leaves result made.new next.new (document_made (outcome p content.now) (env_of env.now)
             next.old) }
     {
         let list = self.eval(env, next, content)?;
-        make_document(self.alloc, next, &list)
+        put(make_document(self.alloc, next, &list), made)
     }
 
     /// `attribute n { a }` (XQuery 1.0, 3.7.3.2).
@@ -72,18 +75,19 @@ impl<'a, G: Callee, F: Fn(&ExprName, &[ItemList], &mut u64) -> Result<ItemList, 
         next: &mut u64,
         name: &NameSource,
         value: &Expr,
-    ) -> Result<ItemList, EvalFault>
+        made: &mut ItemList,
+    ) -> Result<(), EvalFault>
         requires callable { F.IsAlwaysCallable self.now.calls }
         requires serves { Serves (F.post self.now.calls) (G.calls self.now.given) }
         ensures { let p = program_of self.now.fixed (G.calls self.now.given)
             (G.keys self.now.given) in
-            Answers result next.new (attribute_made p (name_outcome p name.now)
+            Leaves result made.new next.new (attribute_made p (name_outcome p name.now)
             (outcome p value.now) (env_of env.now) next.old) }
     {
         let name = self.eval_attribute_name(env, next, name)?;
         let list = self.eval(env, next, value)?;
         let text = spaced_text(self.alloc, &list)?;
-        make_attribute(self.alloc, next, name, text.as_str())
+        put(make_attribute(self.alloc, next, name, text.as_str()), made)
     }
 
     /// `text { a }`: no node of the empty list (XQuery 1.0, 3.7.3.4).
@@ -94,19 +98,21 @@ impl<'a, G: Callee, F: Fn(&ExprName, &[ItemList], &mut u64) -> Result<ItemList, 
         env: &Env,
         next: &mut u64,
         value: &Expr,
-    ) -> Result<ItemList, EvalFault>
+        made: &mut ItemList,
+    ) -> Result<(), EvalFault>
         requires callable { F.IsAlwaysCallable self.now.calls }
         requires serves { Serves (F.post self.now.calls) (G.calls self.now.given) }
         ensures { let p = program_of self.now.fixed (G.calls self.now.given)
             (G.keys self.now.given) in
-            Answers result next.new (text_made (outcome p value.now) (env_of env.now) next.old) }
+            Leaves result made.new next.new (text_made (outcome p value.now) (env_of env.now) next.old) }
     {
         let list = self.eval(env, next, value)?;
         if list.is_empty() {
-            return Ok(list);
+            *made = list;
+            return Ok(());
         }
         let text = spaced_text(self.alloc, &list)?;
-        make_text(self.alloc, next, text.as_str())
+        put(make_text(self.alloc, next, text.as_str()), made)
     }
 
     /// `comment { a }` (XQuery 1.0, 3.7.3.6).
@@ -117,16 +123,17 @@ impl<'a, G: Callee, F: Fn(&ExprName, &[ItemList], &mut u64) -> Result<ItemList, 
         env: &Env,
         next: &mut u64,
         value: &Expr,
-    ) -> Result<ItemList, EvalFault>
+        made: &mut ItemList,
+    ) -> Result<(), EvalFault>
         requires callable { F.IsAlwaysCallable self.now.calls }
         requires serves { Serves (F.post self.now.calls) (G.calls self.now.given) }
         ensures { let p = program_of self.now.fixed (G.calls self.now.given)
             (G.keys self.now.given) in
-            Answers result next.new (comment_made (outcome p value.now) (env_of env.now) next.old) }
+            Leaves result made.new next.new (comment_made (outcome p value.now) (env_of env.now) next.old) }
     {
         let list = self.eval(env, next, value)?;
         let text = spaced_text(self.alloc, &list)?;
-        make_comment(self.alloc, next, text.as_str())
+        put(make_comment(self.alloc, next, text.as_str()), made)
     }
 
     /// `processing-instruction n { a }` (XQuery 1.0, 3.7.3.5).
@@ -138,17 +145,21 @@ impl<'a, G: Callee, F: Fn(&ExprName, &[ItemList], &mut u64) -> Result<ItemList, 
         next: &mut u64,
         name: &NameSource,
         value: &Expr,
-    ) -> Result<ItemList, EvalFault>
+        made: &mut ItemList,
+    ) -> Result<(), EvalFault>
         requires callable { F.IsAlwaysCallable self.now.calls }
         requires serves { Serves (F.post self.now.calls) (G.calls self.now.given) }
         ensures { let p = program_of self.now.fixed (G.calls self.now.given)
             (G.keys self.now.given) in
-            Answers result next.new (pi_made (name_outcome p name.now) (outcome p value.now)
+            Leaves result made.new next.new (pi_made (name_outcome p name.now) (outcome p value.now)
             (env_of env.now) next.old) }
     {
         let target = self.eval_target(env, next, name)?;
         let list = self.eval(env, next, value)?;
         let text = spaced_text(self.alloc, &list)?;
-        make_pi(self.alloc, next, target.as_str(), text.as_str())
+        put(
+            make_pi(self.alloc, next, target.as_str(), text.as_str()),
+            made,
+        )
     }
 }

@@ -2,6 +2,7 @@
 ghost use Rattle.std.specs.Prelude.{◌≡◌, map};
 ghost use Rattle.xt_syntax.specs.declared.exprs.Expr.TheVariants.{Slash, Step};
 ghost use Rattle.eval_scopes.specs.Answers.{Answers};
+ghost use Rattle.value_slots.specs.Slots.{Leaves};
 ghost use Rattle.eval_scopes.specs.Scopes.{env_of, program_of};
 ghost use Rattle.expr_eval.specs.Serves.{Serves};
 ghost use Rattle.expr_meaning.specs.Meaning.{outcome};
@@ -18,8 +19,9 @@ use eval_steps::{
 };
 use eval_values::append;
 use quiet_steps::{has_late_walk, late_walk_list};
+use value_slots::put;
 use xdm_items::{Item, ItemList};
-use xt_names::ExprName;
+use xt_names::{ExprName, List};
 use xt_syntax::Expr;
 use xt_types::{Axis, Test};
 
@@ -38,21 +40,22 @@ impl<'a, G: Callee, F: Fn(&ExprName, &[ItemList], &mut u64) -> Result<ItemList, 
         whole: &Expr,
         a: &Expr,
         b: &Expr,
-    ) -> Result<ItemList, EvalFault>
+        value: &mut ItemList,
+    ) -> Result<(), EvalFault>
         requires callable { F.IsAlwaysCallable self.now.calls }
         requires serves { Serves (F.post self.now.calls) (G.calls self.now.given) }
         requires form { whole.now ≡ Slash a.now b.now }
         ensures { let p = program_of self.now.fixed (G.calls self.now.given)
             (G.keys self.now.given) in
-            Answers result next.new (slash_of (outcome p a.now) (outcome p b.now)
+            Leaves result value.new next.new (slash_of (outcome p a.now) (outcome p b.now)
             (env_of env.now) next.old) }
     {
         if has_late_walk(self.alloc, env, whole)? {
-            return late_walk_list(self.alloc, env, whole);
+            return put(late_walk_list(self.alloc, env, whole), value);
         }
         let nodes = self.eval(env, next, a)?;
         let items = self.eval_each(env, next, nodes.as_slice(), b)?;
-        path_items(self.alloc, items)
+        put(path_items(self.alloc, items), value)
     }
 
     /// The right side of a path at each node of the left one (XPath 2.0, 3.2).
@@ -105,22 +108,23 @@ impl<'a, G: Callee, F: Fn(&ExprName, &[ItemList], &mut u64) -> Result<ItemList, 
         whole: &Expr,
         axis: Axis,
         test: &Test,
-        tests: &[Expr],
-    ) -> Result<ItemList, EvalFault>
+        tests: &List<Expr>,
+        value: &mut ItemList,
+    ) -> Result<(), EvalFault>
         requires callable { F.IsAlwaysCallable self.now.calls }
         requires serves { Serves (F.post self.now.calls) (G.calls self.now.given) }
         requires form { whole.now ≡ Step axis test.now tests.now }
         ensures { let p = program_of self.now.fixed (G.calls self.now.given)
             (G.keys self.now.given) in
-            Answers result next.new (step_of axis test.now (map (outcome p) tests.now)
+            Leaves result value.new next.new (step_of axis test.now (map (outcome p) tests.now)
             (env_of env.now) next.old) }
     {
         if has_late_walk(self.alloc, env, whole)? {
-            return late_walk_list(self.alloc, env, whole);
+            return put(late_walk_list(self.alloc, env, whole), value);
         }
         let items = step_from(self.alloc, env, axis, test)?;
-        let kept = self.eval_predicates(env, next, tests, items)?;
-        ordered_items(self.alloc, kept)
+        let kept = self.eval_predicates(env, next, tests.as_slice(), items)?;
+        put(ordered_items(self.alloc, kept), value)
     }
 
     /// `a[p]..` (XPath 2.0, 3.3.2).
@@ -132,19 +136,20 @@ impl<'a, G: Callee, F: Fn(&ExprName, &[ItemList], &mut u64) -> Result<ItemList, 
         next: &mut u64,
         of: &Expr,
         tests: &[Expr],
-    ) -> Result<ItemList, EvalFault>
+        value: &mut ItemList,
+    ) -> Result<(), EvalFault>
         requires callable { F.IsAlwaysCallable self.now.calls }
         requires serves { Serves (F.post self.now.calls) (G.calls self.now.given) }
         ensures { let p = program_of self.now.fixed (G.calls self.now.given)
             (G.keys self.now.given) in
-            Answers result next.new (filter_of (outcome p of.now) (map (outcome p) tests.now)
+            Leaves result value.new next.new (filter_of (outcome p of.now) (map (outcome p) tests.now)
             (env_of env.now) next.old) }
     {
         match literal_place(tests) {
-            Some(place) => self.eval_place(env, next, of, place),
+            Some(place) => put(self.eval_place(env, next, of, place), value),
             None => {
                 let items = self.eval(env, next, of)?;
-                self.eval_predicates(env, next, tests, items)
+                put(self.eval_predicates(env, next, tests, items), value)
             }
         }
     }

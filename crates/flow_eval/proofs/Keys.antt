@@ -1,5 +1,5 @@
 -- The keys of tuples, and whole FLWOR expressions.
-use Rattle.std.proofs.Common.{◌≡◌, ℕ, refl, ap, sym, ◌∙◌, List, [], ◌∷◌, ◌++◌, map, rules}
+use Rattle.std.proofs.Common.{◌≡◌, ℕ, refl, ap, List, [], ◌∷◌, ◌++◌, map, rules}
 use Rattle.std.specs.Prelude.{Result, Ok, Err, Bool, true, false, Option, Some, None, option_map}
 use Rattle.xt_names.specs.declared.codes.Code.{Code}
 use Rattle.xt_atoms.specs.Casts.{wrong_type}

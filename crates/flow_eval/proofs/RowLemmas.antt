@@ -1,21 +1,20 @@
 -- The tuples of a FLWOR expression, with their keys.
-use Rattle.std.proofs.Common.{◌≡◌, ℕ, zero, suc, ◌+◌, ◌<◌, ◌≤◌, refl, ap, sym, ◌∙◌, arith, List}
+use Rattle.std.proofs.Common.{◌≡◌, ℕ, zero, suc, ◌+◌, ◌<◌, ◌≤◌, refl, ap, ◌∙◌, arith, List}
 use Rattle.std.proofs.Common.{[], ◌∷◌, ◌++◌, length, map}
 use Rattle.std.specs.Prelude.{Bool, Option, Some, None, slice_get}
 use Rattle.std.specs.declared.vec.Vec.{Vec}
 use Rattle.std.specs.declared.alloc.Global.{Global}
 use Rattle.xt_atoms.specs.Casts.{wrong_type}
 use Rattle.order_group.specs.declared.sorts.KeyRow.{KeyRow}
-use Rattle.order_group.specs.Rows.{Keyed, Row, in_order, stands_before, mixed_column}
+use Rattle.order_group.specs.Rows.{Keyed, in_order, stands_before, mixed_column}
 use Rattle.order_group.specs.Sorts.{cells_of, numbered}
 use Rattle.order_group.specs.Stable.{stable_order}
 use Rattle.order_group.proofs.Natural.{natural}
-use Rattle.outcomes.specs.Outcome.{Outcome, Ends, and_then, step_outcome}
+use Rattle.outcomes.specs.Outcome.{Ends, and_then, step_outcome}
 use Rattle.sort_meaning.specs.Sorted.{ordered, unless_mixed}
-use Rattle.expr_meaning.specs.Env.{Binding}
 use Rattle.eval_scopes.specs.declared.scopes.Variable.{Variable}
 use Rattle.eval_values.specs.Orders.{places_in_order, unless_mixed as or_mixed}
-use Rattle.flow_eval.specs.Rows.{tuple_of, tuple_behind, tuple_at, with_tuple}
+use Rattle.flow_eval.specs.Rows.{tuple_of, tuple_at, with_tuple}
 
 abbrev Tuple : Type 0
 Tuple = Vec Variable Global

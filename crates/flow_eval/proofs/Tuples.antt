@@ -1,8 +1,8 @@
 -- What clauses of a FLWOR expression bind, and loops that put tuples into rows.
 use Rattle.std.proofs.Common.{◌≡◌, ℕ, refl, ap, sym, ◌∙◌, List, [], ◌∷◌, ◌++◌, append_assoc, ◌+◌}
-use Rattle.std.proofs.Common.{◌<◌, ◌≤◌, suc, length, map, drop, get_or, add-one, drop-cons, arith}
+use Rattle.std.proofs.Common.{◌<◌, ◌≤◌, suc, length, drop, get_or, add-one, drop-cons}
 use Rattle.std.proofs.lemmas.List.{drop_all, append-nil}
-use Rattle.std.specs.Prelude.{Result, Ok, Err, pos, zero, Option, Some, None}
+use Rattle.std.specs.Prelude.{Result, Ok, Err, pos, Option, Some, None}
 use Rattle.xt_names.specs.declared.codes.Code.{Code}
 use Rattle.xt_names.specs.declared.names.ExprName.{ExprName}
 use Rattle.xdm_items.specs.declared.items.Item.{Item}

@@ -12,6 +12,7 @@ ghost use Rattle.eval_steps.specs.Parts.{clause_outcome, order_outcome, flwor_ou
 ghost use Rattle.eval_steps.specs.Parts.{bind_outcome};
 ghost use Rattle.expr_meaning.specs.Env.{bind_all};
 ghost use Rattle.eval_scopes.specs.Answers.{Answers};
+ghost use Rattle.value_slots.specs.Slots.{Leaves};
 ghost use Rattle.eval_scopes.specs.Scopes.{env_of};
 ghost use Rattle.outcomes.specs.Outcome.{and_then, for_each, step_outcome};
 ghost use Rattle.sort_meaning.specs.Sorted.{places};
@@ -27,31 +28,48 @@ use eval_steps::{
 use eval_values::append;
 use flow_streams::is_streamed;
 use order_group::KeyRow;
+use value_slots::put;
 use xdm_items::{Item, ItemList};
 use xt_names::{ExprName, List, Shared};
 use xt_syntax::{Bind, Clause, Expr, Order};
 
-impl<'a, W: Within, E: Fn(&Env, &mut u64, &Expr) -> Result<ItemList, EvalFault>> Flows<'a, W, E> {
-    /// The value of the FLWOR expression (XQuery 1.0, 3.8).
-    pub fn eval_flwor(&self, env: &Env, next: &mut u64) -> Result<ItemList, EvalFault>
+impl<'a, W: Within, E: Fn(&Env, &mut u64, &Expr, &mut ItemList) -> Result<(), EvalFault>> Flows<
+    'a,
+    W,
+    E,
+> {
+    /// Puts the value of the FLWOR expression (XQuery 1.0, 3.8).
+    pub fn eval_flwor(
+        &self,
+        env: &Env,
+        next: &mut u64,
+        value: &mut ItemList,
+    ) -> Result<(), EvalFault>
         requires callable { CanEvaluate (E.pre self.now.eval) (flwor_nodes self.now.whole.now) }
         requires serves { Evaluates (E.post self.now.eval) (W.program self.now.within.now) }
         ensures { let p = W.program self.now.within.now in
-            Answers result next.new (flwor_outcome p self.now.whole.now (env_of env.now) next.old) }
+            Leaves result value.new next.new
+            (flwor_outcome p self.now.whole.now (env_of env.now) next.old) }
     {
         if is_streamed(self.whole) {
-            return self.eval_stream(env, next, self.whole.clauses.get().as_slice());
+            return self.eval_stream(env, next, self.whole.clauses.get().as_slice(), value);
         }
-        self.eval_tuples(env, next)
+        self.eval_tuples(env, next, value)
     }
 
     /// All tuples with their keys, then their order, and then the bodies (XQuery 1.0, 3.8).
     #[inline(never)]
-    pub(crate) fn eval_tuples(&self, env: &Env, next: &mut u64) -> Result<ItemList, EvalFault>
+    pub(crate) fn eval_tuples(
+        &self,
+        env: &Env,
+        next: &mut u64,
+        value: &mut ItemList,
+    ) -> Result<(), EvalFault>
         requires callable { CanEvaluate (E.pre self.now.eval) (flwor_nodes self.now.whole.now) }
         requires serves { Evaluates (E.post self.now.eval) (W.program self.now.within.now) }
         ensures { let p = W.program self.now.within.now in
-            Answers result next.new (flwor_outcome p self.now.whole.now (env_of env.now) next.old) }
+            Leaves result value.new next.new
+            (flwor_outcome p self.now.whole.now (env_of env.now) next.old) }
     {
         let mut bound = Vec::new(self.alloc);
         let mut rows = Rows::new(self.alloc);
@@ -59,7 +77,10 @@ impl<'a, W: Within, E: Fn(&Env, &mut u64, &Expr) -> Result<ItemList, EvalFault>>
         self.eval_clauses(env, next, clauses, &mut bound, &mut rows)?;
         drop(bound);
         let places = rows.places(self.alloc, self.whole.orders.get().as_slice())?;
-        self.eval_bodies(env, next, &rows, places.as_slice(), self.whole.body.get())
+        put(
+            self.eval_bodies(env, next, &rows, places.as_slice(), self.whole.body.get()),
+            value,
+        )
     }
 
     /// The tuples of the clauses that are left (XQuery 1.0, 3.8).

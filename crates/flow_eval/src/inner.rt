@@ -7,6 +7,7 @@ ghost use Rattle.eval_steps.specs.Sizes.{flwor_nodes, nodes};
 ghost use Rattle.expr_meaning.specs.Env.{bind_all};
 ghost use Rattle.expr_meaning.specs.Meaning.{outcome};
 ghost use Rattle.flow_eval.specs.Rows.{tuple_of};
+ghost use Rattle.value_slots.specs.Slots.{Leaves};
 
 use eval_inner::Within;
 use eval_scopes::{Env, EvalFault, Scope, Variable};
@@ -25,17 +26,27 @@ pub struct Flows<'a, W, E> {
     pub eval: E,
 }
 
-impl<'a, W: Within, E: Fn(&Env, &mut u64, &Expr) -> Result<ItemList, EvalFault>> Flows<'a, W, E> {
-    /// The value of an expression within it.
+impl<'a, W: Within, E: Fn(&Env, &mut u64, &Expr, &mut ItemList) -> Result<(), EvalFault>> Flows<
+    'a,
+    W,
+    E,
+> {
+    /// Puts the value of an expression within it.
     #[tactic(auto, unfolding(eval_inner::specs::Inner::CanEvaluate, eval_inner::specs::Inner::Evaluates))]
-    pub(crate) fn value(&self, env: &Env, next: &mut u64, e: &Expr) -> Result<ItemList, EvalFault>
+    pub(crate) fn eval_into(
+        &self,
+        env: &Env,
+        next: &mut u64,
+        e: &Expr,
+        value: &mut ItemList,
+    ) -> Result<(), EvalFault>
         requires callable { CanEvaluate (E.pre self.now.eval) (flwor_nodes self.now.whole.now) }
         requires serves { Evaluates (E.post self.now.eval) (W.program self.now.within.now) }
         requires within { nodes e.now ≤ flwor_nodes self.now.whole.now }
         ensures { let p = W.program self.now.within.now in
-            Answers result next.new (outcome p e.now (env_of env.now) next.old) }
+            Leaves result value.new next.new (outcome p e.now (env_of env.now) next.old) }
     {
-        (self.eval)(env, next, e)
+        (self.eval)(env, next, e, value)
     }
 
     /// The list of an expression behind what is bound (XQuery 1.0, 3.8.1).
@@ -63,6 +74,8 @@ impl<'a, W: Within, E: Fn(&Env, &mut u64, &Expr) -> Result<ItemList, EvalFault>>
             focus: &*env.focus,
             state: &*env.state,
         };
-        self.value(&inner, next, e)
+        let mut value = ItemList::new(self.alloc);
+        self.eval_into(&inner, next, e, &mut value)?;
+        Ok(value)
     }
 }

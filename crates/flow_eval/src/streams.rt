@@ -1,5 +1,5 @@
 // FLWOR expressions whose tuples are not held.
-ghost use Rattle.std.specs.Prelude.{◌≤◌, ◌+◌, map};
+ghost use Rattle.std.specs.Prelude.{◌≡◌, ◌≤◌, ◌+◌, [], map};
 ghost use Rattle.xt_syntax.specs.declared.exprs.Clause.TheViews.{out-Bind, out-Flwor};
 ghost use Rattle.outcomes.specs.Outcome.{and_then, for_each, step_outcome};
 ghost use Rattle.sort_meaning.specs.Sorted.{places};
@@ -10,7 +10,7 @@ ghost use Rattle.eval_steps.specs.Lists.{AnswersPushed};
 ghost use Rattle.eval_steps.specs.Parts.{bind_outcome};
 ghost use Rattle.eval_steps.specs.Sizes.{bind_nodes, clause_nodes, flwor_nodes, total};
 ghost use Rattle.eval_steps.specs.Steps.{bound_outcome};
-ghost use Rattle.eval_scopes.specs.Answers.{Answers};
+ghost use Rattle.value_slots.specs.Slots.{Leaves};
 ghost use Rattle.eval_scopes.specs.Scopes.{env_of};
 ghost use Rattle.flow_streams.specs.Streams.{stream_of, stream_for, stream_let, stream_item};
 ghost use Rattle.flow_streams.specs.Streams.{stream_place, binder_of};
@@ -19,34 +19,39 @@ use crate::inner::Flows;
 use eval_inner::Within;
 use eval_scopes::{Env, EvalFault, Scope, Variable};
 use eval_steps::{list_size, place_in, pop_variable, push_item, push_position, push_value};
-use eval_values::append;
+use value_slots::join;
 use xdm_items::{Item, ItemList};
 use xt_names::ExprName;
 use xt_syntax::{Bind, Clause, Expr};
 
-impl<'a, W: Within, E: Fn(&Env, &mut u64, &Expr) -> Result<ItemList, EvalFault>> Flows<'a, W, E> {
+impl<'a, W: Within, E: Fn(&Env, &mut u64, &Expr, &mut ItemList) -> Result<(), EvalFault>> Flows<
+    'a,
+    W,
+    E,
+> {
     /// The clauses that are left, and the body of each tuple as soon as the tuple stands (XQuery
     /// 1.0, 3.8).
     #[cycle(stream)]
-    #[inline(never)]
+    #[inline(always)]
     pub(crate) fn eval_stream(
         &self,
         env: &Env,
         next: &mut u64,
         clauses: &[Clause],
-    ) -> Result<ItemList, EvalFault>
+        value: &mut ItemList,
+    ) -> Result<(), EvalFault>
         requires callable { CanEvaluate (E.pre self.now.eval) (flwor_nodes self.now.whole.now) }
         requires serves { Evaluates (E.post self.now.eval) (W.program self.now.within.now) }
         requires within { total (map clause_nodes clauses.now) ≤ flwor_nodes self.now.whole.now }
         ensures { let p = W.program self.now.within.now in
-            Answers result next.new (stream_of (map (binder_of p) clauses.now)
+            Leaves result value.new next.new (stream_of (map (binder_of p) clauses.now)
             (outcome p (out-Flwor self.now.whole.now).body) (env_of env.now) next.old) }
     {
         match clauses {
-            [] => self.value(env, next, self.whole.body.get()),
+            [] => self.eval_into(env, next, self.whole.body.get(), value),
             [first, rest @ ..] => match first {
-                Clause::For(bind, place) => self.stream_for(env, next, bind, place, rest),
-                Clause::Let(bind) => self.stream_let(env, next, bind, rest),
+                Clause::For(bind, place) => self.stream_for(env, next, bind, place, rest, value),
+                Clause::Let(bind) => self.stream_let(env, next, bind, rest, value),
             },
         }
     }
@@ -60,18 +65,46 @@ impl<'a, W: Within, E: Fn(&Env, &mut u64, &Expr) -> Result<ItemList, EvalFault>>
         next: &mut u64,
         bind: &Bind,
         rest: &[Clause],
-    ) -> Result<ItemList, EvalFault>
+        value: &mut ItemList,
+    ) -> Result<(), EvalFault>
         requires callable { CanEvaluate (E.pre self.now.eval) (flwor_nodes self.now.whole.now) }
         requires serves { Evaluates (E.post self.now.eval) (W.program self.now.within.now) }
         requires within { bind_nodes bind.now + total (map clause_nodes rest.now)
             ≤ flwor_nodes self.now.whole.now }
         ensures { let p = W.program self.now.within.now in
-            Answers result next.new (stream_let (bind_outcome p bind.now)
+            Leaves result value.new next.new (stream_let (bind_outcome p bind.now)
             (stream_of (map (binder_of p) rest.now) (outcome p (out-Flwor self.now.whole.now).body))
             (env_of env.now) next.old) }
     {
         let mut bound = Vec::new(self.alloc);
-        self.push_let(env, next, bind, &mut bound)?;
+        let found = self.stream_bound(env, next, bind, rest, &mut bound, value);
+        release(bound);
+        found
+    }
+
+    /// The same with a place for the variable.
+    #[cycle(stream)]
+    #[inline(always)]
+    fn stream_bound(
+        &self,
+        env: &Env,
+        next: &mut u64,
+        bind: &Bind,
+        rest: &[Clause],
+        bound: &mut Vec<Variable>,
+        value: &mut ItemList,
+    ) -> Result<(), EvalFault>
+        requires callable { CanEvaluate (E.pre self.now.eval) (flwor_nodes self.now.whole.now) }
+        requires serves { Evaluates (E.post self.now.eval) (W.program self.now.within.now) }
+        requires within { bind_nodes bind.now + total (map clause_nodes rest.now)
+            ≤ flwor_nodes self.now.whole.now }
+        requires none { bound.old.items ≡ [] }
+        ensures { let p = W.program self.now.within.now in
+            Leaves result value.new next.new (stream_let (bind_outcome p bind.now)
+            (stream_of (map (binder_of p) rest.now) (outcome p (out-Flwor self.now.whole.now).body))
+            (env_of env.now) next.old) }
+    {
+        self.push_let(env, next, bind, bound)?;
         let scope = Scope::Inner {
             variables: bound.as_slice(),
             outer: &*env.locals,
@@ -82,8 +115,8 @@ impl<'a, W: Within, E: Fn(&Env, &mut u64, &Expr) -> Result<ItemList, EvalFault>>
             state: &*env.state,
         };
         match rest {
-            [] => self.value(&inner, next, self.whole.body.get()),
-            _ => self.eval_stream(&inner, next, rest),
+            [] => self.eval_into(&inner, next, self.whole.body.get(), value),
+            _ => self.eval_stream(&inner, next, rest, value),
         }
     }
 
@@ -105,7 +138,8 @@ impl<'a, W: Within, E: Fn(&Env, &mut u64, &Expr) -> Result<ItemList, EvalFault>>
             (and_then (source (env_of env.now) next.old)
             (λ xs. bound_outcome b.var (typed b.kind xs))) }
     {
-        let items = self.value(env, next, bind.source.get())?;
+        let mut items = ItemList::new(self.alloc);
+        self.eval_into(env, next, bind.source.get(), &mut items)?;
         push_value(self.alloc, bound, bind, items)
     }
 
@@ -119,20 +153,22 @@ impl<'a, W: Within, E: Fn(&Env, &mut u64, &Expr) -> Result<ItemList, EvalFault>>
         bind: &Bind,
         place: &Option<ExprName>,
         rest: &[Clause],
-    ) -> Result<ItemList, EvalFault>
+        value: &mut ItemList,
+    ) -> Result<(), EvalFault>
         requires callable { CanEvaluate (E.pre self.now.eval) (flwor_nodes self.now.whole.now) }
         requires serves { Evaluates (E.post self.now.eval) (W.program self.now.within.now) }
         requires within { bind_nodes bind.now + total (map clause_nodes rest.now)
             ≤ flwor_nodes self.now.whole.now }
         ensures { let p = W.program self.now.within.now in
-            Answers result next.new (stream_for (bind_outcome p bind.now) place.now
+            Leaves result value.new next.new (stream_for (bind_outcome p bind.now) place.now
             (stream_of (map (binder_of p) rest.now) (outcome p (out-Flwor self.now.whole.now).body))
             (env_of env.now) next.old) }
     {
-        let items = self.value(env, next, bind.source.get())?;
+        let mut items = ItemList::new(self.alloc);
+        self.eval_into(env, next, bind.source.get(), &mut items)?;
         match place {
-            None => self.stream_turns(env, next, bind, items.as_slice(), rest),
-            Some(at) => self.stream_places(env, next, bind, at, items.as_slice(), rest),
+            None => self.stream_turns(env, next, bind, items.as_slice(), rest, value),
+            Some(at) => self.stream_places(env, next, bind, at, items.as_slice(), rest, value),
         }
     }
 
@@ -146,12 +182,13 @@ impl<'a, W: Within, E: Fn(&Env, &mut u64, &Expr) -> Result<ItemList, EvalFault>>
         bind: &Bind,
         items: &[Item],
         rest: &[Clause],
-    ) -> Result<ItemList, EvalFault>
+        value: &mut ItemList,
+    ) -> Result<(), EvalFault>
         requires callable { CanEvaluate (E.pre self.now.eval) (flwor_nodes self.now.whole.now) }
         requires serves { Evaluates (E.post self.now.eval) (W.program self.now.within.now) }
         requires within { total (map clause_nodes rest.now) ≤ flwor_nodes self.now.whole.now }
         ensures { let p = W.program self.now.within.now in
-            Answers result next.new (for_each (stream_item (bind_outcome p bind.now)
+            Leaves result value.new next.new (for_each (stream_item (bind_outcome p bind.now)
             (stream_of (map (binder_of p) rest.now) (outcome p (out-Flwor self.now.whole.now).body))
             (env_of env.now)) items.now next.old) }
     {
@@ -168,11 +205,13 @@ impl<'a, W: Within, E: Fn(&Env, &mut u64, &Expr) -> Result<ItemList, EvalFault>>
                 focus: &*env.focus,
                 state: &*env.state,
             };
-            let more = self.eval_stream(&inner, next, rest)?;
+            let mut more = ItemList::new(self.alloc);
+            self.eval_stream(&inner, next, rest, &mut more)?;
             pop_variable(&mut bound);
-            list = append(list, more)?;
+            join(self.alloc, &mut list, &mut more)?;
         }
-        Ok(list)
+        *value = list;
+        Ok(())
     }
 
     /// The same with the position of each item (XQuery 1.0, 3.8.1).
@@ -186,12 +225,13 @@ impl<'a, W: Within, E: Fn(&Env, &mut u64, &Expr) -> Result<ItemList, EvalFault>>
         at: &ExprName,
         items: &[Item],
         rest: &[Clause],
-    ) -> Result<ItemList, EvalFault>
+        value: &mut ItemList,
+    ) -> Result<(), EvalFault>
         requires callable { CanEvaluate (E.pre self.now.eval) (flwor_nodes self.now.whole.now) }
         requires serves { Evaluates (E.post self.now.eval) (W.program self.now.within.now) }
         requires within { total (map clause_nodes rest.now) ≤ flwor_nodes self.now.whole.now }
         ensures { let p = W.program self.now.within.now in
-            Answers result next.new (and_then (step_outcome (places items.now) next.old)
+            Leaves result value.new next.new (and_then (step_outcome (places items.now) next.old)
             (for_each (stream_place (bind_outcome p bind.now) at.now
             (stream_of (map (binder_of p) rest.now) (outcome p (out-Flwor self.now.whole.now).body))
             (env_of env.now)))) }
@@ -213,11 +253,19 @@ impl<'a, W: Within, E: Fn(&Env, &mut u64, &Expr) -> Result<ItemList, EvalFault>>
                 focus: &*env.focus,
                 state: &*env.state,
             };
-            let more = self.eval_stream(&inner, next, rest)?;
+            let mut more = ItemList::new(self.alloc);
+            self.eval_stream(&inner, next, rest, &mut more)?;
             pop_variable(&mut bound);
             pop_variable(&mut bound);
-            list = append(list, more)?;
+            join(self.alloc, &mut list, &mut more)?;
         }
-        Ok(list)
+        *value = list;
+        Ok(())
     }
+}
+
+/// Gives up variables, out of line so that what that takes stands on the stack only then.
+#[inline(never)]
+fn release(bound: Vec<Variable>) {
+    drop(bound);
 }

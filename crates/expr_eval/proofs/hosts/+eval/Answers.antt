@@ -16,7 +16,7 @@ use Rattle.eval_steps.proofs.Forms.{turn_value_fault, turn_rest_fault, turn_deci
 use Rattle.eval_steps.proofs.Forms.{attribute_made, attribute_fault, kept_fault, kept_value_fault}
 use Rattle.eval_steps.proofs.Forms.{kept_made, same_truth, attr_count, var_means, call_means}
 use Rattle.eval_steps.proofs.Forms.{flow_means, first_and_rest, first_bind, only_one, step_fault}
-use Rattle.eval_steps.proofs.Forms.{step_kept_fault}
+use Rattle.eval_steps.proofs.Forms.{step_kept_fault, step_made}
 use Rattle.std.specs.Prelude.{Bool, FitsSigned}
 use Rattle.expr_meaning.specs.Logic.{quantified}
 use Rattle.sort_meaning.specs.Sorted.{placed_from}
@@ -33,7 +33,8 @@ use Rattle.xt_syntax.specs.declared.exprs.Part.{Part}
 use Rattle.xt_syntax.specs.declared.exprs.Clause.TheViews.{out-Arm, out-DirectAttr}
 use Rattle.eval_inner.specs.Inner.{CanEvaluate, Evaluates}
 use Rattle.eval_steps.proofs.Places.{placed_item, placed_length}
-use Rattle.expr_eval.proofs.Steps.{slash_means, step_means}
+use Rattle.expr_eval.proofs.Steps.{slash_means, step_means, library_call}
+use Rattle.value_slots.specs.Slots.{Leaves}
 use Rattle.expr_eval.proofs.hosts.+eval.Goals as goal
 
 pub Host::eval_comma-eval-requires : goal.Host::eval_comma-eval-requires
@@ -84,20 +85,20 @@ Host::eval_comma-returns g t c =
 
 pub Host::eval_content-loop-part-init : goal.Host::eval_content-loop-part-init
 Host::eval_content-loop-part-init g t c =
-    gathers_first_map _ _ _ _ _ c.new-list.ensures
+    gathers_first_map _ _ _ _ _ c.clear.ensures
 
 pub Host::eval_content-loop-part-preserved : goal.Host::eval_content-loop-part-preserved
 Host::eval_content-loop-part-preserved g t c =
     let lt : c.loop-part.part-index < length c.args.parts.now = omega arith in
     gathers_step _ _ _ _ _ _ _ _ _ _ _ c.loop-part.invariant lt c.part-item.is
-    c.in_ok-more.ensures c.in_ok-list.ensures
+    c.in_ok-eval_part.ensures c.in_ok-join.ensures
 
-pub Host::eval_content-returns-in_err-more : goal.Host::eval_content-returns-in_err-more
-Host::eval_content-returns-in_err-more g t c =
+pub Host::eval_content-returns-in_err-eval_part : goal.Host::eval_content-returns-in_err-eval_part
+Host::eval_content-returns-in_err-eval_part g t c =
     let q = err_from_is_err_and c.from_residual.result c.from_residual.ensures.1 in
     let lt : c.loop-part.part-index < length c.args.parts.now = omega arith in
     rw (q.1, q.2) (gathers_exit _ _ _ _ _ _ _ _ _ c.loop-part.invariant lt c.part-item.is
-    c.in_err-more.ensures)
+    c.in_err-eval_part.ensures)
 
 pub Host::eval_content-returns : goal.Host::eval_content-returns
 Host::eval_content-returns g t c =
@@ -218,12 +219,12 @@ Host::eval_if-returns-then-truth g t c =
     rw (arm_true p c.args.arms.now (outcome p c.args.other.now) c.loop-arm.arm-index
     c.arm-item.result _ (env_of c.args.env.now) c.loop-arm.next _ lt c.arm-item.is
     c.loop-arm.invariant _ (rw (c.get.ensures, c.if-truth.true) at c.in_ok-truth.ensures))
-    (rw c.get-then-truth.ensures at c.eval.ensures)
+    (rw c.get-then-truth.ensures at c.eval_into.ensures)
 
 pub Host::eval_if-returns : goal.Host::eval_if-returns
 Host::eval_if-returns g t c =
     let le : length c.args.arms.now ≤ c.loop-arm.arm-index = omega arith in
-    rw (← c.loop-arm.invariant, drop_all _ c.args.arms.now le) c.eval-2.ensures
+    rw (← c.loop-arm.invariant, drop_all _ c.args.arms.now le) c.eval_into-2.ensures
 
 pub Host::eval_if-eval_truth-requires : goal.Host::eval_if-eval_truth-requires
 Host::eval_if-eval_truth-requires g t c κs lives =
@@ -233,8 +234,8 @@ Host::eval_if-eval_truth-requires g t c κs lives =
     c.get.ensures in
     (omega (arith, c.decreases, w, arm_count c.arm-item.result, same), search rules)
 
-pub Host::eval_if-eval-requires : goal.Host::eval_if-eval-requires
-Host::eval_if-eval-requires g t c κs lives =
+pub Host::eval_if-eval_into-requires : goal.Host::eval_if-eval_into-requires
+Host::eval_if-eval_into-requires g t c κs lives =
     let w = within arm_nodes c.args.arms.now c.loop-arm.arm-index c.arm-item.result _
     c.loop-arm-test.true c.arm-item.is in
     let same : nodes c.get-then-truth.result.now ≡ nodes (out-Arm c.arm-item.result).then = ap
@@ -356,7 +357,7 @@ Host::eval_predicates-eval_predicate-requires g t c κs lives =
 
 pub Host::eval_attributes-loop-attribute-init : goal.Host::eval_attributes-loop-attribute-init
 Host::eval_attributes-loop-attribute-init g t c =
-    gathers_first_map _ _ _ _ _ c.new-list.ensures
+    gathers_first_map _ _ _ _ _ c.clear.ensures
 
 pub Host::eval_attributes-loop-attribute-preserved : goal.Host::eval_attributes-loop-attribute-preserved
 Host::eval_attributes-loop-attribute-preserved g t c =
@@ -594,9 +595,9 @@ pub Host::eval_slash-returns : goal.Host::eval_slash-returns
 Host::eval_slash-returns g t c =
     let p = program_of c.args.self.now.fixed (g.G.Callee.calls c.args.self.now.given)
     (g.G.Callee.keys c.args.self.now.given) in
-    slash_answers (outcome p c.args.a.now) (outcome p c.args.b.now) (env_of c.args.env.now)
-    c.args.next.now _ _ c.in_ok-nodes.ensures _ _ _ _ (rw c.as_slice.ensures at
-    c.in_ok-items.ensures) (c.path_items.ensures _)
+    c.put-2.ensures _ _ (slash_answers (outcome p c.args.a.now) (outcome p c.args.b.now)
+    (env_of c.args.env.now) c.args.next.now _ _ c.in_ok-nodes.ensures _ _ _ _
+    (rw c.as_slice.ensures at c.in_ok-items.ensures) (c.path_items.ensures _))
 
 pub Host::eval_step-returns-in_err-items : goal.Host::eval_step-returns-in_err-items
 Host::eval_step-returns-in_err-items g t c =
@@ -614,7 +615,16 @@ Host::eval_step-returns-in_err-kept g t c =
     let q = err_from_is_err_and c.from_residual-in_err-kept.result
     c.from_residual-in_err-kept.ensures.1 in
     rw (q.1, q.2) (step_kept_fault c.args.axis c.args.test.now (map (outcome p) c.args.tests.now)
-    (env_of c.args.env.now) c.args.next.now _ _ _ (c.in_ok-items.ensures _) c.in_err-kept.ensures)
+    (env_of c.args.env.now) c.args.next.now _ _ _ (c.in_ok-items.ensures _) (rw c.as_slice.ensures at c.in_err-kept.ensures))
+
+pub Host::eval_step-returns : goal.Host::eval_step-returns
+Host::eval_step-returns g t c =
+    let p = program_of c.args.self.now.fixed (g.G.Callee.calls c.args.self.now.given)
+    (g.G.Callee.keys c.args.self.now.given) in
+    rw (step_made c.args.axis c.args.test.now (map (outcome p) c.args.tests.now)
+    (env_of c.args.env.now) c.args.next.now _ _ _ _ (c.in_ok-items.ensures _)
+    (rw c.as_slice.ensures at c.in_ok-kept.ensures))
+    (c.put-2.ensures _ _ (c.ordered_items.ensures _))
 
 pub Host::eval_late-returns-in-Var : goal.Host::eval_late-returns-in-Var
 Host::eval_late-returns-in-Var g t c =
@@ -631,6 +641,14 @@ Host::eval_call-returns-in-len1 g t c =
     rw (only_one c.args.args.now c.only-item.result _ c.in-len1.len_at_least c.in-len1.len_below
     c.only-item.is) c.eval_call_of_one.ensures
 
+pub Host::eval_call_of_one-returns-in-Library : goal.Host::eval_call_of_one-returns-in-Library
+Host::eval_call_of_one-returns-in-Library g t c =
+    let p = program_of c.args.self.now.fixed (g.G.Callee.calls c.args.self.now.given)
+    (g.G.Callee.keys c.args.self.now.given) in
+    rw (library_call p c.args.name.now (outcome p c.args.arg.now) c.in-Library.f
+    (rw c.in-Library.is at c.find_called-called.ensures) (env_of c.args.env.now) c.args.next.now)
+    c.eval_call_of_library.ensures
+
 pub Host::eval_filter-returns-in-Some : goal.Host::eval_filter-returns-in-Some
 Host::eval_filter-returns-in-Some g t c =
     let p = program_of c.args.self.now.fixed (g.G.Callee.calls c.args.self.now.given)
@@ -638,25 +656,25 @@ Host::eval_filter-returns-in-Some g t c =
     let fits : FitsSigned w64 c.in-Some.place = search rules in
     rw (filter_at p (outcome p c.args.of.now) c.args.tests.now c.in-Some.place
     (env_of c.args.env.now) c.args.next.now (c.literal_place.ensures c.in-Some.place c.in-Some.is))
-    (subst
+    (c.put.ensures _ _ (subst
     (λ (n : ℤ). Answers c.eval_place.result c.eval_place.new.next
     (and_then (outcome p c.args.of.now (env_of c.args.env.now) c.args.next.now)
     (kept (literal n) (env_of c.args.env.now)))) (to_z-of_z w64 c.in-Some.place fits)
-    c.eval_place.ensures)
+    c.eval_place.ensures))
 
 pub Host::eval_slash-returns-then-branch : goal.Host::eval_slash-returns-then-branch
 Host::eval_slash-returns-then-branch g t c =
     let p = program_of c.args.self.now.fixed (g.G.Callee.calls c.args.self.now.given)
     (g.G.Callee.keys c.args.self.now.given) in
-    rw (c.requires.form, slash_means p c.args.a.now c.args.b.now) at
-    (c.late_walk_list.ensures p c.args.next.now)
+    c.put.ensures _ _ (rw (c.requires.form, slash_means p c.args.a.now c.args.b.now) at
+    (c.late_walk_list.ensures p c.args.next.now))
 
 pub Host::eval_step-returns-then-branch : goal.Host::eval_step-returns-then-branch
 Host::eval_step-returns-then-branch g t c =
     let p = program_of c.args.self.now.fixed (g.G.Callee.calls c.args.self.now.given)
     (g.G.Callee.keys c.args.self.now.given) in
-    rw (c.requires.form, step_means p c.args.axis c.args.test.now c.args.tests.now) at
-    (c.late_walk_list.ensures p c.args.next.now)
+    c.put.ensures _ _ (rw (c.requires.form, step_means p c.args.axis c.args.test.now c.args.tests.now) at
+    (c.late_walk_list.ensures p c.args.next.now))
 
 pub Host::eval_late-returns-then-branch : goal.Host::eval_late-returns-then-branch
 Host::eval_late-returns-then-branch g t c =
@@ -684,32 +702,32 @@ Host::eval_place-returns g t c =
     c.eval_late.new.next)) (to_z-of_z w64 c.args.place fits)
     (c.late_item.ensures (env_of c.args.env.now) c.eval_late.new.next))
 
-pub Host::eval-returns-in-Int : goal.Host::eval-returns-in-Int
-Host::eval-returns-in-Int g t c =
+pub Host::eval_into-returns-in-Int : goal.Host::eval_into-returns-in-Int
+Host::eval_into-returns-in-Int g t c =
     let p = program_of c.args.self.now.fixed (g.G.Callee.calls c.args.self.now.given)
     (g.G.Callee.keys c.args.self.now.given) in
     let fits : FitsSigned w64 c.in-Int.number = search rules in
     rw (c.in-Int.is, int_means p c.in-Int.number) (subst
-    (λ (n : ℤ). Answers c.literal_integer.result c.args.next.now
+    (λ (n : ℤ). Leaves c.put_integer.result c.put_integer.new.value c.args.next.now
     (literal n (env_of c.args.env.now) c.args.next.now)) (to_z-of_z w64 c.in-Int.number fits)
-    (c.literal_integer.ensures c.args.next.now))
+    (c.put_integer.ensures c.args.next.now))
 
-pub Host::eval-returns-in-Var : goal.Host::eval-returns-in-Var
-Host::eval-returns-in-Var g t c =
+pub Host::eval_into-returns-in-Var : goal.Host::eval_into-returns-in-Var
+Host::eval_into-returns-in-Var g t c =
     let p = program_of c.args.self.now.fixed (g.G.Callee.calls c.args.self.now.given)
     (g.G.Callee.keys c.args.self.now.given) in
-    rw (c.in-Var.is, var_means p c.in-Var.name) (c.variable_list.ensures
+    rw (c.in-Var.is, var_means p c.in-Var.name) (c.put_variable.ensures
     (g.G.Callee.calls c.args.self.now.given) (g.G.Callee.keys c.args.self.now.given)
     c.args.next.now)
 
-pub Host::eval-returns-in-Flwor : goal.Host::eval-returns-in-Flwor
-Host::eval-returns-in-Flwor g t c =
+pub Host::eval_into-returns-in-Flwor : goal.Host::eval_into-returns-in-Flwor
+Host::eval_into-returns-in-Flwor g t c =
     let p = program_of c.args.self.now.fixed (g.G.Callee.calls c.args.self.now.given)
     (g.G.Callee.keys c.args.self.now.given) in
     rw (c.in-Flwor.is, flow_means p c.in-Flwor.parts) c.eval_flwor.ensures
 
-pub Host::eval-returns-in-Call : goal.Host::eval-returns-in-Call
-Host::eval-returns-in-Call g t c =
+pub Host::eval_into-returns-in-Call : goal.Host::eval_into-returns-in-Call
+Host::eval_into-returns-in-Call g t c =
     let p = program_of c.args.self.now.fixed (g.G.Callee.calls c.args.self.now.given)
     (g.G.Callee.keys c.args.self.now.given) in
     rw (
@@ -723,7 +741,7 @@ Host::eval-returns-in-Call g t c =
 pub Host::eval_flwor-eval_flwor-requires-clause-callable :
     goal.Host::eval_flwor-eval_flwor-requires-clause-callable
 unfolding CanEvaluate
-Host::eval_flwor-eval_flwor-requires-clause-callable g t c = λ env next e h. search rules
+Host::eval_flwor-eval_flwor-requires-clause-callable g t c = λ env next e value h. search rules
 
 pub Host::eval_flwor-eval_flwor-requires-clause-serves :
     goal.Host::eval_flwor-eval_flwor-requires-clause-serves

@@ -21,131 +21,146 @@ use Rattle.eval_steps.specs.Sizes.{total, nodes, arm_nodes, bind_nodes, name_nod
 use Rattle.eval_steps.specs.Sizes.{part_nodes, flwor_nodes}
 use Rattle.expr_eval.proofs.hosts.+eval.Given as goal
 
+abbrev pub decreases-Host::eval_into : goal.decreases-Host::eval_into
+decreases-Host::eval_into g l = 16 * nodes l.e.now
+
 abbrev pub decreases-Host::eval : goal.decreases-Host::eval
-decreases-Host::eval g l = 8 * nodes l.e.now
+decreases-Host::eval g l = 16 * nodes l.e.now + 1
 
 abbrev pub decreases-Host::eval_comma : goal.decreases-Host::eval_comma
-decreases-Host::eval_comma g l = 8 * total (map nodes l.all.now) + 1
+decreases-Host::eval_comma g l = 16 * total (map nodes l.all.now) + 2
 
 abbrev pub decreases-Host::eval_truth : goal.decreases-Host::eval_truth
-decreases-Host::eval_truth g l = 8 * nodes l.e.now + 1
+decreases-Host::eval_truth g l = 16 * nodes l.e.now + 2
 
 abbrev pub decreases-Host::eval_first : goal.decreases-Host::eval_first
-decreases-Host::eval_first g l = 8 * total (map nodes l.all.now) + 2
+decreases-Host::eval_first g l = 16 * total (map nodes l.all.now) + 3
+
+abbrev pub decreases-Host::eval_or : goal.decreases-Host::eval_or
+decreases-Host::eval_or g l = 16 * total (map nodes l.all.now) + 4
+
+abbrev pub decreases-Host::eval_and : goal.decreases-Host::eval_and
+decreases-Host::eval_and g l = 16 * total (map nodes l.all.now) + 4
 
 abbrev pub decreases-Host::eval_if : goal.decreases-Host::eval_if
-decreases-Host::eval_if g l = 8 * (total (map arm_nodes l.arms.now) + nodes l.other.now) + 2
+decreases-Host::eval_if g l = 16 * (total (map arm_nodes l.arms.now) + nodes l.other.now) + 3
+
+abbrev pub decreases-Host::eval_quantifier : goal.decreases-Host::eval_quantifier
+decreases-Host::eval_quantifier g l = 16 * (total (map bind_nodes l.binds.now) + nodes l.test.now) + 4
 
 abbrev pub decreases-Host::eval_binds : goal.decreases-Host::eval_binds
-decreases-Host::eval_binds g l = 8 * (total (map bind_nodes l.binds.now) + nodes l.test.now) + 2
+decreases-Host::eval_binds g l = 16 * (total (map bind_nodes l.binds.now) + nodes l.test.now) + 3
 
 abbrev pub decreases-Host::eval_items : goal.decreases-Host::eval_items
-decreases-Host::eval_items g l = 8 * (total (map bind_nodes l.rest.now) + nodes l.test.now) + 3
+decreases-Host::eval_items g l = 16 * (total (map bind_nodes l.rest.now) + nodes l.test.now) + 4
 
 abbrev pub decreases-Host::eval_one : goal.decreases-Host::eval_one
-decreases-Host::eval_one g l = 8 * nodes l.a.now + 1
+decreases-Host::eval_one g l = 16 * nodes l.a.now + 2
 
 abbrev pub decreases-Host::eval_treat : goal.decreases-Host::eval_treat
-decreases-Host::eval_treat g l = 8 * nodes l.a.now + 1
+decreases-Host::eval_treat g l = 16 * nodes l.a.now + 2
 
 abbrev pub decreases-Host::eval_two : goal.decreases-Host::eval_two
-decreases-Host::eval_two g l = 8 * (nodes l.a.now + nodes l.b.now) + 2
-
-abbrev pub decreases-Host::eval_right : goal.decreases-Host::eval_right
-decreases-Host::eval_right g l = 8 * nodes l.b.now + 1
+decreases-Host::eval_two g l = 16 * (nodes l.a.now + nodes l.b.now) + 3
 
 abbrev pub decreases-Host::eval_instance : goal.decreases-Host::eval_instance
-decreases-Host::eval_instance g l = 8 * nodes l.a.now + 1
+decreases-Host::eval_instance g l = 16 * nodes l.a.now + 2
 
 abbrev pub decreases-Host::eval_enclosed : goal.decreases-Host::eval_enclosed
-decreases-Host::eval_enclosed g l = 8 * nodes l.e.now + 1
+decreases-Host::eval_enclosed g l = 16 * nodes l.e.now + 2
 
 abbrev pub decreases-Host::eval_slash : goal.decreases-Host::eval_slash
-decreases-Host::eval_slash g l = 8 * (nodes l.a.now + nodes l.b.now) + 2
+decreases-Host::eval_slash g l = 16 * (nodes l.a.now + nodes l.b.now) + 3
 
 abbrev pub decreases-Host::eval_each : goal.decreases-Host::eval_each
-decreases-Host::eval_each g l = 8 * nodes l.b.now + 1
+decreases-Host::eval_each g l = 16 * nodes l.b.now + 2
 
 abbrev pub decreases-Host::eval_step : goal.decreases-Host::eval_step
-decreases-Host::eval_step g l = 8 * total (map nodes l.tests.now) + 3
+decreases-Host::eval_step g l = 16 * total (map nodes l.tests.now) + 4
 
 abbrev pub decreases-Host::eval_filter : goal.decreases-Host::eval_filter
-decreases-Host::eval_filter g l = 8 * (nodes l.of.now + total (map nodes l.tests.now)) + 3
+decreases-Host::eval_filter g l = 16 * (nodes l.of.now + total (map nodes l.tests.now)) + 4
 
 abbrev pub decreases-Host::eval_predicates : goal.decreases-Host::eval_predicates
-decreases-Host::eval_predicates g l = 8 * total (map nodes l.tests.now) + 2
+decreases-Host::eval_predicates g l = 16 * total (map nodes l.tests.now) + 3
 
 abbrev pub decreases-Host::eval_predicate : goal.decreases-Host::eval_predicate
-decreases-Host::eval_predicate g l = 8 * nodes l.test.now + 1
+decreases-Host::eval_predicate g l = 16 * nodes l.test.now + 2
 
 abbrev pub decreases-Host::eval_call : goal.decreases-Host::eval_call
-decreases-Host::eval_call g l = 8 * total (map nodes l.args.now) + 3
+decreases-Host::eval_call g l = 16 * total (map nodes l.args.now) + 6
+
+abbrev pub decreases-Host::eval_call_of_many : goal.decreases-Host::eval_call_of_many
+decreases-Host::eval_call_of_many g l = 16 * total (map nodes l.args.now) + 5
 
 abbrev pub decreases-Host::eval_call_of_one : goal.decreases-Host::eval_call_of_one
-decreases-Host::eval_call_of_one g l = 8 * nodes l.arg.now + 2
+decreases-Host::eval_call_of_one g l = 16 * nodes l.arg.now + 5
+
+abbrev pub decreases-Host::eval_call_of_library : goal.decreases-Host::eval_call_of_library
+decreases-Host::eval_call_of_library g l = 16 * nodes l.arg.now + 4
 
 abbrev pub decreases-Host::eval_late : goal.decreases-Host::eval_late
-decreases-Host::eval_late g l = 8 * nodes l.e.now + 1
+decreases-Host::eval_late g l = 16 * nodes l.e.now + 2
 
 abbrev pub decreases-Host::eval_place : goal.decreases-Host::eval_place
-decreases-Host::eval_place g l = 8 * nodes l.of.now + 2
+decreases-Host::eval_place g l = 16 * nodes l.of.now + 3
 
 abbrev pub decreases-Host::eval_range : goal.decreases-Host::eval_range
-decreases-Host::eval_range g l = 8 * (nodes l.a.now + nodes l.b.now) + 1
+decreases-Host::eval_range g l = 16 * (nodes l.a.now + nodes l.b.now) + 2
 
 abbrev pub decreases-Host::eval_args : goal.decreases-Host::eval_args
-decreases-Host::eval_args g l = 8 * total (map nodes l.args.now) + 1
+decreases-Host::eval_args g l = 16 * total (map nodes l.args.now) + 2
 
 abbrev pub decreases-Host::eval_element_name : goal.decreases-Host::eval_element_name
-decreases-Host::eval_element_name g l = 8 * name_nodes l.name.now
+decreases-Host::eval_element_name g l = 16 * name_nodes l.name.now
 
 abbrev pub decreases-Host::eval_attribute_name : goal.decreases-Host::eval_attribute_name
-decreases-Host::eval_attribute_name g l = 8 * name_nodes l.name.now
+decreases-Host::eval_attribute_name g l = 16 * name_nodes l.name.now
 
 abbrev pub decreases-Host::eval_target : goal.decreases-Host::eval_target
-decreases-Host::eval_target g l = 8 * name_nodes l.name.now
+decreases-Host::eval_target g l = 16 * name_nodes l.name.now
 
 abbrev pub decreases-Host::eval_element : goal.decreases-Host::eval_element
-decreases-Host::eval_element g l = 8 * (name_nodes l.name.now + nodes l.content.now) + 1
+decreases-Host::eval_element g l = 16 * (name_nodes l.name.now + nodes l.content.now) + 2
 
 abbrev pub decreases-Host::eval_document : goal.decreases-Host::eval_document
-decreases-Host::eval_document g l = 8 * nodes l.content.now + 1
+decreases-Host::eval_document g l = 16 * nodes l.content.now + 2
 
 abbrev pub decreases-Host::eval_attribute : goal.decreases-Host::eval_attribute
-decreases-Host::eval_attribute g l = 8 * (name_nodes l.name.now + nodes l.value.now) + 1
+decreases-Host::eval_attribute g l = 16 * (name_nodes l.name.now + nodes l.value.now) + 2
 
 abbrev pub decreases-Host::eval_text : goal.decreases-Host::eval_text
-decreases-Host::eval_text g l = 8 * nodes l.value.now + 1
+decreases-Host::eval_text g l = 16 * nodes l.value.now + 2
 
 abbrev pub decreases-Host::eval_comment : goal.decreases-Host::eval_comment
-decreases-Host::eval_comment g l = 8 * nodes l.value.now + 1
+decreases-Host::eval_comment g l = 16 * nodes l.value.now + 2
 
 abbrev pub decreases-Host::eval_pi : goal.decreases-Host::eval_pi
-decreases-Host::eval_pi g l = 8 * (name_nodes l.name.now + nodes l.value.now) + 1
+decreases-Host::eval_pi g l = 16 * (name_nodes l.name.now + nodes l.value.now) + 2
 
 abbrev pub decreases-Host::eval_direct : goal.decreases-Host::eval_direct
-decreases-Host::eval_direct g l = 8 * (total (map attr_nodes l.attributes.now) + total (map part_nodes l.parts.now)) + 3
+decreases-Host::eval_direct g l = 16 * (total (map attr_nodes l.attributes.now) + total (map part_nodes l.parts.now)) + 4
 
 abbrev pub decreases-Host::eval_attributes : goal.decreases-Host::eval_attributes
-decreases-Host::eval_attributes g l = 8 * total (map attr_nodes l.attributes.now) + 2
+decreases-Host::eval_attributes g l = 16 * total (map attr_nodes l.attributes.now) + 3
 
 abbrev pub decreases-Host::eval_value : goal.decreases-Host::eval_value
-decreases-Host::eval_value g l = 8 * total (map part_nodes l.parts.now) + 1
+decreases-Host::eval_value g l = 16 * total (map part_nodes l.parts.now) + 2
 
 abbrev pub decreases-Host::eval_part_text : goal.decreases-Host::eval_part_text
-decreases-Host::eval_part_text g l = 8 * part_nodes l.part.now
+decreases-Host::eval_part_text g l = 16 * part_nodes l.part.now
 
 abbrev pub decreases-Host::eval_content : goal.decreases-Host::eval_content
-decreases-Host::eval_content g l = 8 * total (map part_nodes l.parts.now) + 1
+decreases-Host::eval_content g l = 16 * total (map part_nodes l.parts.now) + 2
 
 abbrev pub decreases-Host::eval_part : goal.decreases-Host::eval_part
-decreases-Host::eval_part g l = 8 * part_nodes l.part.now
+decreases-Host::eval_part g l = 16 * part_nodes l.part.now
 
 abbrev pub decreases-Host::eval_flwor : goal.decreases-Host::eval_flwor
-decreases-Host::eval_flwor g l = 8 * flwor_nodes l.parts.now + 2
+decreases-Host::eval_flwor g l = 16 * flwor_nodes l.parts.now + 3
 
 abbrev pub decreases-Host::eval_flwor-eval : goal.decreases-Host::eval_flwor-eval
-decreases-Host::eval_flwor-eval g l = 8 * flwor_nodes l.parts.now + 1
+decreases-Host::eval_flwor-eval g l = 16 * flwor_nodes l.parts.now + 2
 
 abbrev pub invariant-Host::eval_comma-loop-e : goal.invariant-Host::eval_comma-loop-e
 invariant-Host::eval_comma-loop-e g l =

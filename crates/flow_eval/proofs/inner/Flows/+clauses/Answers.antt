@@ -1,4 +1,4 @@
-use Rattle.std.proofs.Common.{◌≡◌, ◌∙◌, arith, refl, length, ◌<◌, ◌≤◌, ◌+◌, ◌-◌, map}
+use Rattle.std.proofs.Common.{◌≡◌, ◌∙◌, arith, refl, length, ◌<◌, ◌≤◌, ◌+◌, map}
 use Rattle.std.proofs.lemmas.Result.{err_from_is_err_and}
 use Rattle.eval_scopes.specs.Scopes.{env_of}
 use Rattle.eval_steps.proofs.Follow.{fault_first}

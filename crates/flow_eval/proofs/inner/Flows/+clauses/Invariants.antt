@@ -1,4 +1,4 @@
-use Rattle.std.proofs.Common.{◌≡◌, ◌+◌, ◌*◌, [], length, map}
+use Rattle.std.proofs.Common.{◌≡◌, ◌+◌, ◌*◌, length, map}
 use Rattle.outcomes.specs.Outcome.{for_each}
 use Rattle.sort_meaning.specs.Sorted.{placed_from}
 use Rattle.expr_meaning.specs.Flow.{flow_of, for_item, for_place}

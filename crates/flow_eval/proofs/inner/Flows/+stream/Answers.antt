@@ -1,4 +1,4 @@
-use Rattle.std.proofs.Common.{◌≡◌, ◌∙◌, arith, refl, length, ◌<◌, ◌≤◌, ◌+◌, ◌-◌, map}
+use Rattle.std.proofs.Common.{◌≡◌, ◌∙◌, arith, refl, length, ◌<◌, ◌≤◌, ◌+◌, map}
 use Rattle.std.proofs.lemmas.Result.{err_from_is_err_and}
 use Rattle.expr_meaning.specs.Meaning.{outcome}
 use Rattle.eval_scopes.specs.Scopes.{env_of}
@@ -20,7 +20,7 @@ use Rattle.flow_eval.proofs.inner.Flows.+stream.Goals as goal
 pub eval_stream-returns-in-empty : goal.eval_stream-returns-in-empty
 eval_stream-returns-in-empty g t c =
     rw (no_items c.args.clauses.now c.in-empty.len_below)
-    (rw c.get.ensures at c.value.ensures)
+    (rw c.get.ensures at c.eval_into.ensures)
 
 pub eval_stream-returns-in-For : goal.eval_stream-returns-in-For
 eval_stream-returns-in-For g t c =
@@ -42,8 +42,8 @@ eval_stream-returns-in-Let g t c =
       let_binds p c.in-Let.bind,
     ) c.stream_let.ensures
 
-pub stream_let-returns-in_err-push_let : goal.stream_let-returns-in_err-push_let
-stream_let-returns-in_err-push_let g t c =
+pub stream_bound-returns-in_err-push_let : goal.stream_bound-returns-in_err-push_let
+stream_bound-returns-in_err-push_let g t c =
     let p = g.W.Within.program c.args.self.now.within.now in
     let q = err_from_is_err_and c.from_residual.result c.from_residual.ensures.1 in
     rw (
@@ -54,8 +54,8 @@ stream_let-returns-in_err-push_let g t c =
     )
     (fault_first _ _ _ c.in_err-push_let.ensures)
 
-pub stream_let-returns-in-empty : goal.stream_let-returns-in-empty
-stream_let-returns-in-empty g t c =
+pub stream_bound-returns-in-empty : goal.stream_bound-returns-in-empty
+stream_bound-returns-in-empty g t c =
     let p = g.W.Within.program c.args.self.now.within.now in
     let b = c.in_ok-push_let.ensures in
     rw (
@@ -64,11 +64,11 @@ stream_let-returns-in-empty g t c =
           c.args.next.now,
       b.2,
       no_items c.args.rest.now c.in-empty.len_below,
-    ) (rw (c.get.ensures, c.as_slice.ensures.value, b.1, c.new-bound.ensures.items) at
-    c.value.ensures)
+    ) (rw (c.get.ensures, c.as_slice.ensures.value, b.1, c.requires.none) at
+    c.eval_into.ensures)
 
-pub stream_let-returns : goal.stream_let-returns
-stream_let-returns g t c =
+pub stream_bound-returns-in_default : goal.stream_bound-returns-in_default
+stream_bound-returns-in_default g t c =
     let p = g.W.Within.program c.args.self.now.within.now in
     let b = c.in_ok-push_let.ensures in
     rw (
@@ -76,15 +76,15 @@ stream_let-returns g t c =
           (outcome p (out-Flwor c.args.self.now.whole.now).body)) (env_of c.args.env.now)
           c.args.next.now,
       b.2,
-    ) (rw (c.as_slice.ensures.value, b.1, c.new-bound.ensures.items) at c.eval_stream.ensures)
+    ) (rw (c.as_slice.ensures.value, b.1, c.requires.none) at c.eval_stream.ensures)
 
-pub stream_for-returns-in_err-items : goal.stream_for-returns-in_err-items
-stream_for-returns-in_err-items g t c =
+pub stream_for-returns-in_err-eval_into : goal.stream_for-returns-in_err-eval_into
+stream_for-returns-in_err-eval_into g t c =
     let p = g.W.Within.program c.args.self.now.within.now in
     let q = err_from_is_err_and c.from_residual.result c.from_residual.ensures.1 in
     rw (q.1, q.2) (for_fails p c.args.bind.now (stream_of (map (binder_of p) c.args.rest.now)
     (outcome p (out-Flwor c.args.self.now.whole.now).body)) (env_of c.args.env.now) c.args.next.now c.args.place.now _
-    (rw c.get.ensures at c.in_err-items.ensures))
+    (rw c.get.ensures at c.in_err-eval_into.ensures))
 
 pub stream_for-returns-in-None : goal.stream_for-returns-in-None
 stream_for-returns-in-None g t c =
@@ -93,7 +93,7 @@ stream_for-returns-in-None g t c =
       c.in-None.is,
       stream_turns_of p c.args.bind.now (stream_of (map (binder_of p) c.args.rest.now)
           (outcome p (out-Flwor c.args.self.now.whole.now).body)) (env_of c.args.env.now) c.args.next.now _ _
-          (rw c.get.ensures at c.in_ok-items.ensures),
+          (rw c.get.ensures at c.in_ok-eval_into.ensures),
     )
     (rw c.as_slice.ensures at c.stream_turns.ensures)
 
@@ -111,18 +111,18 @@ stream_turns-returns-in_err-push_item g t c =
     (outcome p (out-Flwor c.args.self.now.whole.now).body)) (env_of c.args.env.now) c.item-item.result c.loop-item.next _
     (c.in_err-push_item.ensures c.loop-item.next)))
 
-pub stream_turns-returns-in_err-more : goal.stream_turns-returns-in_err-more
-stream_turns-returns-in_err-more g t c =
+pub stream_turns-returns-in_err-eval_stream : goal.stream_turns-returns-in_err-eval_stream
+stream_turns-returns-in_err-eval_stream g t c =
     let p = g.W.Within.program c.args.self.now.within.now in
     let b = c.in_ok-push_item.ensures c.loop-item.next in
     let lt : c.loop-item.item-index < length c.args.items.now = omega arith in
-    let q = err_from_is_err_and c.from_residual-in_err-more.result
-    c.from_residual-in_err-more.ensures.1 in
+    let q = err_from_is_err_and c.from_residual-in_err-eval_stream.result
+    c.from_residual-in_err-eval_stream.ensures.1 in
     rw (q.1, q.2) (gathers_exit _ _ _ _ _ _ _ _ _ c.loop-item.invariant.1 lt c.item-item.is
     (rw (item_streams p c.args.bind.now (stream_of (map (binder_of p) c.args.rest.now)
     (outcome p (out-Flwor c.args.self.now.whole.now).body)) (env_of c.args.env.now) c.item-item.result c.loop-item.next _
     b.2) (rw
-    (c.as_slice.ensures.value, b.1, c.loop-item.invariant.0) at c.in_err-more.ensures)))
+    (c.as_slice.ensures.value, b.1, c.loop-item.invariant.0) at c.in_err-eval_stream.ensures)))
 
 pub stream_turns-loop-item-preserved : goal.stream_turns-loop-item-preserved
 stream_turns-loop-item-preserved g t c =
@@ -134,8 +134,8 @@ stream_turns-loop-item-preserved g t c =
           (rw (item_streams p c.args.bind.now (stream_of (map (binder_of p) c.args.rest.now)
           (outcome p (out-Flwor c.args.self.now.whole.now).body)) (env_of c.args.env.now) c.item-item.result c.loop-item.next _
           b.2) (rw
-          (c.as_slice.ensures.value, b.1, c.loop-item.invariant.0) at c.in_ok-more.ensures))
-          c.in_ok-list.ensures,
+          (c.as_slice.ensures.value, b.1, c.loop-item.invariant.0) at c.in_ok-eval_stream.ensures))
+          c.in_ok-join.ensures,
     )
 
 pub stream_turns-returns : goal.stream_turns-returns
@@ -182,8 +182,8 @@ stream_places-returns-in_err-push_item g t c =
       size = c.in_ok-size.size;
     }) c.loop-item.next _ (c.in_err-push_item.ensures c.loop-item.next)))
 
-pub stream_places-returns-in_err-more : goal.stream_places-returns-in_err-more
-stream_places-returns-in_err-more g t c =
+pub stream_places-returns-in_err-eval_stream : goal.stream_places-returns-in_err-eval_stream
+stream_places-returns-in_err-eval_stream g t c =
     let p = g.W.Within.program c.args.self.now.within.now in
     let b = c.in_ok-push_item.ensures c.loop-item.next in
     let a = c.in_ok-push_position.ensures in
@@ -201,8 +201,8 @@ stream_places-returns-in_err-more g t c =
       c.place_in.ensures
           (omega (arith, size, lt, c.loop-item.invariant.0)),
     ) in
-    let q = err_from_is_err_and c.from_residual-in_err-more.result
-    c.from_residual-in_err-more.ensures.1 in
+    let q = err_from_is_err_and c.from_residual-in_err-eval_stream.result
+    c.from_residual-in_err-eval_stream.ensures.1 in
     rw (
       q.1,
       q.2,
@@ -226,7 +226,7 @@ stream_places-returns-in_err-more g t c =
       a.2,
       there,
     ) at
-    c.in_err-more.ensures)))
+    c.in_err-eval_stream.ensures)))
 
 pub stream_places-loop-item-preserved : goal.stream_places-loop-item-preserved
 stream_places-loop-item-preserved g t c =
@@ -267,7 +267,7 @@ stream_places-loop-item-preserved g t c =
             a.2,
             there,
           ) at
-          c.in_ok-more.ensures)) c.in_ok-list.ensures,
+          c.in_ok-eval_stream.ensures)) c.in_ok-join.ensures,
     )
 
 pub stream_places-returns : goal.stream_places-returns

@@ -13,7 +13,10 @@ abbrev pub decreases-eval_stream : goal.decreases-eval_stream
 decreases-eval_stream g l = 4 * length l.clauses.now
 
 abbrev pub decreases-stream_let : goal.decreases-stream_let
-decreases-stream_let g l = 4 * length l.rest.now + 1
+decreases-stream_let g l = 4 * length l.rest.now + 2
+
+abbrev pub decreases-stream_bound : goal.decreases-stream_bound
+decreases-stream_bound g l = 4 * length l.rest.now + 1
 
 abbrev pub decreases-stream_for : goal.decreases-stream_for
 decreases-stream_for g l = 4 * length l.rest.now + 2

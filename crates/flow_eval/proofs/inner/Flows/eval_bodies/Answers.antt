@@ -1,4 +1,4 @@
-use Rattle.std.proofs.Common.{arith, refl, length, ◌<◌, ◌≤◌, ◌-◌}
+use Rattle.std.proofs.Common.{arith, refl, length, ◌<◌, ◌≤◌}
 use Rattle.std.proofs.lemmas.Result.{err_from_is_err_and}
 use Rattle.eval_steps.proofs.Follow.{gathers_first_map, gathers_step, gathers_exit, gathers_end}
 use Rattle.flow_eval.proofs.inner.Flows.eval_bodies.Goals as goal

@@ -1,5 +1,4 @@
 use Rattle.eval_scopes.specs.Scopes.{env_of}
-use Rattle.std.proofs.Common.{◌-◌}
 use Rattle.flow_eval.proofs.inner.Flows.eval_flwor.Goals as goal
 
 pub returns-then-is_streamed : goal.returns-then-is_streamed

@@ -1,4 +1,4 @@
-use Rattle.std.proofs.Common.{sym, [], ◌-◌}
+use Rattle.std.proofs.Common.{sym, []}
 use Rattle.std.proofs.lemmas.Result.{err_from_is_err_and}
 use Rattle.eval_scopes.specs.Scopes.{env_of}
 use Rattle.flow_eval.specs.Rows.{tuple_of, rows_of}

@@ -1,4 +1,4 @@
-use Rattle.std.proofs.Common.{ap, ◌∙◌, ◌+◌, ◌-◌, ◌++◌, List}
+use Rattle.std.proofs.Common.{ap, ◌∙◌, ◌++◌, List}
 use Rattle.std.proofs.lemmas.Result.{err_from_is_err_and}
 use Rattle.eval_scopes.specs.Scopes.{env_of}
 use Rattle.order_group.specs.Rows.{Keyed}
@@ -34,7 +34,7 @@ returns g c =
     c.in_ok-eval_clauses.ensures.rows in
     let same = made.2 ∙ ap (λ (r : List (Keyed (List Binding))). r ++ made.0)
     c.new-rows.ensures.none in
-    flwor_ends p c.args.self.now.whole.now (env_of c.args.env.now) c.args.next.now _ _ made.0 _ _ _ made.1
-    (rw (same, c.as_slice.ensures, c.get-2.ensures) at
+    c.put.ensures _ _ (flwor_ends p c.args.self.now.whole.now (env_of c.args.env.now)
+    c.args.next.now _ _ made.0 _ _ _ made.1 (rw (same, c.as_slice.ensures, c.get-2.ensures) at
     (c.in_ok-places.ensures c.eval_clauses.new.next)) (rw (c.as_slice-2.ensures, c.get-3.ensures)
-    at c.eval_bodies.ensures)
+    at c.eval_bodies.ensures))

@@ -1,4 +1,4 @@
-use Rattle.std.proofs.Common.{◌≡◌, map}
+use Rattle.std.proofs.Common.{map}
 use Rattle.flow_eval.specs.Rows.{tuple_at}
 use Rattle.eval_steps.proofs.Follow.{viewed}
 use Rattle.flow_eval.proofs.RowLemmas.{placed_tuples}
