@@ -57,22 +57,39 @@ const DEEPEST: &[&str] = &["query", "q.xq", "d.xml", "--depth", "602"];
 
 const CALL: &str = "declare function local:f($n) { if ($n = 1) then 0 else ";
 
-// What stands twenty times before and behind each of 602 open calls, and what they give.
-const FORMS: [(&str, &str, &str); 2] = [
-    ("(", " + 1)", "12020"),
-    ("(if ($n = 0) then 9 else ", ")", "0"),
+// What stands before and behind each of 602 open calls, in between thirty times, and what they give.
+const FORMS: [(&str, &str, &str, &str, &str, &str); 5] = [
+    ("", "1 + (", "local:f($n - 1)", ")", "", "18030"),
+    ("", "(", "local:f($n - 1)", " + 1)", "", "18030"),
+    (
+        "",
+        "if ($n = 0) then 9 else ",
+        "local:f($n - 1)",
+        "",
+        "",
+        "0",
+    ),
+    ("", "let $m := $n - 1 return ", "local:f($m)", "", "", "0"),
+    ("count(", "<a>", "{ local:f($n - 1) }", "</a>", ")", "1"),
 ];
 
 #[test]
 fn forms_around_calls(rt: HostRuntime) {
-    for (before, behind, said) in FORMS {
-        let front = around(&rt, CALL, before, 20, "local:f($n - 1)");
-        let query = around(&rt, front.as_str(), behind, 20, " }; local:f(602)");
+    for (first, before, call, behind, last, said) in FORMS {
+        let mut query = around(&rt, CALL, first, 1, "");
+        for _ in 0..30 {
+            query.push_str(before).expect(&rt, "memory");
+        }
+        query.push_str(call).expect(&rt, "memory");
+        for _ in 0..30 {
+            query.push_str(behind).expect(&rt, "memory");
+        }
+        query.push_str(last).expect(&rt, "memory");
+        query.push_str(" }; local:f(602)").expect(&rt, "memory");
         assert!(rt;
             ends_so(&rt, DEEPEST, query.as_bytes(), b"<a/>", 0, said),
             "{before}"
         );
-        drop(front);
         drop(query);
     }
 }
