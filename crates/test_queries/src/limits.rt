@@ -57,38 +57,57 @@ const DEEPEST: &[&str] = &["query", "q.xq", "d.xml", "--depth", "602"];
 
 const CALL: &str = "declare function local:f($n) { if ($n = 1) then 0 else ";
 
-// What stands before and behind each of 602 open calls, in between thirty times, and what they give.
-const FORMS: [(&str, &str, &str, &str, &str, &str); 5] = [
-    ("", "1 + (", "local:f($n - 1)", ")", "", "18030"),
-    ("", "(", "local:f($n - 1)", " + 1)", "", "18030"),
+// What stands before and behind each of 602 open calls, in between so many times, and what they give.
+const FORMS: [(usize, Parts, &str); 5] = [
+    (30, ("", "1 + (", "local:f($n - 1)", ")", ""), "18030"),
+    (30, ("", "(", "local:f($n - 1)", " + 1)", ""), "18030"),
     (
-        "",
-        "if ($n = 0) then 9 else ",
-        "local:f($n - 1)",
-        "",
-        "",
+        30,
+        ("", "if ($n = 0) then 9 else ", "local:f($n - 1)", "", ""),
         "0",
     ),
-    ("", "let $m := $n - 1 return ", "local:f($m)", "", "", "0"),
-    ("count(", "<a>", "{ local:f($n - 1) }", "</a>", ")", "1"),
+    (
+        25,
+        ("", "let $m := $n - 1 return ", "local:f($m)", "", ""),
+        "0",
+    ),
+    (
+        30,
+        ("count(", "<a>", "{ local:f($n - 1) }", "</a>", ")"),
+        "1",
+    ),
 ];
+
+type Parts = (
+    &'static str,
+    &'static str,
+    &'static str,
+    &'static str,
+    &'static str,
+);
+
+fn nested(rt: &(impl Abort + AllocGlobal), count: usize, parts: Parts) -> String {
+    let (first, before, call, behind, last) = parts;
+    let mut query = around(rt, CALL, first, 1, "");
+    for _ in 0..count {
+        query.push_str(before).expect(rt, "memory");
+    }
+    query.push_str(call).expect(rt, "memory");
+    for _ in 0..count {
+        query.push_str(behind).expect(rt, "memory");
+    }
+    query.push_str(last).expect(rt, "memory");
+    query.push_str(" }; local:f(602)").expect(rt, "memory");
+    query
+}
 
 #[test]
 fn forms_around_calls(rt: HostRuntime) {
-    for (first, before, call, behind, last, said) in FORMS {
-        let mut query = around(&rt, CALL, first, 1, "");
-        for _ in 0..30 {
-            query.push_str(before).expect(&rt, "memory");
-        }
-        query.push_str(call).expect(&rt, "memory");
-        for _ in 0..30 {
-            query.push_str(behind).expect(&rt, "memory");
-        }
-        query.push_str(last).expect(&rt, "memory");
-        query.push_str(" }; local:f(602)").expect(&rt, "memory");
+    for (count, parts, said) in FORMS {
+        let query = nested(&rt, count, parts);
         assert!(rt;
             ends_so(&rt, DEEPEST, query.as_bytes(), b"<a/>", 0, said),
-            "{before}"
+            "{said}"
         );
         drop(query);
     }
