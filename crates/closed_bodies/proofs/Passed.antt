@@ -25,7 +25,7 @@ use Rattle.sheet_heads.specs.Characters.{characters_value}
 use Rattle.sheet_heads.specs.Leaves.{leaf_faults, selected_value}
 use Rattle.sheet_heads.specs.declared.calls.CallHead.{CallHead}
 use Rattle.sheet_heads.specs.declared.calls.CallHead.TheVariants as head
-use Rattle.sheet_language.specs.Language.{sheet_reading as reading}
+use Rattle.closed_heads.specs.SheetLanguage.Language.{sheet_reading as reading}
 use Rattle.sheet_nodes.specs.declared.nodes.Node.{Node}
 use Rattle.sheet_table.specs.declared.elements.XslElement.TheVariants as element
 use Rattle.sheet_texts.specs.Places.{grouped}

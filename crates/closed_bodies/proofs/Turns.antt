@@ -14,7 +14,7 @@ use Rattle.sheet_bodies.specs.Bodies.{is_none, inner, body_value}
 use Rattle.sheet_forms.specs.InstrNest.{Nested, nested_of, behind as levels_behind, most_behind}
 use Rattle.sheet_forms.specs.InstrNest.{body_nest_of}
 use Rattle.sheet_heads.specs.Bodied.{own_value}
-use Rattle.sheet_language.specs.Language.{sheet_reading as reading}
+use Rattle.closed_heads.specs.SheetLanguage.Language.{sheet_reading as reading}
 use Rattle.sheet_nodes.specs.Parts.{leading, behind}
 use Rattle.sheet_nodes.specs.declared.nodes.Node.{Node}
 use Rattle.sheet_table.specs.declared.elements.XslElement.{XslElement}

@@ -39,7 +39,7 @@ use Rattle.sheet_heads.specs.Calls as call
 use Rattle.sheet_heads.specs.Forms.{form_of}
 use Rattle.sheet_heads.specs.Literals.{literal_faults, literal_value}
 use Rattle.sheet_heads.specs.Repeats.{bound_name}
-use Rattle.sheet_language.specs.Language.{sheet_reading as reading, expr_faults, expr_value}
+use Rattle.closed_heads.specs.SheetLanguage.Language.{sheet_reading as reading, expr_faults, expr_value}
 use Rattle.sheet_nodes.specs.Parts.{is_lead, is_variable, is_variable_element, is_with_param}
 use Rattle.sheet_nodes.specs.Parts.{none_faults, misplaced_node, xsl_of, xsl_in}
 use Rattle.sheet_nodes.specs.declared.nodes.Node.{Node}

@@ -12,7 +12,7 @@ ghost use Rattle.closed_sheets.specs.Instrs.{is_good_body};
 ghost use Rattle.closed_sheets.specs.Values.{is_good_binding};
 ghost use Rattle.sheet_bodies.specs.Bodies.{body_faults, body_value};
 ghost use Rattle.sheet_forms.specs.InstrNest.{body_nest_of};
-ghost use Rattle.sheet_language.specs.Language.{sheet_reading};
+ghost use Rattle.closed_heads.specs.SheetLanguage.Language.{sheet_reading};
 ghost use Rattle.sheet_nodes.specs.declared.nodes.Node.{Node};
 ghost use Rattle.sheet_texts.specs.declared.places.Place.{Place};
 ghost use Rattle.standing_parts.specs.Bodies.{body_stands};

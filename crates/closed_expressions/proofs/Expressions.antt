@@ -8,9 +8,9 @@ use Rattle.expr_reader.specs.declared.readings.Reading.TheVariants as read
 use Rattle.expr_readings.specs.Readings.{terms_in, raw_reading}
 use Rattle.expr_readings.proofs.ReadingLemmas.{value_read}
 use Rattle.sheet_expressions.specs.Checked.{checked}
-use Rattle.sheet_language.specs.Settings.{prefixes_at, setting_at}
-use Rattle.sheet_language.specs.Language.{most_levels, checked_faults, checked_value, raw_faults}
-use Rattle.sheet_language.specs.Language.{raw_value, expr_faults, expr_value}
+use Rattle.sheet_laws.specs.SheetLanguage.Settings.{prefixes_at, setting_at}
+use Rattle.sheet_laws.specs.SheetLanguage.Language.{most_levels, checked_faults, checked_value, raw_faults}
+use Rattle.sheet_laws.specs.SheetLanguage.Language.{raw_value, expr_faults, expr_value}
 use Rattle.sheet_texts.specs.declared.places.Place.{Place}
 use Rattle.sheet_laws.proofs.Lexed.{text_sound}
 use Rattle.sheet_laws.proofs.Types.{sound_at}

@@ -3,7 +3,7 @@ use Rattle.std.proofs.Common.{◌≡◌, ℕ, List, [], ◌∷◌, ◌++◌, map
 use Rattle.std.proofs.lemmas.Bool.{and_from}
 use Rattle.xt_names.specs.Classes.{is_xml_text}
 use Rattle.closed_sheets.specs.Values.{is_good_part, is_good_template}
-use Rattle.sheet_language.specs.Language.{sheet_reading}
+use Rattle.sheet_laws.specs.SheetLanguage.Language.{sheet_reading}
 use Rattle.sheet_texts.specs.declared.places.Place.{Place}
 use Rattle.sheet_texts.specs.Templates.{piece_faults, piece_value, template_faults}
 use Rattle.sheet_values.specs.Rules.{each}
@@ -12,7 +12,7 @@ use Rattle.sheet_values.specs.declared.templates.Piece.{Piece}
 use Rattle.sheet_values.specs.declared.templates.Piece.TheVariants.{Chars, Code, LoneOpen}
 use Rattle.sheet_values.specs.declared.templates.Piece.TheVariants.{LoneClose}
 use Rattle.sound_forms.specs.Sound.{SoundBindings}
-use Rattle.standing_parts.specs.Values.{part_stands, template_stands}
+use Rattle.named_keys.specs.StandingParts.Values.{part_stands, template_stands}
 use Rattle.closed_expressions.proofs.Expressions.{expr_closed}
 use Rattle.closed_expressions.proofs.Pieces.{IsFine, AreFine, all_fine}
 

@@ -8,12 +8,12 @@
 
 ghost use Rattle.std.specs.Prelude.{◌≡◌, ℕ, List, [], true};
 ghost use Rattle.closed_sheets.specs.Values.{is_good_template, is_sheet_expr};
-ghost use Rattle.sheet_language.specs.Language.{expr_faults, expr_value, sheet_reading};
+ghost use Rattle.sheet_laws.specs.SheetLanguage.Language.{expr_faults, expr_value, sheet_reading};
 ghost use Rattle.sheet_texts.specs.Templates.{template_faults, template_value};
 ghost use Rattle.sheet_texts.specs.declared.places.Place.{Place};
 ghost use Rattle.sound_forms.specs.Sound.{SoundBindings};
-ghost use Rattle.standing_parts.specs.Calls.{expr_stands};
-ghost use Rattle.standing_parts.specs.Values.{template_stands};
+ghost use Rattle.named_keys.specs.StandingParts.Calls.{expr_stands};
+ghost use Rattle.named_keys.specs.StandingParts.Values.{template_stands};
 ghost use Rattle.xt_names.specs.Classes.{is_xml_text};
 
 /// An expression in a stylesheet that breaks no rule, where prefixes are bound as XML allows, is a

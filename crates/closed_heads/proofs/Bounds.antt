@@ -17,8 +17,8 @@ use Rattle.sheet_heads.specs.Leaves.{selected_faults, selected_value}
 use Rattle.sheet_heads.specs.Parts.{both_broken}
 use Rattle.sheet_heads.specs.declared.bindings.BoundHead.{BoundHead}
 use Rattle.sheet_heads.specs.declared.calls.CallHead.{CallHead}
-use Rattle.sheet_language.specs.Language.{sheet_reading as reading, expr_faults, expr_value}
-use Rattle.sheet_language.specs.Language.{type_faults, type_value}
+use Rattle.sheet_laws.specs.SheetLanguage.Language.{sheet_reading as reading, expr_faults, expr_value}
+use Rattle.sheet_laws.specs.SheetLanguage.Language.{type_faults, type_value}
 use Rattle.sheet_nodes.specs.Parts.{none_faults}
 use Rattle.sheet_nodes.specs.declared.nodes.Node.{Node}
 use Rattle.sheet_table.specs.Attributes.{attribute, has}

@@ -29,7 +29,7 @@ use Rattle.sheet_heads.specs.Literals.{one_faults, one_value, values_faults, val
 use Rattle.sheet_heads.specs.Literals.{literal_faults, literal_value}
 use Rattle.sheet_heads.specs.Parts.{both_broken, computed_name}
 use Rattle.sheet_heads.specs.declared.bodied.Head.{Head}
-use Rattle.sheet_language.specs.Language.{sheet_reading as reading, expr_value}
+use Rattle.sheet_laws.specs.SheetLanguage.Language.{sheet_reading as reading, expr_value}
 use Rattle.sheet_nodes.specs.declared.nodes.Node.{Node}
 use Rattle.sheet_table.specs.Attributes.{attribute, has, is_in_xslt}
 use Rattle.sheet_table.specs.Rules.{attribute_faults, literal_attribute_faults}

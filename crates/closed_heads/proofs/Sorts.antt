@@ -17,7 +17,7 @@ use Rattle.sheet_heads.specs.Groupings.{grouping_value}
 use Rattle.sheet_heads.specs.Parts.{computed_name}
 use Rattle.sheet_heads.specs.Sorts.{sort_layer_faults, sort_layer_value, sort_node_faults}
 use Rattle.sheet_heads.specs.Sorts.{sort_node_value, keys_faults, keys_value, key_text}
-use Rattle.sheet_language.specs.Language.{sheet_reading as reading, expr_faults}
+use Rattle.sheet_laws.specs.SheetLanguage.Language.{sheet_reading as reading, expr_faults}
 use Rattle.sheet_nodes.specs.Parts.{is_sort, none_faults}
 use Rattle.sheet_nodes.specs.declared.nodes.Node.{Node}
 use Rattle.sheet_nodes.specs.declared.nodes.Node.TheViews.{out-Node}

@@ -13,8 +13,8 @@ use Rattle.closed_sheets.specs.Values.{is_sheet_expr, if_sheet_expr, is_good_tem
 use Rattle.closed_sheets.specs.Values.{if_good_template, is_good_binding}
 use Rattle.sheet_heads.specs.Attributes.{optional_faults, optional_value, needed_faults}
 use Rattle.sheet_heads.specs.Attributes.{needed_value}
-use Rattle.sheet_language.specs.Language.{expr_faults, expr_value, patterns_faults, patterns_value}
-use Rattle.sheet_language.specs.Language.{type_faults, type_value, sheet_reading}
+use Rattle.sheet_laws.specs.SheetLanguage.Language.{expr_faults, expr_value, patterns_faults, patterns_value}
+use Rattle.sheet_laws.specs.SheetLanguage.Language.{type_faults, type_value, sheet_reading}
 use Rattle.sheet_table.specs.Attributes.{attribute, has, is_named}
 use Rattle.sheet_texts.specs.Templates.{template_faults, template_value}
 use Rattle.sheet_texts.specs.declared.places.Place.{Place}

@@ -1,1 +1,2 @@
 pub mod Heads
+pub use Rattle.sheet_laws.specs.SheetLanguage

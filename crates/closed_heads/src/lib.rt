@@ -17,7 +17,7 @@ ghost use Rattle.sheet_heads.specs.Calls as call;
 ghost use Rattle.sheet_heads.specs.Characters.{characters_value};
 ghost use Rattle.sheet_heads.specs.Leaves.{selected_faults, selected_value};
 ghost use Rattle.sheet_heads.specs.Literals.{literal_faults, literal_value};
-ghost use Rattle.sheet_language.specs.Language.{sheet_reading};
+ghost use Rattle.sheet_laws.specs.SheetLanguage.Language.{sheet_reading};
 ghost use Rattle.sheet_nodes.specs.declared.nodes.Node.{Node};
 ghost use Rattle.sheet_table.specs.declared.elements.XslElement.{XslElement};
 ghost use Rattle.sheet_texts.specs.declared.places.Place.{Place};

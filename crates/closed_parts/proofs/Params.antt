@@ -18,7 +18,7 @@ use Rattle.sheet_forms.specs.InstrNest.{bound_nest_of}
 use Rattle.sheet_heads.specs.Attributes.{optional_value, needed_faults, needed_value}
 use Rattle.sheet_heads.specs.Bindings.{is_required}
 use Rattle.sheet_heads.specs.Repeats.{bound_name, repeats_broken}
-use Rattle.sheet_language.specs.Language.{sheet_reading as reading, type_value}
+use Rattle.closed_heads.specs.SheetLanguage.Language.{sheet_reading as reading, type_value}
 use Rattle.sheet_nodes.specs.Parts.{is_lead}
 use Rattle.sheet_nodes.specs.declared.nodes.Node.{Node}
 use Rattle.sheet_nodes.specs.declared.nodes.Node.TheViews.{out-Node}

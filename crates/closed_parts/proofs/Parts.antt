@@ -19,15 +19,15 @@ use Rattle.closed_sheets.specs.Sheets.{if_sound_name, is_good_sheet_template, is
 use Rattle.closed_sheets.specs.Sheets.{is_good_key}
 use Rattle.closed_sheets.specs.Values.{is_good_pattern, is_sheet_expr}
 use Rattle.sheet_bodies.specs.Bodies.{bind_value, body_value}
-use Rattle.sheet_closure.specs.Declared.{has_uri}
+use Rattle.assembly_laws.specs.SheetClosure.Declared.{has_uri}
 use Rattle.sheet_expressions.specs.Uses.{is_key_use}
 use Rattle.sheet_forms.specs.InstrNest.{bound_nest_of}
 use Rattle.sheet_forms.specs.SheetNest.{template_nest_of, function_nest_of}
 use Rattle.sheet_heads.specs.Attributes.{optional_faults, optional_value, needed_faults}
 use Rattle.sheet_heads.specs.Attributes.{needed_value}
 use Rattle.sheet_heads.specs.Bindings.{bound_faults}
-use Rattle.sheet_language.specs.Language.{sheet_reading as reading, expr_faults, expr_value}
-use Rattle.sheet_language.specs.Language.{type_faults, type_value, patterns_faults, patterns_value}
+use Rattle.closed_heads.specs.SheetLanguage.Language.{sheet_reading as reading, expr_faults, expr_value}
+use Rattle.closed_heads.specs.SheetLanguage.Language.{type_faults, type_value, patterns_faults, patterns_value}
 use Rattle.sheet_modules.specs.declared.templates.ModeSet.{ModeSet}
 use Rattle.sheet_modules.specs.declared.templates.TemplatePart.{TemplatePart}
 use Rattle.sheet_nodes.specs.Parts.{none_faults}

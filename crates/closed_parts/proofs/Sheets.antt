@@ -14,8 +14,8 @@ use Rattle.closed_sheets.specs.Instrs.{is_good_bound}
 use Rattle.closed_sheets.specs.Sheets.{is_good_sheet_template, is_good_function, is_good_key}
 use Rattle.closed_sheets.specs.Sheets.{are_sound_modes, has_good_parts}
 use Rattle.closed_sheets.specs.Values.{is_good_pattern}
-use Rattle.sheet_closure.specs.Closed.{is_space_test}
-use Rattle.sheet_closure.specs.Declared.{has_uri}
+use Rattle.assembly_laws.specs.SheetClosure.Closed.{is_space_test}
+use Rattle.assembly_laws.specs.SheetClosure.Declared.{has_uri}
 use Rattle.sheet_forms.specs.SheetNest.{global_nest_of, template_nest_of, function_nest_of}
 use Rattle.sheet_forms.specs.SheetNest.{sheet_nest_of}
 use Rattle.standing_parts.specs.Patterns.{is_alternative}

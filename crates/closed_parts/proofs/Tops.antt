@@ -5,7 +5,7 @@ use Rattle.xt_names.specs.Allowed.{is_empty_text}
 use Rattle.xt_names.specs.declared.codes.SheetStaticCode.TheVariants.{XTSE0130}
 use Rattle.xt_names.specs.declared.names.Name.{Name}
 use Rattle.xt_tree.specs.declared.attributes.Attribute.{Attribute}
-use Rattle.sheet_language.specs.Language.{sheet_reading as reading}
+use Rattle.closed_heads.specs.SheetLanguage.Language.{sheet_reading as reading}
 use Rattle.sheet_modules.specs.declared.modules.Part.TheVariants.{Ignored}
 use Rattle.sheet_nodes.specs.declared.nodes.Node.{Node}
 use Rattle.sheet_nodes.specs.declared.nodes.Node.TheViews.{out-Node}
@@ -32,7 +32,7 @@ use Rattle.std.specs.List.{list_all}
 use Rattle.xt_types.specs.declared.node_tests.NameTest.{NameTest}
 use Rattle.xt_types.specs.declared.node_tests.NameTest.TheVariants as name
 use Rattle.closed_queries.specs.Texts.{is_sound_name_test}
-use Rattle.sheet_closure.specs.Closed.{is_space_test}
+use Rattle.assembly_laws.specs.SheetClosure.Closed.{is_space_test}
 use Rattle.sheet_heads.specs.Attributes.{needed_faults, needed_value}
 use Rattle.sheet_parts.specs.Outputs.{space_rule, space_rules, empty_faults}
 use Rattle.sheet_table.specs.Attributes.{attribute}

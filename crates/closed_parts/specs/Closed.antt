@@ -6,8 +6,8 @@ use Rattle.closed_sheets.specs.Values.{is_good_pattern}
 use Rattle.sheet_forms.specs.SheetNest.{global_nest_of, template_nest_of, function_nest_of}
 use Rattle.standing_parts.specs.Patterns.{is_alternative}
 use Rattle.standing_parts.specs.Sheets.{global_stands, template_stands, function_stands, key_stands}
-use Rattle.sheet_closure.specs.Closed.{is_space_test}
-use Rattle.sheet_closure.specs.Declared.{has_uri}
+use Rattle.assembly_laws.specs.SheetClosure.Closed.{is_space_test}
+use Rattle.assembly_laws.specs.SheetClosure.Declared.{has_uri}
 use Rattle.closed_queries.specs.Texts.{is_sound_name_test}
 use Rattle.xt_types.specs.declared.node_tests.SpaceRule.{SpaceRule}
 use Rattle.assembly_laws.specs.Laws.{Asked}

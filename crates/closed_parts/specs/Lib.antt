@@ -1,1 +1,2 @@
 pub mod Closed
+pub use Rattle.sheet_parts.specs as SheetParts

@@ -17,7 +17,7 @@ use Rattle.expr_nest.specs.declared.measures.Measure.TheVariants.{Predicates}
 use Rattle.expr_names.specs.Answers.{first}
 use Rattle.expr_reader.specs.Answers.{within_by}
 use Rattle.expr_reader.specs.declared.readings.Reading.TheVariants as read
-use Rattle.expr_readings.specs.Readings.{terms_in}
+use Rattle.sheet_laws.specs.ExprReadings.Readings.{terms_in}
 use Rattle.expr_resolve.specs.declared.setting.Setting.{Setting}
 use Rattle.text_tokens.specs.Lexed.{lexed}
 use Rattle.pattern_shapes.specs.Shapes.{is_pattern}
@@ -25,10 +25,10 @@ use Rattle.pattern_syntax.specs.Meant.{patterns_of, pattern_broken, left_out, is
 use Rattle.pattern_syntax.specs.Readings as pattern
 use Rattle.pattern_syntax.specs.Readings.{Answer, value_or, resolved, answer_of, reading_in}
 use Rattle.pattern_syntax.specs.Readings.{begins_with_key, keyed, unless_key, pattern_reading}
-use Rattle.pattern_readings.specs.Readings.{text_reading}
-use Rattle.sheet_language.specs.Language.{answer_faults, answer_value, most_levels, patterns_faults}
-use Rattle.sheet_language.specs.Language.{patterns_value}
-use Rattle.sheet_language.specs.Settings.{setting_at}
+use Rattle.sheet_laws.specs.PatternReadings.Readings.{text_reading}
+use Rattle.sheet_laws.specs.SheetLanguage.Language.{answer_faults, answer_value, most_levels, patterns_faults}
+use Rattle.sheet_laws.specs.SheetLanguage.Language.{patterns_value}
+use Rattle.sheet_laws.specs.SheetLanguage.Settings.{setting_at}
 use Rattle.sheet_laws.proofs.Lexed.{text_sound}
 use Rattle.sheet_laws.proofs.Types.{sound_at}
 use Rattle.sheet_texts.specs.declared.places.Place.{Place}

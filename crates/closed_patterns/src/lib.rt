@@ -8,7 +8,7 @@
 ghost use Rattle.std.specs.Prelude.{◌≡◌, ℕ, List, [], true};
 ghost use Rattle.std.specs.List.{list_all};
 ghost use Rattle.closed_sheets.specs.Values.{is_good_pattern};
-ghost use Rattle.sheet_language.specs.Language.{patterns_faults, patterns_value};
+ghost use Rattle.sheet_laws.specs.SheetLanguage.Language.{patterns_faults, patterns_value};
 ghost use Rattle.sheet_texts.specs.declared.places.Place.{Place};
 ghost use Rattle.sound_forms.specs.Sound.{SoundBindings};
 ghost use Rattle.standing_parts.specs.Patterns.{is_alternative};

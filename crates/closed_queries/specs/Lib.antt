@@ -1,3 +1,4 @@
 pub mod Closed
 pub mod ExprTexts
 pub mod Texts
+pub use Rattle.xt_forms.specs as XtForms

@@ -5,14 +5,14 @@ use Rattle.std.specs.List.{list_all}
 use Rattle.xt_sheets.specs.declared.sheets.Sheet.{Sheet}
 use Rattle.closed_sheets.specs.Sheets.{has_good_parts}
 use Rattle.closed_names.proofs.Names.{front_nil, back_nil}
-use Rattle.standing_parts.specs.Sheets.{parts_stand}
-use Rattle.sheet_closure.specs.Closed.{is_closed, is_space_test}
-use Rattle.sheet_closure.specs.Declared.{has_different_names, has_uri, keeps_names}
-use Rattle.sheet_closure.specs.Numbers.{has_numbers, has_order}
+use Rattle.good_stylesheets.specs.StandingParts.Sheets.{parts_stand}
+use Rattle.assembly_laws.specs.SheetClosure.Closed.{is_closed, is_space_test}
+use Rattle.assembly_laws.specs.SheetClosure.Declared.{has_different_names, has_uri, keeps_names}
+use Rattle.assembly_laws.specs.SheetClosure.Numbers.{has_numbers, has_order}
 use Rattle.module_loading.specs.declared.loaded.LoadedSheet.{LoadedSheet}
-use Rattle.loaded_sheets.specs.Sheets.{declarations_in, declared_in, names_in, own_faults}
-use Rattle.loaded_sheets.specs.Sheets.{sheet_faults, sheet_value}
-use Rattle.loaded_sheets.specs.Wholes.{declared_sheet, in_order, wide_faults}
+use Rattle.used_numbers.specs.LoadedSheets.Sheets.{declarations_in, declared_in, names_in, own_faults}
+use Rattle.used_numbers.specs.LoadedSheets.Sheets.{sheet_faults, sheet_value}
+use Rattle.used_numbers.specs.LoadedSheets.Wholes.{declared_sheet, in_order, wide_faults}
 
 -- rules that are not broken
 module _ (l : LoadedSheet) (e : sheet_faults l ≡ []) where

@@ -2,13 +2,13 @@
 use Rattle.std.proofs.Common.{◌≡◌, ℕ, List, [], true}
 use Rattle.doc_reader.specs.declared.Scoped.{Scoped}
 use Rattle.sheet_modules.specs.declared.links.Link.{Link}
-use Rattle.sheet_closure.specs.Closed.{is_closed}
-use Rattle.sheet_closure.specs.Declared.{keeps_names}
-use Rattle.sheet_closure.specs.Numbers.{has_order}
+use Rattle.assembly_laws.specs.SheetClosure.Closed.{is_closed}
+use Rattle.assembly_laws.specs.SheetClosure.Declared.{keeps_names}
+use Rattle.assembly_laws.specs.SheetClosure.Numbers.{has_order}
 use Rattle.module_loading.specs.Held.{Holdings}
 use Rattle.module_loading.specs.Loads.{IsLoadedSheet}
 use Rattle.module_loading.specs.declared.loaded.LoadedSheet.{LoadedSheet}
-use Rattle.loaded_sheets.specs.Sheets.{declarations_in, names_in, sheet_faults, sheet_value}
+use Rattle.used_numbers.specs.LoadedSheets.Sheets.{declarations_in, names_in, sheet_faults, sheet_value}
 use Rattle.assembly_laws.proofs.Functions.{functions_are_new}
 use Rattle.assembly_laws.proofs.Globals as global
 use Rattle.assembly_laws.proofs.Parts.{parts_declared}

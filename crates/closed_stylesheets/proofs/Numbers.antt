@@ -5,17 +5,17 @@ use Rattle.std.proofs.lemmas.List.{length-map}
 use Rattle.std.specs.List.{list_all, range_with_len}
 use Rattle.xt_sheets.specs.declared.sheets.Rule.{Rule}
 use Rattle.graph_orders.specs.Behind.{all_below}
-use Rattle.sheet_language.specs.Language.{sheet_reading}
+use Rattle.used_numbers.specs.SheetLanguage.Language.{sheet_reading}
 use Rattle.sheet_assembly.specs.Sheets.{Parts, level_of, sheet_of}
-use Rattle.sheet_closure.specs.Numbers.{are_levels, has_numbers, is_rule_of}
+use Rattle.assembly_laws.specs.SheetClosure.Numbers.{are_levels, has_numbers, is_rule_of}
 use Rattle.assembly_laws.specs.Laws.{declares_modes, is_level_of}
 use Rattle.assembly_laws.proofs.Levels as level
 use Rattle.assembly_laws.proofs.Modes as mode
 use Rattle.assembly_laws.proofs.Rules.{rules_have}
 use Rattle.module_loading.specs.declared.loaded.LoadedSheet.{LoadedSheet}
-use Rattle.loaded_parts.specs.Parts.{modules_value}
-use Rattle.loaded_sheets.specs.Sheets.{declarations_in, names_in, sheet_value}
-use Rattle.loaded_sheets.specs.Wholes.{declared_sheet, in_order}
+use Rattle.used_numbers.specs.LoadedParts.Parts.{modules_value}
+use Rattle.used_numbers.specs.LoadedSheets.Sheets.{declarations_in, names_in, sheet_value}
+use Rattle.used_numbers.specs.LoadedSheets.Wholes.{declared_sheet, in_order}
 
 -- rules that have templates, modes and levels
 module _ (templates modes levels : ℕ) where

@@ -8,11 +8,11 @@
 
 ghost use Rattle.std.specs.Prelude.{◌≡◌, ℕ, List, [], true};
 ghost use Rattle.doc_reader.specs.declared.Scoped.{Scoped};
-ghost use Rattle.loaded_sheets.specs.Sheets.{sheet_faults, sheet_value};
+ghost use Rattle.used_numbers.specs.LoadedSheets.Sheets.{sheet_faults, sheet_value};
 ghost use Rattle.module_loading.specs.Held.{Holdings};
 ghost use Rattle.module_loading.specs.Loads.{IsLoadedSheet};
 ghost use Rattle.module_loading.specs.declared.loaded.LoadedSheet.{LoadedSheet};
-ghost use Rattle.sheet_closure.specs.Closed.{is_closed};
+ghost use Rattle.assembly_laws.specs.SheetClosure.Closed.{is_closed};
 ghost use Rattle.sheet_modules.specs.declared.links.Link.{Link};
 
 /// A stylesheet whose modules break no rule, neither one by itself nor all together, is closed: it
@@ -22,3 +22,5 @@ pub fn loaded_stylesheets_are_closed()
         (l : LoadedSheet) → IsLoadedSheet files reads name l → sheet_faults l ≡ []
         → is_closed (sheet_value l) ≡ true }
 {}
+
+pub use used_numbers::loaded_sheets;

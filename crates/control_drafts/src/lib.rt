@@ -14,3 +14,4 @@ mod flows;
 
 pub use control::{push_if, push_quant};
 pub use flows::push_flwor;
+pub use leaf_pages;

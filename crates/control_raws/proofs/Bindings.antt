@@ -22,17 +22,17 @@ use Rattle.expr_terms.specs.declared.raws.Raw.TheVariants.{Leaf as leaf, Node as
 use Rattle.expr_meant.specs.declared.meant.Meant.{Meant}
 use Rattle.expr_meant.specs.declared.meant.Meant.TheVariants as meant
 use Rattle.expr_meant.specs.Parts.{expr_of, expr_or, expr_in, key_of, key_in}
-use Rattle.expr_rules.specs.Known.{name_of}
-use Rattle.expr_control.specs.Types.{sequence_of}
-use Rattle.expr_control.specs.Lists as lists
-use Rattle.expr_control.specs.Lists.{is_every, bind_and}
-use Rattle.expr_control.specs.Bindings as bindings
-use Rattle.expr_control.specs.Bindings.{kind_or, place_or, clause_and, clauses_and, where_or}
-use Rattle.expr_control.specs.Bindings.{order_and, orders_or, stable_or, is_descending}
-use Rattle.expr_control.specs.Table.{control_value}
-use Rattle.expr_resolve.specs.declared.setting.Setting.{Setting}
-use Rattle.expr_resolve.specs.Tables.{is_chain, family_of, value_in}
-use Rattle.expr_resolve.specs.Folds.{value_of}
+use Rattle.path_raws.specs.ExprRules.Known.{name_of}
+use Rattle.path_raws.specs.ExprControl.Types.{sequence_of}
+use Rattle.path_raws.specs.ExprControl.Lists as lists
+use Rattle.path_raws.specs.ExprControl.Lists.{is_every, bind_and}
+use Rattle.path_raws.specs.ExprControl.Bindings as bindings
+use Rattle.path_raws.specs.ExprControl.Bindings.{kind_or, place_or, clause_and, clauses_and, where_or}
+use Rattle.path_raws.specs.ExprControl.Bindings.{order_and, orders_or, stable_or, is_descending}
+use Rattle.path_raws.specs.ExprControl.Table.{control_value}
+use Rattle.path_raws.specs.ExprResolve.declared.setting.Setting.{Setting}
+use Rattle.path_raws.specs.ExprResolve.Tables.{is_chain, family_of, value_in}
+use Rattle.path_raws.specs.ExprResolve.Folds.{value_of}
 use Rattle.path_raws.specs.Forms.{Form, single, at, key_leaf}
 use Rattle.path_raws.specs.Names.{name_token}
 use Rattle.path_raws.specs.Paths.{with_token, leaf_test}

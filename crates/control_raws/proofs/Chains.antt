@@ -18,12 +18,12 @@ use Rattle.expr_terms.specs.declared.raws.Raw.TheOpen.{Raw-F, Leaf, Node}
 use Rattle.expr_meant.specs.declared.meant.Meant.{Meant}
 use Rattle.expr_meant.specs.declared.meant.Meant.TheVariants as meant
 use Rattle.expr_meant.specs.Parts.{expr_of, expr_or, key_of, key_in}
-use Rattle.expr_control.specs.Table.{control_value}
-use Rattle.expr_control.specs.Operators.{operated}
-use Rattle.expr_control.specs.Operators as operators
-use Rattle.expr_resolve.specs.declared.setting.Setting.{Setting}
-use Rattle.expr_resolve.specs.Tables.{is_chain, family_of, value_in}
-use Rattle.expr_resolve.specs.Folds.{value_of}
+use Rattle.path_raws.specs.ExprControl.Table.{control_value}
+use Rattle.path_raws.specs.ExprControl.Operators.{operated}
+use Rattle.path_raws.specs.ExprControl.Operators as operators
+use Rattle.path_raws.specs.ExprResolve.declared.setting.Setting.{Setting}
+use Rattle.path_raws.specs.ExprResolve.Tables.{is_chain, family_of, value_in}
+use Rattle.path_raws.specs.ExprResolve.Folds.{value_of}
 use Rattle.path_raws.specs.Forms.{Form, below, at, in_parentheses, key_leaf}
 use Rattle.control_raws.specs.Operators.{tail, once, left, is_chain_of}
 use Rattle.control_raws.specs.Operators.{chain_parts, or_first, is_mark}

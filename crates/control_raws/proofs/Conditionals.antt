@@ -12,11 +12,11 @@ use Rattle.expr_terms.specs.declared.raws.Raw.{Raw}
 use Rattle.expr_terms.specs.declared.raws.Raw.TheVariants.{Node as node}
 use Rattle.expr_meant.specs.declared.meant.Meant.TheVariants as meant
 use Rattle.expr_meant.specs.Parts.{expr_of}
-use Rattle.expr_control.specs.Lists as lists
-use Rattle.expr_control.specs.Table.{control_value}
-use Rattle.expr_resolve.specs.declared.setting.Setting.{Setting}
-use Rattle.expr_resolve.specs.Tables.{is_chain, family_of, value_in}
-use Rattle.expr_resolve.specs.Folds.{value_of}
+use Rattle.path_raws.specs.ExprControl.Lists as lists
+use Rattle.path_raws.specs.ExprControl.Table.{control_value}
+use Rattle.path_raws.specs.ExprResolve.declared.setting.Setting.{Setting}
+use Rattle.path_raws.specs.ExprResolve.Tables.{is_chain, family_of, value_in}
+use Rattle.path_raws.specs.ExprResolve.Folds.{value_of}
 use Rattle.path_raws.specs.Forms.{single, list}
 use Rattle.control_raws.specs.Operators.{ArmForm, arm_parts, arms_can}
 use Rattle.path_raws.proofs.Values.{value_node, at_means}

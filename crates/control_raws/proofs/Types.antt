@@ -16,9 +16,9 @@ use Rattle.xt_types.specs.declared.types.SeqType.TheVariants as sequence
 use Rattle.xt_syntax.specs.declared.exprs.Expr.{Expr}
 use Rattle.std.proofs.lemmas.Bool.{and_parts}
 use Rattle.expr_meant.specs.Names.{written_in}
-use Rattle.expr_names.specs.Names.{undeclared_in}
+use Rattle.expr_meant.specs.ExprNames.Names.{undeclared_in}
 use Rattle.path_raws.specs.Names.{qualified, no_codes}
-use Rattle.expr_names.specs.Types.{type_or_any}
+use Rattle.expr_meant.specs.ExprNames.Types.{type_or_any}
 use Rattle.expr_terms.specs.declared.keys.Key.{Key}
 use Rattle.expr_terms.specs.declared.keys.Key.TheVariants as key
 use Rattle.expr_terms.specs.declared.tokens.Token.{Token}
@@ -32,13 +32,13 @@ use Rattle.expr_terms.specs.declared.raws.Raw.TheVariants.{Leaf as leaf, Node as
 use Rattle.expr_meant.specs.declared.meant.Meant.{Meant}
 use Rattle.expr_meant.specs.declared.meant.Meant.TheVariants as meant
 use Rattle.expr_meant.specs.Parts.{expr_of, key_of, key_in}
-use Rattle.expr_rules.specs.Known.{named_type, type_of}
-use Rattle.expr_control.specs.Types.{item_of, sequence_of, count_in}
-use Rattle.expr_control.specs.Operators as operators
-use Rattle.expr_control.specs.Table.{control_value}
-use Rattle.expr_resolve.specs.declared.setting.Setting.{Setting}
-use Rattle.expr_resolve.specs.Tables.{is_chain, family_of, value_in}
-use Rattle.expr_resolve.specs.Folds.{value_of}
+use Rattle.path_raws.specs.ExprRules.Known.{named_type, type_of}
+use Rattle.path_raws.specs.ExprControl.Types.{item_of, sequence_of, count_in}
+use Rattle.path_raws.specs.ExprControl.Operators as operators
+use Rattle.path_raws.specs.ExprControl.Table.{control_value}
+use Rattle.path_raws.specs.ExprResolve.declared.setting.Setting.{Setting}
+use Rattle.path_raws.specs.ExprResolve.Tables.{is_chain, family_of, value_in}
+use Rattle.path_raws.specs.ExprResolve.Folds.{value_of}
 use Rattle.path_raws.specs.Forms.{Form, below, at}
 use Rattle.path_raws.specs.Forms.{key_leaf}
 use Rattle.path_raws.specs.Paths.{with_token, leaf_test}

@@ -24,11 +24,11 @@ use Rattle.expr_terms.specs.declared.productions.Production.TheVariants as produ
 use Rattle.expr_terms.specs.declared.raws.Raw.{Raw}
 use Rattle.expr_terms.specs.declared.raws.Raw.TheVariants.{Leaf as leaf, Node as node}
 use Rattle.expr_meant.specs.declared.meant.Meant.TheVariants as meant
-use Rattle.expr_rules.specs.Known.{named_type}
+use Rattle.path_raws.specs.ExprRules.Known.{named_type}
 use Rattle.path_raws.specs.Forms.{Form, of_level, below, at, said}
 use Rattle.path_raws.specs.Forms.{key_leaf, nothing}
 use Rattle.expr_meant.specs.Names.{written_in}
-use Rattle.expr_names.specs.Names.{undeclared_in}
+use Rattle.expr_meant.specs.ExprNames.Names.{undeclared_in}
 use Rattle.path_raws.specs.Names.{first_that, fitting, qualified, no_codes}
 use Rattle.path_raws.specs.Paths.{with_token, test_of, leaf_test, test_form, kind_tokens}
 

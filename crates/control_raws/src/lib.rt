@@ -7,9 +7,9 @@
 
 ghost use Rattle.std.specs.Prelude.{◌≡◌, true};
 ghost use Rattle.xt_types.specs.declared.types.SeqType.{SeqType};
-ghost use Rattle.expr_control.specs.Types.{sequence_of};
-ghost use Rattle.expr_resolve.specs.declared.setting.Setting.{Setting};
-ghost use Rattle.expr_resolve.specs.Folds.{value_of};
+ghost use Rattle.path_raws.specs.ExprControl.Types.{sequence_of};
+ghost use Rattle.path_raws.specs.ExprResolve.declared.setting.Setting.{Setting};
+ghost use Rattle.path_raws.specs.ExprResolve.Folds.{value_of};
 ghost use Rattle.control_raws.specs.Types.{sequence_form};
 
 /// The raw value of a sequence type that can be printed means the type.

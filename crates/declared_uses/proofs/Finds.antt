@@ -23,7 +23,7 @@ use Rattle.sheet_uses.specs.Bodies.{bound_uses, callee_uses}
 use Rattle.key_calls.specs.Bodies.{bound_keys, callee_keys}
 use Rattle.sheet_rules.specs.Uses.{use_of_key, part_uses, declared_uses, part_keys, declared_keys}
 use Rattle.sheet_assembly.specs.Named.{key_rule}
-use Rattle.sheet_closure.specs.Uses.{key_uses, uses_of, key_uses_of}
+use Rattle.assembly_laws.specs.SheetClosure.Uses.{key_uses, uses_of, key_uses_of}
 use Rattle.assembly_laws.specs.Laws.{Asked, declares, has_asked}
 use Rattle.added_uses.proofs.Ends.{Adds, adding, expr_adds}
 use Rattle.added_uses.proofs.Bodies as bodies

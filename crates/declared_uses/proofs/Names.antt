@@ -24,7 +24,7 @@ use Rattle.sheet_rules.specs.Names.{global_names, template_names, with_global, w
 use Rattle.sheet_rules.specs.Names.{with_function_of, with_keys, with_keys_of}
 use Rattle.sheet_assembly.specs.Named.{each_by, each, is_marked, behind, global_in, global_if}
 use Rattle.sheet_assembly.specs.Named.{function_in, function_if, key_rule, keys_in}
-use Rattle.sheet_closure.specs.Declared.{global_name, with_functions, key_name}
+use Rattle.assembly_laws.specs.SheetClosure.Declared.{global_name, with_functions, key_name}
 use Rattle.declared_uses.proofs.Counts.{declares, counts}
 
 and_true : (b : Bool) → (b && true) ≡ b

@@ -17,7 +17,7 @@ use Rattle.global_order.specs.Order as order
 use Rattle.global_order.proofs.OrderLemmas.{undone, undone-all, is_in-more, nat_eq-same}
 use Rattle.global_order.proofs.OrderLemmas.{order-in_order}
 use Rattle.sheet_assembly.specs.Named.{at, ordered}
-use Rattle.sheet_closure.specs.Declared.{global_name}
+use Rattle.assembly_laws.specs.SheetClosure.Declared.{global_name}
 use Rattle.declared_uses.specs.Orders.{places_in, AreAllInOrder}
 
 -- how many are left out

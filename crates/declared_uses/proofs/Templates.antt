@@ -20,7 +20,7 @@ use Rattle.sheet_assembly.specs.Named.{each, each_by, is_marked, behind}
 use Rattle.sheet_assembly.specs.Templates.{small, number_in, name_if, standing_template, standing_in}
 use Rattle.sheet_assembly.specs.Templates.{standing_if, first_at, or_none, template_at}
 use Rattle.sheet_assembly.specs.Templates.{other_of, templates_of}
-use Rattle.sheet_closure.specs.Declared.{is_named}
+use Rattle.assembly_laws.specs.SheetClosure.Declared.{is_named}
 use Rattle.declared_uses.proofs.Counts.{counts}
 use Rattle.declared_uses.proofs.Names.{same_name_is}
 

@@ -25,10 +25,10 @@ use Rattle.name_rules.specs.Scopes.{has_name, with_names, has_function, may_be_c
 use Rattle.name_rules.specs.Scopes.{signature}
 use Rattle.sheet_uses.specs.declared.uses.Use.{Use}
 use Rattle.sheet_uses.specs.declared.uses.Use.TheVariants as use_of
-use Rattle.sheet_names.specs.declared.names.Names.{Names}
-use Rattle.sheet_names.specs.Names.{as_name}
-use Rattle.sheet_names.specs.Uses.{is_of_sheets, is_key_call, is_callable, broken_key}
-use Rattle.sheet_names.specs.Uses.{broken_use, broken_in, broken_uses}
+use Rattle.sheet_rules.specs.SheetNames.declared.names.Names.{Names}
+use Rattle.sheet_rules.specs.SheetNames.Names.{as_name}
+use Rattle.sheet_rules.specs.SheetNames.Uses.{is_of_sheets, is_key_call, is_callable, broken_key}
+use Rattle.sheet_rules.specs.SheetNames.Uses.{broken_use, broken_in, broken_uses}
 use Rattle.sheet_texts.specs.Names.{number_of}
 use Rattle.sheet_declarations.specs.declared.lists.Declaration.{Declaration}
 use Rattle.sheet_declarations.specs.Counts.{counted_of, a_global, a_function, a_template}
@@ -42,9 +42,9 @@ use Rattle.sheet_rules.specs.Uses.{declared_uses, declared_keys}
 use Rattle.sheet_rules.specs.Rules.{broken_rules}
 use Rattle.sheet_assembly.specs.Sheets.{Parts, sheet_of}
 use Rattle.sheet_assembly.specs.Templates.{no_template}
-use Rattle.sheet_closure.specs.Declared.{names_of, with_functions, is_named, is_mode, is_declared}
-use Rattle.sheet_closure.specs.Declared.{all_declared, keys_call_none, keeps_names, global_name}
-use Rattle.sheet_closure.specs.Uses.{uses_of, key_uses_of}
+use Rattle.assembly_laws.specs.SheetClosure.Declared.{names_of, with_functions, is_named, is_mode, is_declared}
+use Rattle.assembly_laws.specs.SheetClosure.Declared.{all_declared, keys_call_none, keeps_names, global_name}
+use Rattle.assembly_laws.specs.SheetClosure.Uses.{uses_of, key_uses_of}
 use Rattle.assembly_laws.specs.Laws.{Asked, declares, has_asked}
 use Rattle.assembly_laws.proofs.Parts.{ordered_all, parts_declared}
 use Rattle.declared_uses.specs.Orders.{places_in, put_in_order, AreAllInOrder, HasEachGlobal}

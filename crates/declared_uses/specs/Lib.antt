@@ -1,2 +1,3 @@
 pub mod Numbers
 pub mod Orders
+pub use Rattle.sheet_rules.specs as SheetRules

@@ -6,7 +6,7 @@ ghost use Rattle.std.specs.Prelude.{◌≡◌, List, [], true};
 ghost use Rattle.declared_uses.specs.Numbers.{have_numbers};
 ghost use Rattle.declared_uses.specs.Orders.{put_in_order, AreAllInOrder, HasEachGlobal};
 ghost use Rattle.sheet_assembly.specs.Sheets.{Parts, sheet_of};
-ghost use Rattle.sheet_closure.specs.Declared.{keeps_names};
+ghost use Rattle.assembly_laws.specs.SheetClosure.Declared.{keeps_names};
 ghost use Rattle.sheet_rules.specs.Rules.{broken_rules};
 ghost use Rattle.wide_rules.specs.declared.passing.Parameters.{Parameters};
 

@@ -20,22 +20,22 @@ use Rattle.expr_terms.specs.declared.raws.Raw.TheVariants.{Leaf as leaf, Node as
 use Rattle.expr_terms.specs.declared.raws.Raw.TheVariants.{rolls-Node}
 use Rattle.expr_terms.specs.declared.raws.Raw.TheViews.{out-Raw, roll-Raw, roll-out-Raw}
 use Rattle.expr_terms.specs.declared.raws.Raw.TheOpen.{Raw-F, Leaf, Node}
-use Rattle.expr_meant.specs.declared.meant.Meant.{Meant}
-use Rattle.expr_meant.specs.declared.meant.Meant.TheVariants as meant
-use Rattle.expr_meant.specs.Names.{written_in, written_of}
-use Rattle.expr_meant.specs.Parts.{expr_of, expr_or}
+use Rattle.path_raws.specs.ExprMeant.declared.meant.Meant.{Meant}
+use Rattle.path_raws.specs.ExprMeant.declared.meant.Meant.TheVariants as meant
+use Rattle.path_raws.specs.ExprMeant.Names.{written_in, written_of}
+use Rattle.path_raws.specs.ExprMeant.Parts.{expr_of, expr_or}
 use Rattle.expr_names.specs.Names.{node_name}
-use Rattle.expr_rules.specs.Known.{node_name_of}
-use Rattle.expr_elements.specs.Space.{run_part, joined_from, piece_in, piece_of, parts_of}
-use Rattle.expr_elements.specs.Space.{is_white_text}
-use Rattle.expr_elements.specs.Direct as elements
-use Rattle.expr_elements.specs.Direct.{attr_and, attrs_in, content_or, content_in}
-use Rattle.expr_elements.specs.Table.{element_value}
-use Rattle.expr_elements.specs.declared.space.Piece.{Piece}
-use Rattle.expr_elements.specs.declared.space.Piece.TheVariants.{Run as piece, Whole as whole}
-use Rattle.expr_resolve.specs.declared.setting.Setting.{Setting}
-use Rattle.expr_resolve.specs.Tables.{is_chain, family_of, value_in}
-use Rattle.expr_resolve.specs.Folds.{value_of}
+use Rattle.path_raws.specs.ExprRules.Known.{node_name_of}
+use Rattle.path_raws.specs.ExprElements.Space.{run_part, joined_from, piece_in, piece_of, parts_of}
+use Rattle.path_raws.specs.ExprElements.Space.{is_white_text}
+use Rattle.path_raws.specs.ExprElements.Direct as elements
+use Rattle.path_raws.specs.ExprElements.Direct.{attr_and, attrs_in, content_or, content_in}
+use Rattle.path_raws.specs.ExprElements.Table.{element_value}
+use Rattle.path_raws.specs.ExprElements.declared.space.Piece.{Piece}
+use Rattle.path_raws.specs.ExprElements.declared.space.Piece.TheVariants.{Run as piece, Whole as whole}
+use Rattle.path_raws.specs.ExprResolve.declared.setting.Setting.{Setting}
+use Rattle.path_raws.specs.ExprResolve.Tables.{is_chain, family_of, value_in}
+use Rattle.path_raws.specs.ExprResolve.Folds.{value_of}
 use Rattle.path_raws.specs.Forms.{Form, list, at}
 use Rattle.path_raws.proofs.Values.{value_leaf, value_node, at_means, append_values}
 use Rattle.element_raws.specs.Makers.{gives_name}

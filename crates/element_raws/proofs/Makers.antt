@@ -19,15 +19,15 @@ use Rattle.expr_terms.specs.declared.productions.Production.TheVariants as produ
 use Rattle.expr_terms.specs.declared.raws.Raw.TheVariants.{Leaf as leaf}
 use Rattle.expr_terms.specs.declared.productions.Class.{Class}
 use Rattle.expr_terms.specs.declared.productions.Class.TheVariants as class
-use Rattle.expr_meant.specs.declared.meant.Meant.TheVariants as meant
-use Rattle.expr_meant.specs.Names.{written_in, written_of}
-use Rattle.expr_meant.specs.Parts.{expr_of, expr_or, key_of, key_in}
-use Rattle.expr_rules.specs.Known.{node_name_of}
-use Rattle.expr_elements.specs.Computed.{named_by, fixed_name, enclosing_by}
-use Rattle.expr_elements.specs.Table.{element_value}
-use Rattle.expr_resolve.specs.declared.setting.Setting.{Setting}
-use Rattle.expr_resolve.specs.Tables.{is_chain, family_of, value_in}
-use Rattle.expr_resolve.specs.Folds.{value_of}
+use Rattle.path_raws.specs.ExprMeant.declared.meant.Meant.TheVariants as meant
+use Rattle.path_raws.specs.ExprMeant.Names.{written_in, written_of}
+use Rattle.path_raws.specs.ExprMeant.Parts.{expr_of, expr_or, key_of, key_in}
+use Rattle.path_raws.specs.ExprRules.Known.{node_name_of}
+use Rattle.path_raws.specs.ExprElements.Computed.{named_by, fixed_name, enclosing_by}
+use Rattle.path_raws.specs.ExprElements.Table.{element_value}
+use Rattle.path_raws.specs.ExprResolve.declared.setting.Setting.{Setting}
+use Rattle.path_raws.specs.ExprResolve.Tables.{is_chain, family_of, value_in}
+use Rattle.path_raws.specs.ExprResolve.Folds.{value_of}
 use Rattle.path_raws.specs.Forms.{Form, list, at, key_leaf}
 use Rattle.path_raws.specs.Names.{no_codes}
 use Rattle.path_raws.specs.Paths.{with_token}

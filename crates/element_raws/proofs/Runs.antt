@@ -2,9 +2,9 @@
 use Rattle.std.proofs.Common.{◌≡◌, ℕ, List, [], ◌∷◌, ◌++◌, map, Bool, true, false, cond, ◌&&◌}
 use Rattle.std.proofs.Common.{refl, sym, ◌∙◌, ap, append_assoc, append-nil}
 use Rattle.xt_syntax.specs.declared.exprs.Part.{Part}
-use Rattle.expr_elements.specs.Space.{run_part, joined_from, is_white_text}
-use Rattle.expr_elements.specs.declared.space.Piece.{Piece}
-use Rattle.expr_elements.specs.declared.space.Piece.TheVariants.{Run as piece, Whole as whole}
+use Rattle.path_raws.specs.ExprElements.Space.{run_part, joined_from, is_white_text}
+use Rattle.path_raws.specs.ExprElements.declared.space.Piece.{Piece}
+use Rattle.path_raws.specs.ExprElements.declared.space.Piece.TheVariants.{Run as piece, Whole as whole}
 use Rattle.element_raws.specs.Runs.{is_itself, is_doubled, Run, run, is_plain, with_char, runs}
 use Rattle.element_raws.specs.Runs.{pieces}
 

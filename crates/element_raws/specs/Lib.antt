@@ -1,3 +1,4 @@
 pub mod Makers
 pub mod Runs
 pub mod Direct
+pub use Rattle.path_raws.specs.ExprPaths

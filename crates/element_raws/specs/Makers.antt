@@ -14,8 +14,8 @@ use Rattle.expr_terms.specs.declared.productions.Class.{Class}
 use Rattle.expr_terms.specs.declared.productions.Class.TheVariants as class
 use Rattle.expr_terms.specs.declared.productions.Production.TheVariants as production
 use Rattle.expr_terms.specs.declared.raws.Raw.TheVariants.{Leaf as leaf, Node as node}
-use Rattle.expr_tokens.specs.Terms.{word_term}
-use Rattle.expr_meant.specs.Names.{written_in}
+use Rattle.path_raws.specs.ExprTokens.Terms.{word_term}
+use Rattle.path_raws.specs.ExprMeant.Names.{written_in}
 use Rattle.path_raws.specs.Forms.{Form, primary, list, at, said, key_leaf}
 use Rattle.path_raws.specs.Names.{first_that, fitting, no_codes}
 use Rattle.path_raws.specs.Paths.{with_token}

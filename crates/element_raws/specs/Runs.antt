@@ -6,8 +6,8 @@ use Rattle.std.specs.List.{list_all, list_any}
 use Rattle.xpath_lex.specs.Classes.{is_char}
 use Rattle.expr_terms.specs.declared.tokens.Token.{Token}
 use Rattle.expr_terms.specs.declared.tokens.Token.TheVariants as token
-use Rattle.expr_elements.specs.declared.space.Piece.{Piece}
-use Rattle.expr_elements.specs.declared.space.Piece.TheVariants.{Run as piece}
+use Rattle.path_raws.specs.ExprElements.declared.space.Piece.{Piece}
+use Rattle.path_raws.specs.ExprElements.declared.space.Piece.TheVariants.{Run as piece}
 
 -- characters that are marks, in the value of an attribute between double quotes or in content
 abbrev pub is_markup : Bool → ℕ → Bool

@@ -7,8 +7,8 @@
 #![tactic(auto)]
 
 ghost use Rattle.std.specs.Prelude.{◌≡◌, ◌++◌, ℕ, List, Bool, true, false};
-ghost use Rattle.expr_elements.specs.Space.{joined_from};
-ghost use Rattle.expr_elements.specs.declared.space.Piece.{Piece};
+ghost use Rattle.path_raws.specs.ExprElements.Space.{joined_from};
+ghost use Rattle.path_raws.specs.ExprElements.declared.space.Piece.{Piece};
 ghost use Rattle.element_raws.specs.Runs.{runs, pieces};
 
 /// The runs of characters are read as the characters, where boundary white space stays.

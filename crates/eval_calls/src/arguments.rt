@@ -7,7 +7,7 @@ ghost use Rattle.eval_scopes.specs.Scopes.{focus_of, placed_at};
 ghost use Rattle.eval_calls.specs.Reads.{reads, read_at};
 
 use eval_scopes::Focus;
-use eval_values::{Place, one};
+use eval_scopes::eval_values::{Place, one};
 use function_arguments::{integer_list, text_list};
 use function_table::Builtin;
 use std::alloc::{AllocError, Global};

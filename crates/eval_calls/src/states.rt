@@ -4,8 +4,8 @@ ghost use Rattle.xt_atoms.specs.Casts.{Answers};
 ghost use Rattle.expr_meaning.specs.Calls.{current_value, members_of, key_of, key_item, keyed_root, root_of_item, literal_text};
 ghost use Rattle.eval_scopes.specs.Scopes.{focus_of, group_behind, item_behind};
 
+use eval_scopes::eval_values::one;
 use eval_scopes::{Focus, Group, document_of};
-use eval_values::one;
 use expr_names::no_text;
 use function_arguments::{atom_list, no_items};
 use std::alloc::{AllocError, Global};

@@ -3,12 +3,12 @@ use Rattle.std.specs.Prelude.{ℕ, List, Result, ◌≤◌}
 use Rattle.std.specs.Borrow.{Bor, MutBor}
 use Rattle.xdm_items.specs.declared.items.Item.{Item}
 use Rattle.xt_syntax.specs.declared.exprs.Expr.{Expr}
-use Rattle.expr_meaning.specs.Env.{Program}
-use Rattle.expr_meaning.specs.Meaning.{outcome}
-use Rattle.eval_scopes.specs.declared.environments.Env.{Env}
-use Rattle.eval_scopes.specs.declared.faults.EvalFault.{EvalFault}
-use Rattle.eval_scopes.specs.Scopes.{env_of}
-use Rattle.eval_steps.specs.Sizes.{nodes}
+use Rattle.value_slots.specs.ExprMeaning.Env.{Program}
+use Rattle.value_slots.specs.ExprMeaning.Meaning.{outcome}
+use Rattle.value_slots.specs.EvalScopes.declared.environments.Env.{Env}
+use Rattle.value_slots.specs.EvalScopes.declared.faults.EvalFault.{EvalFault}
+use Rattle.value_slots.specs.EvalScopes.Scopes.{env_of}
+use Rattle.value_slots.specs.EvalSteps.Sizes.{nodes}
 use Rattle.value_slots.specs.Slots.{Leaves}
 
 -- what a call of it needs, and what holds of its answer; its last argument is where the value is put

@@ -1,1 +1,2 @@
 pub mod Inner
+pub use Rattle.value_slots.specs as ValueSlots

@@ -11,4 +11,5 @@
 
 mod within;
 
+pub use value_slots;
 pub use within::Within;

@@ -2,7 +2,7 @@
 
 /// What evaluates expressions of one program, which contracts see; it has nothing to call.
 pub trait Within {
-    ghost use Rattle.expr_meaning.specs.Env.{Program};
+    ghost use Rattle.value_slots.specs.ExprMeaning.Env.{Program};
 
     ghost program: { Self → Program };
 }

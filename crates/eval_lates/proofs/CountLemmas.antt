@@ -12,9 +12,9 @@ use Rattle.function_table.specs.declared.builtins.Builtin.TheVariants.{Count, Ex
 use Rattle.function_arguments.specs.Answers.{of_truth, of_integer}
 use Rattle.sequence_functions.specs.Cardinality.{counted, has_no_item}
 use Rattle.sequence_functions.specs.Cardinality.{has_item as has_one}
-use Rattle.item_functions.specs.OnSequences.{count_of, empty_of, exists_of}
-use Rattle.fn_lib.specs.Functions.{function_value, value_of}
-use Rattle.node_walks.specs.Moves.{has_item}
+use Rattle.eval_scopes.specs.ItemFunctions.OnSequences.{count_of, empty_of, exists_of}
+use Rattle.eval_scopes.specs.FnLib.Functions.{function_value, value_of}
+use Rattle.eval_scopes.specs.NodeWalks.Moves.{has_item}
 
 in_range : (n : ℕ) → n < 2 ^ 63 → nat_lt n (2 ^ 63) ≡ true
 in_range n h = grind (arith, nat_tests)

@@ -3,7 +3,7 @@ use Rattle.std.proofs.Common.{◌≡◌, refl, List, [], ◌∷◌, ◌++◌, Op
 use Rattle.std.specs.Prelude.{Bool, true, false, is_some}
 use Rattle.std.specs.Option.{option_to_list}
 use Rattle.xdm_items.specs.declared.items.Item.{Item}
-use Rattle.node_walks.specs.Moves.{has_item}
+use Rattle.eval_scopes.specs.NodeWalks.Moves.{has_item}
 use Rattle.eval_lates.specs.Late.{IsNext}
 
 pub next_is : (item : Option Item) (before after : List Item) →

@@ -9,11 +9,11 @@ use Rattle.std.proofs.lemmas.Bool.Decides.{Decides-int_eq}
 use Rattle.xt_names.specs.declared.codes.Code.TheVariants.{Dynamic}
 use Rattle.xt_names.specs.declared.codes.DynamicCode.TheVariants.{FOAR0002}
 use Rattle.xdm_items.specs.declared.items.Item.{Item}
-use Rattle.lazy_seq.specs.Flow.{item_at}
+use Rattle.eval_scopes.specs.LazySeq.Flow.{item_at}
 use Rattle.outcomes.specs.Outcome.{Outcome, Ends, Fails, for_each}
 use Rattle.sort_meaning.specs.Sorted.{placed_from}
-use Rattle.expr_meaning.specs.Env.{Env}
-use Rattle.expr_meaning.specs.Paths.{alone_if, kept, kept_item}
+use Rattle.eval_scopes.specs.ExprMeaning.Env.{Env}
+use Rattle.eval_scopes.specs.ExprMeaning.Paths.{alone_if, kept, kept_item}
 use Rattle.eval_lates.specs.Late.{literal}
 
 abbrev alone : Item → Bool → List Item

@@ -3,11 +3,11 @@ use Rattle.std.specs.Prelude.{◌≡◌, ℕ, ℤ, List, [], ◌∷◌, Option, 
 use Rattle.xt_atoms.specs.declared.atoms.Atom.TheVariants as atom
 use Rattle.xdm_items.specs.declared.items.Item.{Item}
 use Rattle.xdm_items.specs.declared.items.Item.TheVariants.{Atom}
-use Rattle.node_walks.specs.Moves.{given}
-use Rattle.lazy_seq.specs.Flow.{Flow}
+use Rattle.eval_scopes.specs.NodeWalks.Moves.{given}
+use Rattle.eval_scopes.specs.LazySeq.Flow.{Flow}
 use Rattle.outcomes.specs.Outcome.{Outcome, Ends}
-use Rattle.expr_meaning.specs.Env.{Meaning}
-use Rattle.expr_meaning.specs.Values.{just}
+use Rattle.eval_scopes.specs.ExprMeaning.Env.{Meaning}
+use Rattle.eval_scopes.specs.ExprMeaning.Values.{just}
 use Rattle.eval_scopes.specs.declared.faults.EvalFault.{EvalFault}
 use Rattle.eval_scopes.specs.Answers.{IsFaultOf}
 

@@ -2,16 +2,16 @@
 ghost use Rattle.std.specs.Prelude.{◌≡◌, ◌<◌, ◌∷◌, [], ◌^◌, IfOk, length, not, pos};
 ghost use Rattle.std.specs.Option.{SomeIff};
 ghost use Rattle.xt_atoms.specs.Casts.{Answers};
-ghost use Rattle.node_walks.specs.Moves.{given, has_item};
+ghost use Rattle.eval_scopes.specs.NodeWalks.Moves.{given, has_item};
 ghost use Rattle.std.specs.Bool.{beq};
 ghost use Rattle.std.specs.Prelude.{Ok as is_ok};
 ghost use Rattle.function_arguments.specs.Answers.{of_truth};
-ghost use Rattle.item_functions.specs.OnSequences.{count_of};
-ghost use Rattle.fn_lib.specs.Functions.{function_value};
+ghost use Rattle.eval_scopes.specs.ItemFunctions.OnSequences.{count_of};
+ghost use Rattle.eval_scopes.specs.FnLib.Functions.{function_value};
 
-use fn_lib::{Builtin, call};
+use eval_scopes::fn_lib::{Builtin, call};
+use eval_scopes::lazy_seq::Seq;
 use function_arguments::{integer_list, truth_list};
-use lazy_seq::Seq;
 use node_axes::Steps;
 use std::alloc::{AllocError, Global};
 use std::marker::Brand;

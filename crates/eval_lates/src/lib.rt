@@ -13,6 +13,8 @@ mod places;
 mod variables;
 
 pub use answers::late_answer;
+pub use eval_scopes;
+pub use eval_scopes::{eval_values, lazy_seq, operator_values};
 pub use nexts::late_next;
 pub use places::{late_item, late_place};
 pub use variables::late_variable;

@@ -1,9 +1,9 @@
 // One item after another.
 ghost use Rattle.std.specs.Prelude.{◌≡◌, ◌<◌, IfOk};
-ghost use Rattle.node_walks.specs.Moves.{given};
+ghost use Rattle.eval_scopes.specs.NodeWalks.Moves.{given};
 ghost use Rattle.eval_lates.specs.Late.{IsNext};
 
-use lazy_seq::Seq;
+use eval_scopes::lazy_seq::Seq;
 use node_axes::Steps;
 use std::alloc::AllocError;
 use std::marker::Brand;

@@ -1,17 +1,17 @@
 // The item at a place.
 ghost use Rattle.std.specs.Prelude.{◌≡◌, ◌<◌, ◌^◌, ℕ, ◌∷◌, [], IfOk, OnOk, length, nat_lt};
 ghost use Rattle.std.specs.Option.{option_to_list};
-ghost use Rattle.node_walks.specs.Moves.{given};
-ghost use Rattle.lazy_seq.specs.Flow.{item_at};
+ghost use Rattle.eval_scopes.specs.NodeWalks.Moves.{given};
+ghost use Rattle.eval_scopes.specs.LazySeq.Flow.{item_at};
 ghost use Rattle.outcomes.specs.Outcome.{Ends};
-ghost use Rattle.expr_meaning.specs.Env.{Env};
-ghost use Rattle.expr_meaning.specs.Paths.{kept};
+ghost use Rattle.eval_scopes.specs.ExprMeaning.Env.{Env};
+ghost use Rattle.eval_scopes.specs.ExprMeaning.Paths.{kept};
 ghost use Rattle.eval_scopes.specs.Answers.{Answers};
 ghost use Rattle.eval_lates.specs.Late.{literal};
 
 use eval_scopes::EvalFault;
-use eval_values::one;
-use lazy_seq::Seq;
+use eval_scopes::eval_values::one;
+use eval_scopes::lazy_seq::Seq;
 use std::alloc::{AllocError, Global};
 use xdm_items::{Item, ItemList};
 use xt_names::{Code, DynamicCode};

@@ -1,13 +1,13 @@
 // Variables.
 ghost use Rattle.std.specs.Prelude.{ℕ};
-ghost use Rattle.node_walks.specs.Moves.{given};
-ghost use Rattle.expr_meaning.specs.Env.{Calls, Keys};
-ghost use Rattle.expr_meaning.specs.Values.{variable};
+ghost use Rattle.eval_scopes.specs.NodeWalks.Moves.{given};
+ghost use Rattle.eval_scopes.specs.ExprMeaning.Env.{Calls, Keys};
+ghost use Rattle.eval_scopes.specs.ExprMeaning.Values.{variable};
 ghost use Rattle.eval_scopes.specs.Scopes.{env_of, program_of};
 ghost use Rattle.eval_lates.specs.Late.{AnswersLate};
 
+use eval_scopes::lazy_seq::Seq;
 use eval_scopes::{Env, EvalFault, Fixed, variable};
-use lazy_seq::Seq;
 use xt_names::ExprName;
 
 /// The value of a variable, which shares what the variable holds (XPath 2.0, 3.1.2): XPDY0002 where

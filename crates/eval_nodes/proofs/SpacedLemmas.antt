@@ -6,7 +6,7 @@ use Rattle.xdm_items.specs.declared.items.Item.TheVariants.{Node, Atom}
 use Rattle.xdm_items.specs.Values.{atomized, atomized_item}
 use Rattle.node_builder.specs.Simple.{part_of, part_text, merged_runs, without_empty_runs}
 use Rattle.node_builder.specs.Simple.{joined_with, simple_content}
-use Rattle.operator_values.specs.Operands.{atom_of}
+use Rattle.expr_meaning.specs.OperatorValues.Operands.{atom_of}
 use Rattle.expr_meaning.specs.Making.{spaced_text}
 
 abbrev texts_of : List Item → List (List ℕ)

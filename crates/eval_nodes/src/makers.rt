@@ -12,7 +12,7 @@ ghost use Rattle.expr_meaning.specs.Making.{made};
 ghost use Rattle.eval_scopes.specs.Answers.{Answers};
 
 use eval_scopes::EvalFault;
-use eval_values::one;
+use eval_scopes::eval_values::one;
 use node_builder::{BuildFault, Builder, Duplicates};
 use std::alloc::Global;
 use xdm_items::{Item, ItemList};

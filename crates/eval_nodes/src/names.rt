@@ -8,8 +8,8 @@ ghost use Rattle.expr_meaning.specs.Names.{name_of_text, name_of_atom};
 ghost use Rattle.expr_meaning.specs.Names.{name_of_items, attribute_name};
 
 use crate::uris::namespace_of;
+use expr_meaning::operator_values::atom_of;
 use expr_names::no_text;
-use operator_values::atom_of;
 use std::alloc::Global;
 use text_operations::split_at_first;
 use xdm_items::ItemList;

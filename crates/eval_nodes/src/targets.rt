@@ -4,7 +4,7 @@ ghost use Rattle.std.specs.Str.{bytes_eq, chars, str_to_ascii_lowercase};
 ghost use Rattle.xt_atoms.specs.Casts.{Answers};
 ghost use Rattle.expr_meaning.specs.Names.{target_of_text, target_of_atom, target_of_items};
 
-use operator_values::atom_of;
+use expr_meaning::operator_values::atom_of;
 use std::alloc::Global;
 use xdm_items::ItemList;
 use xt_atoms::{Atom, ValueFault, to_text};

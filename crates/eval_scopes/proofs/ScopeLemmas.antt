@@ -5,7 +5,7 @@ use Rattle.std.proofs.Math.Seq.{take-length}
 use Rattle.std.specs.Prelude.{Bool, true, false, if◌then◌else◌, Option, Some, None}
 use Rattle.xt_names.specs.declared.names.ExprName.{ExprName}
 use Rattle.xdm_items.specs.declared.items.Item.{Item}
-use Rattle.node_walks.specs.Moves.{given}
+use Rattle.eval_values.specs.NodeWalks.Moves.{given}
 use Rattle.expr_meaning.specs.Env.{Binding, look_up, same_name}
 use Rattle.eval_scopes.specs.declared.scopes.Variable.{Variable}
 use Rattle.eval_scopes.specs.declared.scopes.Scope.{Scope}

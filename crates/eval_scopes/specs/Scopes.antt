@@ -4,9 +4,9 @@ use Rattle.std.specs.Borrow.{Bor}
 use Rattle.xt_names.specs.declared.codes.Code.{Code}
 use Rattle.xt_atoms.specs.declared.atoms.Atom.{Atom as AtomValue}
 use Rattle.xdm_items.specs.declared.items.Item.{Item}
-use Rattle.node_walks.specs.Moves.{given}
-use Rattle.lazy_seq.specs.Flow.{Flow}
-use Rattle.sort_meaning.specs.Sorted.{Placed}
+use Rattle.eval_values.specs.NodeWalks.Moves.{given}
+use Rattle.eval_values.specs.LazySeq.Flow.{Flow}
+use Rattle.expr_meaning.specs.SortMeaning.Sorted.{Placed}
 use Rattle.expr_meaning.specs.Env as meaning
 use Rattle.expr_meaning.specs.Env.{Binding, Calls, Keys, Program}
 pub use Rattle.eval_scopes.specs.Bindings.{binding_of, pushed_on}

@@ -8,8 +8,8 @@ ghost use Rattle.eval_scopes.specs.Scopes.{value_behind};
 ghost use Rattle.eval_scopes.specs.Tables.{place_or, value_there};
 
 use crate::scopes::Variable;
+use expr_meaning::lazy_seq::Seq;
 use indexmap::IndexMap;
-use lazy_seq::Seq;
 use std::alloc::{AllocError, Global};
 use std::marker::Model;
 use xt_names::ExprName;

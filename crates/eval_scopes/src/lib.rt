@@ -16,6 +16,8 @@ mod leaves;
 mod scopes;
 
 pub use environments::{Env, Fixed, Focus, Group, State, no_state};
+pub use eval_values;
+pub use expr_meaning::{fn_lib, lazy_seq, operator_values};
 pub use faults::EvalFault;
 pub use globals::Globals;
 pub use leaves::{

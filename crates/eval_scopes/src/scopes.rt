@@ -3,7 +3,7 @@ ghost use Rattle.std.specs.Prelude.{◌≡◌, [], IfOk};
 ghost use Rattle.expr_meaning.specs.Env.{look_up};
 ghost use Rattle.eval_scopes.specs.Scopes.{bindings, value_behind, pushed_on};
 
-use lazy_seq::Seq;
+use expr_meaning::lazy_seq::Seq;
 use std::alloc::{AllocError, Global};
 use xt_names::ExprName;
 

@@ -4,9 +4,9 @@ use Rattle.std.proofs.Common.{◌<◌, ◌≤◌, suc, length, map, drop, get_or
 use Rattle.std.proofs.lemmas.List.{drop_all, append-nil}
 use Rattle.std.specs.Prelude.{Result, Ok, Err}
 use Rattle.outcomes.specs.Outcome.{Outcome, Ends, Fails, Deep, and_then, for_each}
-use Rattle.eval_scopes.specs.declared.faults.EvalFault.{EvalFault}
-use Rattle.eval_scopes.specs.declared.faults.EvalFault.TheVariants as fault
-use Rattle.eval_scopes.specs.Answers.{IsFaultOf, Answers}
+use Rattle.eval_lates.specs.EvalScopes.declared.faults.EvalFault.{EvalFault}
+use Rattle.eval_lates.specs.EvalScopes.declared.faults.EvalFault.TheVariants as fault
+use Rattle.eval_lates.specs.EvalScopes.Answers.{IsFaultOf, Answers}
 use Rattle.eval_steps.specs.Lists.{AnswersAs}
 
 -- a fault of the first part is one of the whole

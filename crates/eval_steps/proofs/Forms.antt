@@ -25,24 +25,24 @@ use Rattle.xt_syntax.specs.declared.exprs.Clause.TheFolds.{fold_out-Flwor}
 use Rattle.xdm_items.specs.declared.items.Item.{Item}
 use Rattle.outcomes.specs.Outcome.{Outcome, Ends, Fails, and_then, step_outcome}
 use Rattle.outcomes.specs.Outcome.{Deep as NoCallLeft}
-use Rattle.expr_meaning.specs.Env.{Binding, Env, Meaning, Program, bind, at_focus}
-use Rattle.expr_meaning.specs.Logic.{Bound, truth_at, unless, first_of, choice_of, either_of}
-use Rattle.expr_meaning.specs.Logic.{item_decides, quantified, typed}
-use Rattle.expr_meaning.specs.Paths.{kept, kept_in_turn, kept_item, kept_at, alone_if}
-use Rattle.expr_meaning.specs.Paths.{step_items, step_of}
-use Rattle.lazy_seq.specs.Orders.{in_document_order}
+use Rattle.eval_nodes.specs.ExprMeaning.Env.{Binding, Env, Meaning, Program, bind, at_focus}
+use Rattle.eval_nodes.specs.ExprMeaning.Logic.{Bound, truth_at, unless, first_of, choice_of, either_of}
+use Rattle.eval_nodes.specs.ExprMeaning.Logic.{item_decides, quantified, typed}
+use Rattle.eval_nodes.specs.ExprMeaning.Paths.{kept, kept_in_turn, kept_item, kept_at, alone_if}
+use Rattle.eval_nodes.specs.ExprMeaning.Paths.{step_items, step_of}
+use Rattle.eval_lates.specs.LazySeq.Orders.{in_document_order}
 use Rattle.xt_types.specs.declared.axes.Axis.{Axis}
 use Rattle.xt_types.specs.declared.types.SeqType.{SeqType}
 use Rattle.xt_types.specs.declared.node_tests.Test.{Test}
-use Rattle.expr_meaning.specs.Flow.{let_clause}
-use Rattle.expr_meaning.specs.Making.{attribute_text, direct_attribute}
-use Rattle.expr_meaning.specs.Making.{literal_node}
-use Rattle.expr_meaning.specs.Meaning.{outcome, placed_clause}
-use Rattle.expr_meaning.specs.Values.{variable, of_focus}
-use Rattle.expr_meaning.specs.Calls.{call_of}
-use Rattle.eval_scopes.specs.declared.faults.EvalFault.{EvalFault}
-use Rattle.eval_scopes.specs.declared.faults.EvalFault.TheVariants as fault
-use Rattle.eval_scopes.specs.Answers.{IsFaultOf}
+use Rattle.eval_nodes.specs.ExprMeaning.Flow.{let_clause}
+use Rattle.eval_nodes.specs.ExprMeaning.Making.{attribute_text, direct_attribute}
+use Rattle.eval_nodes.specs.ExprMeaning.Making.{literal_node}
+use Rattle.eval_nodes.specs.ExprMeaning.Meaning.{outcome, placed_clause}
+use Rattle.eval_nodes.specs.ExprMeaning.Values.{variable, of_focus}
+use Rattle.eval_nodes.specs.ExprMeaning.Calls.{call_of}
+use Rattle.eval_lates.specs.EvalScopes.declared.faults.EvalFault.{EvalFault}
+use Rattle.eval_lates.specs.EvalScopes.declared.faults.EvalFault.TheVariants as fault
+use Rattle.eval_lates.specs.EvalScopes.Answers.{IsFaultOf}
 use Rattle.eval_steps.specs.Parts.{arm_outcome, bind_outcome, order_outcome, attr_outcome}
 use Rattle.eval_steps.specs.Parts.{part_outcome, clause_outcome, flwor_outcome}
 use Rattle.eval_steps.specs.Sizes.{total, nodes, arm_nodes, bind_nodes, order_nodes, attr_nodes}

@@ -6,14 +6,14 @@ use Rattle.std.specs.List.{list_all}
 use Rattle.xt_names.specs.declared.codes.Code.TheVariants.{Dynamic}
 use Rattle.xt_names.specs.declared.codes.DynamicCode.TheVariants.{FOAR0002, XPTY0019}
 use Rattle.xdm_items.specs.declared.items.Item.{Item}
-use Rattle.operator_values.specs.Nodes.{is_node}
+use Rattle.eval_lates.specs.OperatorValues.Nodes.{is_node}
 use Rattle.function_arguments.specs.Arguments.{and_then as result_then}
 use Rattle.outcomes.specs.Outcome.{Outcome, Ends, Fails, Deep, and_then, for_each, step_outcome}
 use Rattle.sort_meaning.specs.Sorted.{Placed, placed, placed_from, places}
-use Rattle.expr_meaning.specs.Env.{Env, Meaning, at_focus}
-use Rattle.expr_meaning.specs.Paths.{path_places, path_value, slash_of}
-use Rattle.eval_scopes.specs.declared.faults.EvalFault.{EvalFault}
-use Rattle.eval_scopes.specs.Answers.{Answers, IsFaultOf}
+use Rattle.eval_nodes.specs.ExprMeaning.Env.{Env, Meaning, at_focus}
+use Rattle.eval_nodes.specs.ExprMeaning.Paths.{path_places, path_value, slash_of}
+use Rattle.eval_lates.specs.EvalScopes.declared.faults.EvalFault.{EvalFault}
+use Rattle.eval_lates.specs.EvalScopes.Answers.{Answers, IsFaultOf}
 use Rattle.eval_steps.proofs.Follow.{fault_first}
 use Rattle.eval_steps.specs.Steps.{item_count, path_count}
 

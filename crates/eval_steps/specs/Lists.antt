@@ -4,11 +4,11 @@ use Rattle.std.specs.declared.vec.Vec.{Vec}
 use Rattle.std.specs.declared.alloc.Global.{Global}
 use Rattle.xdm_items.specs.declared.items.Item.{Item}
 use Rattle.outcomes.specs.Outcome.{Outcome, Ends, and_then}
-use Rattle.expr_meaning.specs.Env.{Binding}
-use Rattle.eval_scopes.specs.declared.faults.EvalFault.{EvalFault}
-use Rattle.eval_scopes.specs.declared.scopes.Variable.{Variable}
-use Rattle.eval_scopes.specs.Answers.{IsFaultOf}
-use Rattle.eval_scopes.specs.Scopes.{binding_of}
+use Rattle.eval_nodes.specs.ExprMeaning.Env.{Binding}
+use Rattle.eval_lates.specs.EvalScopes.declared.faults.EvalFault.{EvalFault}
+use Rattle.eval_lates.specs.EvalScopes.declared.scopes.Variable.{Variable}
+use Rattle.eval_lates.specs.EvalScopes.Answers.{IsFaultOf}
+use Rattle.eval_lates.specs.EvalScopes.Scopes.{binding_of}
 
 -- the answer stands for the outcome, whose value is what `view` shows
 abbrev pub AnswersAs : {A B : Type 0} → (A → B) → Result A EvalFault → ℕ → Outcome B → Type 0

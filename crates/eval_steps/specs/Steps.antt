@@ -9,10 +9,10 @@ use Rattle.outcomes.specs.Outcome.{Outcome, Ends, and_then, step_outcome, for_ea
 use Rattle.xt_atoms.specs.Casts.{wrong_type}
 use Rattle.order_group.specs.Rows.{Row}
 use Rattle.sort_meaning.specs.Sorted.{counted, key_cell}
-use Rattle.expr_meaning.specs.Env.{Binding, Env, Meaning}
-use Rattle.expr_meaning.specs.Logic.{truth_at}
-use Rattle.expr_meaning.specs.Paths.{path_nodes}
-use Rattle.expr_meaning.specs.Flow.{OrderMeaning}
+use Rattle.eval_nodes.specs.ExprMeaning.Env.{Binding, Env, Meaning}
+use Rattle.eval_nodes.specs.ExprMeaning.Logic.{truth_at}
+use Rattle.eval_nodes.specs.ExprMeaning.Paths.{path_nodes}
+use Rattle.eval_nodes.specs.ExprMeaning.Flow.{OrderMeaning}
 
 -- a variable with its value
 abbrev pub bound_outcome : ExprName → Result (List Item) Code → ℕ → Outcome Binding

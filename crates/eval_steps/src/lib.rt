@@ -10,6 +10,9 @@
 
 mod steps;
 
+pub use eval_lates;
+pub use eval_lates::{eval_scopes, eval_values, operator_values};
+pub use eval_nodes;
 pub use steps::{
     WRONG_TYPE, bound_item, bound_list, bound_place, is_kept_at, list_size, literal_integer,
     literal_place, literal_text, ordered_items, path_items, path_size, place_in, pop_variable,

@@ -2,12 +2,12 @@
 use Rattle.std.specs.Prelude.{List, Result}
 use Rattle.xt_names.specs.declared.codes.Code.{Code}
 use Rattle.xdm_items.specs.declared.items.Item.{Item}
-use Rattle.operator_values.specs.Comparisons.{general_value, single_value}
-use Rattle.operator_values.specs.Nodes.{is_value, before_value, after_value, union_value}
-use Rattle.operator_values.specs.Nodes.{intersect_value, except_value}
-use Rattle.operator_values.specs.Numbers.{arithmetic_value, range_value, negated_value}
-use Rattle.operator_values.specs.Numbers.{signed_value}
-use Rattle.operator_values.specs.Types.{cast_value, castable_value}
+use Rattle.expr_meaning.specs.OperatorValues.Comparisons.{general_value, single_value}
+use Rattle.expr_meaning.specs.OperatorValues.Nodes.{is_value, before_value, after_value, union_value}
+use Rattle.expr_meaning.specs.OperatorValues.Nodes.{intersect_value, except_value}
+use Rattle.expr_meaning.specs.OperatorValues.Numbers.{arithmetic_value, range_value, negated_value}
+use Rattle.expr_meaning.specs.OperatorValues.Numbers.{signed_value}
+use Rattle.expr_meaning.specs.OperatorValues.Types.{cast_value, castable_value}
 use Rattle.eval_values.specs.declared.operators.Operator.{Operator}
 use Rattle.eval_values.specs.declared.operators.Operator.TheVariants as two
 use Rattle.eval_values.specs.declared.operators.OneOperator.{OneOperator}

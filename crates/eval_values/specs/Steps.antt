@@ -5,7 +5,7 @@ use Rattle.xt_names.specs.declared.codes.Code.{Code}
 use Rattle.xt_names.specs.declared.codes.Code.TheVariants.{Dynamic}
 use Rattle.xt_names.specs.declared.codes.DynamicCode.TheVariants.{XPTY0019}
 use Rattle.xdm_items.specs.declared.items.Item.{Item}
-use Rattle.operator_values.specs.Nodes.{is_node}
+use Rattle.expr_meaning.specs.OperatorValues.Nodes.{is_node}
 
 -- whether all items are nodes, and else the error
 abbrev pub checked_path : List Item → Result (Unit {0}) Code

@@ -15,6 +15,7 @@ mod places;
 mod predicates;
 mod steps;
 
+pub use expr_meaning::function_arguments;
 pub use lists::{append, one};
 pub use operators::{OneOperator, Operator, apply, apply_to_one};
 pub use orders::{key_cell, sorted_places};

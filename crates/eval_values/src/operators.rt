@@ -1,9 +1,9 @@
 // Operators on evaluated operands.
 ghost use Rattle.xt_atoms.specs.Casts.{Answers};
-ghost use Rattle.operator_values.specs.Numbers.{range_value};
+ghost use Rattle.expr_meaning.specs.OperatorValues.Numbers.{range_value};
 ghost use Rattle.eval_values.specs.Operators.{value_of_two, value_of_one};
 
-use operator_values::{
+use expr_meaning::operator_values::{
     after, arithmetic, before, cast_list, castable_list, except, general, intersect, is, negated,
     range, signed, single, union,
 };

@@ -1,10 +1,10 @@
 // Rows of keys.
 ghost use Rattle.std.specs.Prelude.{◌≡◌, map};
 ghost use Rattle.xt_atoms.specs.Casts.{Answers, wrong_type};
-ghost use Rattle.sort_meaning.specs.Sorted.{key_cell};
+ghost use Rattle.expr_meaning.specs.SortMeaning.Sorted.{key_cell};
 ghost use Rattle.eval_values.specs.Orders.{places_in_order};
 
-use operator_values::atom_of;
+use expr_meaning::operator_values::atom_of;
 use order_group::{KeyRow, SortFault, sort_by_keys};
 use std::alloc::Global;
 use xdm_items::ItemList;

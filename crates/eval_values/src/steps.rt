@@ -5,10 +5,10 @@ ghost use Rattle.xt_atoms.specs.Casts.{Answers};
 ghost use Rattle.expr_meaning.specs.Paths.{step_items, path_value, is_atom};
 ghost use Rattle.eval_values.specs.Steps.{checked_path};
 
-use lazy_seq::Seq;
-use node_axes::Cursor;
-use operator_values::{are_nodes, in_order};
+use expr_meaning::lazy_seq::Seq;
+use expr_meaning::operator_values::{are_nodes, in_order};
 use std::alloc::Global;
+use step_walks::node_axes::Cursor;
 use xdm_items::{Item, ItemList};
 use xt_atoms::ValueFault;
 use xt_names::{Code, DynamicCode};

@@ -3,3 +3,4 @@ pub mod Types
 pub mod Operators
 pub mod Bindings
 pub mod Table
+pub use Rattle.xt_types.specs as XtTypes

@@ -1,12 +1,12 @@
 -- What the productions of operators, lists, conditionals, bindings and types mean, from what their parts mean (XPath 2.0, 2.5.3 and 3.3 to 3.10; XQuery 1.0, 3.8).
 use Rattle.std.specs.Prelude.{List, true, false}
 use Rattle.xt_types.specs.declared.types.SeqType.TheVariants as sequence
-use Rattle.xt_syntax.specs.declared.prefixes.Prefixes.{Prefixes}
+use Rattle.expr_rules.specs.XtSyntax.declared.prefixes.Prefixes.{Prefixes}
 use Rattle.expr_terms.specs.declared.productions.Production.{Production}
 use Rattle.expr_terms.specs.declared.productions.Production.TheVariants as production
-use Rattle.expr_meant.specs.declared.meant.Meant.{Meant}
-use Rattle.expr_meant.specs.declared.meant.Meant.TheVariants as meant
-use Rattle.expr_meant.specs.Parts.{expr_in}
+use Rattle.expr_rules.specs.ExprMeant.declared.meant.Meant.{Meant}
+use Rattle.expr_rules.specs.ExprMeant.declared.meant.Meant.TheVariants as meant
+use Rattle.expr_rules.specs.ExprMeant.Parts.{expr_in}
 use Rattle.expr_control.specs.Lists.{listed, conditional, quantified}
 use Rattle.expr_control.specs.Types.{marked, typed, single}
 use Rattle.expr_control.specs.Operators.{chained, operated, signed}

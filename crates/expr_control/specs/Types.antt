@@ -10,9 +10,9 @@ use Rattle.xt_types.specs.declared.types.SeqType.{SeqType}
 use Rattle.xt_types.specs.declared.types.SeqType.TheVariants as sequence
 use Rattle.expr_terms.specs.declared.keys.Key.{Key}
 use Rattle.expr_terms.specs.declared.keys.Key.TheVariants as key
-use Rattle.expr_meant.specs.declared.meant.Meant.{Meant}
-use Rattle.expr_meant.specs.declared.meant.Meant.TheVariants as meant
-use Rattle.expr_meant.specs.Parts.{key_of, has_parts}
+use Rattle.expr_rules.specs.ExprMeant.declared.meant.Meant.{Meant}
+use Rattle.expr_rules.specs.ExprMeant.declared.meant.Meant.TheVariants as meant
+use Rattle.expr_rules.specs.ExprMeant.Parts.{key_of, has_parts}
 use Rattle.expr_rules.specs.Known.{type_of}
 
 unfoldable pub item_of : List Binding → Meant → ItemType

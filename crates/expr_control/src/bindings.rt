@@ -4,12 +4,12 @@ ghost use Rattle.expr_rules.specs.Known.{name_of};
 ghost use Rattle.expr_control.specs.Bindings.{kind_in, kind_or, place_in, place_or, bind_of, for_bind, let_bind, quant_bind, placed};
 
 use bound_prefixes::BoundPrefixes;
-use expr_meant::{Meant, expr_in};
-use expr_names::no_text;
+use expr_rules::expr_meant::{Meant, expr_in};
+use expr_rules::expr_names::no_text;
 use expr_rules::name_of;
+use expr_rules::xt_syntax::{Bind, Clause};
 use std::alloc::{AllocError, Global};
 use xt_names::ExprName;
-use xt_syntax::{Bind, Clause};
 use xt_types::SeqType;
 
 #[tactic(auto, unfolding(crate::specs::Bindings::kind_or))]

@@ -1,13 +1,13 @@
 // Clauses, and the whole that they stand in.
 ghost use Rattle.std.specs.Prelude.{◌≡◌, ◌++◌, ◌∷◌, [], IfOk};
-ghost use Rattle.expr_meant.specs.declared.meant.Meant.TheVariants.{Expr as as_expr};
+ghost use Rattle.expr_rules.specs.ExprMeant.declared.meant.Meant.TheVariants.{Expr as as_expr};
 ghost use Rattle.expr_control.specs.Bindings.{clause_and, clauses_in, clauses_and, all_clauses, where_or, where_in, flwor};
 
 use crate::orders::{all_orders, is_stable};
-use expr_meant::{Meant, as_part, expr_in};
+use expr_rules::expr_meant::{Meant, as_part, expr_in};
+use expr_rules::xt_syntax::{Clause, Expr, Flwor};
 use std::alloc::{AllocError, Global};
 use xt_names::{List, Shared};
-use xt_syntax::{Clause, Expr, Flwor};
 
 #[tactic(auto, unfolding(crate::specs::Bindings::clause_and))]
 fn push_clause(clauses: Vec<Clause>, part: &Meant) -> Result<Vec<Clause>, AllocError>

@@ -1,7 +1,7 @@
 // Which production means what.
 ghost use Rattle.std.specs.Prelude.{◌≡◌, IfOk};
-ghost use Rattle.expr_meant.specs.declared.meant.Meant.TheVariants.{Clauses, Orders, Sequence, Where};
-ghost use Rattle.expr_meant.specs.Parts.{expr_in};
+ghost use Rattle.expr_rules.specs.ExprMeant.declared.meant.Meant.TheVariants.{Clauses, Orders, Sequence, Where};
+ghost use Rattle.expr_rules.specs.ExprMeant.Parts.{expr_in};
 ghost use Rattle.expr_control.specs.Types.{marked, typed};
 ghost use Rattle.expr_control.specs.Bindings.{clauses_in, orders_in};
 ghost use Rattle.expr_control.specs.Table.{control_value};
@@ -13,10 +13,10 @@ use crate::lists::{conditional, listed, quantified};
 use crate::orders::{key_spec, orders_in};
 use crate::types::{marked, single, typed};
 use bound_prefixes::BoundPrefixes;
-use expr_meant::{Meant, expr_in};
+use expr_rules::expr_meant::{Meant, expr_in};
+use expr_rules::xt_syntax::Prefixes;
 use expr_terms::Production;
 use std::alloc::{AllocError, Global};
-use xt_syntax::Prefixes;
 use xt_types::SeqType;
 
 fn clauses(alloc: Global, parts: &[Meant]) -> Result<Meant, AllocError>

@@ -3,7 +3,7 @@ ghost use Rattle.std.specs.Prelude.{◌≡◌, IfOk};
 ghost use Rattle.expr_control.specs.Types.{item_of, sequence_of, count_in, count_of, marked, typed, single};
 
 use bound_prefixes::BoundPrefixes;
-use expr_meant::{Meant, has_parts, key_of};
+use expr_rules::expr_meant::{Meant, has_parts, key_of};
 use expr_rules::type_of;
 use expr_terms::Key;
 use std::alloc::{AllocError, Global};

@@ -2,7 +2,7 @@
 use Rattle.std.specs.Prelude.{ℕ, Option, Some, None, List, [], ◌∷◌, reverse, if◌then◌else◌}
 use Rattle.expr_terms.specs.declared.tokens.Token.{Token}
 use Rattle.query_pages.specs.Inner.{with_inner}
-use Rattle.path_raws.specs.Forms.{Form, said}
+use Rattle.expr_raws.specs.PathRaws.Forms.{Form, said}
 use Rattle.expr_raws.specs.Raws.{form_of}
 use Rattle.expr_drafts.specs.declared.drafts.Part.{Part}
 use Rattle.expr_drafts.specs.declared.drafts.Item.{Item}

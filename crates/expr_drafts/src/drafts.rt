@@ -2,7 +2,7 @@
 ghost use Rattle.std.specs.Prelude.{◌≡◌, ◌∷◌, [], OnOk, MatchOption};
 ghost use Rattle.expr_terms.specs.declared.tokens.Token.TheVariants as token_of;
 ghost use Rattle.query_pages.specs.Inner.{inner, with_inner};
-ghost use Rattle.path_raws.specs.Forms.{said};
+ghost use Rattle.expr_raws.specs.PathRaws.Forms.{said};
 ghost use Rattle.expr_raws.specs.Raws.{form_of};
 ghost use Rattle.expr_drafts.specs.declared.drafts.Item.TheVariants as item_of;
 ghost use Rattle.expr_drafts.specs.Written.{item_tokens};

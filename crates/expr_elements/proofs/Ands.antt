@@ -1,8 +1,8 @@
 -- What a part gives comes in front of what the others give.
 use Rattle.std.proofs.Common.{◌≡◌, ℕ, List, [], ◌∷◌, ◌++◌, ◌+◌, ◌<◌, suc, length, drop, get_or, drop-cons, add-one, append_assoc, refl, ap, sym, ◌∙◌}
-use Rattle.xt_syntax.specs.declared.exprs.DirectAttr.{DirectAttr}
-use Rattle.expr_meant.specs.declared.meant.Meant.{Meant}
-use Rattle.expr_meant.specs.declared.meant.Meant.TheVariants as meant
+use Rattle.expr_rules.specs.XtSyntax.declared.exprs.DirectAttr.{DirectAttr}
+use Rattle.expr_rules.specs.ExprMeant.declared.meant.Meant.{Meant}
+use Rattle.expr_rules.specs.ExprMeant.declared.meant.Meant.TheVariants as meant
 use Rattle.expr_elements.specs.Direct.{attr_and}
 
 pub attr_more : (m : Meant) (others : List DirectAttr) → attr_and m [] ++ others ≡ attr_and m others

@@ -2,3 +2,7 @@ pub mod Space
 pub mod Direct
 pub mod Computed
 pub mod Table
+pub use Rattle.expr_rules.specs.ExprMeant
+pub use Rattle.expr_rules.specs.ExprNames
+pub use Rattle.expr_rules.specs as ExprRules
+pub use Rattle.expr_rules.specs.XtSyntax

@@ -3,12 +3,12 @@ use Rattle.std.specs.Prelude.{ℕ, List, [], ◌∷◌, ◌++◌, Bool, true, �
 use Rattle.std.specs.List.{list_all}
 use Rattle.xt_names.specs.Allowed.{is_empty_text}
 use Rattle.xt_names.specs.Marks.{is_white}
-use Rattle.xt_syntax.specs.declared.exprs.Part.{Part}
-use Rattle.xt_syntax.specs.declared.exprs.Part.TheVariants as part
+use Rattle.expr_rules.specs.XtSyntax.declared.exprs.Part.{Part}
+use Rattle.expr_rules.specs.XtSyntax.declared.exprs.Part.TheVariants as part
 use Rattle.expr_terms.specs.declared.tokens.Token.{Token}
 use Rattle.expr_terms.specs.declared.tokens.Token.TheVariants as token
-use Rattle.expr_meant.specs.declared.meant.Meant.{Meant}
-use Rattle.expr_meant.specs.declared.meant.Meant.TheVariants as meant
+use Rattle.expr_rules.specs.ExprMeant.declared.meant.Meant.{Meant}
+use Rattle.expr_rules.specs.ExprMeant.declared.meant.Meant.TheVariants as meant
 use Rattle.expr_elements.specs.declared.space.Piece.{Piece}
 use Rattle.expr_elements.specs.declared.space.Piece.TheVariants.{Run, Whole}
 use Rattle.expr_elements.specs.declared.space.Joined.{Joined}

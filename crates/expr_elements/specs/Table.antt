@@ -1,10 +1,10 @@
 -- What the productions of constructors mean, from what their parts mean (XQuery 1.0, 3.7).
 use Rattle.std.specs.Prelude.{List, [], Bool}
-use Rattle.xt_syntax.specs.declared.prefixes.Prefixes.{Prefixes}
+use Rattle.expr_rules.specs.XtSyntax.declared.prefixes.Prefixes.{Prefixes}
 use Rattle.expr_terms.specs.declared.productions.Production.{Production}
 use Rattle.expr_terms.specs.declared.productions.Production.TheVariants as production
-use Rattle.expr_meant.specs.declared.meant.Meant.{Meant}
-use Rattle.expr_meant.specs.declared.meant.Meant.TheVariants as meant
+use Rattle.expr_rules.specs.ExprMeant.declared.meant.Meant.{Meant}
+use Rattle.expr_rules.specs.ExprMeant.declared.meant.Meant.TheVariants as meant
 use Rattle.expr_elements.specs.Space.{parts_of}
 use Rattle.expr_elements.specs.Direct.{element, child, attribute, enclosed}
 use Rattle.expr_elements.specs.Computed.{computed, constructed, pi_constructed, enclosing}

@@ -1,18 +1,18 @@
 // Computed constructors.
 ghost use Rattle.std.specs.Prelude.{◌≡◌, [], IfOk};
 ghost use Rattle.expr_rules.specs.Known.{node_name_of};
-ghost use Rattle.expr_meant.specs.declared.meant.Meant.TheVariants.{Expr as as_expr};
+ghost use Rattle.expr_rules.specs.ExprMeant.declared.meant.Meant.TheVariants.{Expr as as_expr};
 ghost use Rattle.expr_elements.specs.Computed.{named_by, named_with, computed, fixed_name, fixed_with, constructed, pi_constructed, enclosing_by, enclosing};
 
 use crate::direct::nothing;
 use bound_prefixes::BoundPrefixes;
-use expr_meant::{Meant, as_part, expr_in, expr_of, key_of};
-use expr_names::no_text;
+use expr_rules::expr_meant::{Meant, as_part, expr_in, expr_of, key_of};
+use expr_rules::expr_names::no_text;
 use expr_rules::node_name_of;
+use expr_rules::xt_syntax::{Expr, NameSource};
 use expr_terms::Key;
 use std::alloc::{AllocError, Global};
 use xt_names::{Name, Shared, Text};
-use xt_syntax::{Expr, NameSource};
 
 #[tactic(auto, unfolding(crate::specs::Computed::named_by))]
 fn named_by(key: Key, name: NameSource, content: Shared<Expr>) -> Expr

@@ -5,12 +5,12 @@ ghost use Rattle.xt_names.specs.Marks.{is_white};
 ghost use Rattle.expr_elements.specs.declared.space.Piece.{Piece};
 ghost use Rattle.expr_elements.specs.Space.{is_white_text, run_part, with_pieces, piece_in, piece_of, parts_of};
 
-use expr_meant::Meant;
-use expr_names::no_text;
+use expr_rules::expr_meant::Meant;
+use expr_rules::expr_names::no_text;
+use expr_rules::xt_syntax::Part;
 use expr_terms::Token;
 use std::alloc::{AllocError, Global};
 use xt_names::{List, Shared, Text, TextBuilder};
-use xt_syntax::Part;
 
 /// Characters and whether they are literal, or a part that ends a run of them.
 #[derive(Drop)]

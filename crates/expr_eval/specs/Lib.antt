@@ -1,1 +1,2 @@
 pub mod Serves
+pub use Rattle.eval_steps.specs.EvalLates

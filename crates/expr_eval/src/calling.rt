@@ -1,6 +1,6 @@
 // Calls of functions.
 ghost use Rattle.std.specs.Prelude.{◌∷◌, [], map};
-ghost use Rattle.value_slots.specs.Slots.{Leaves};
+ghost use Rattle.flow_eval.specs.ValueSlots.Slots.{Leaves};
 ghost use Rattle.eval_steps.specs.Lists.{AnswersAll};
 ghost use Rattle.eval_scopes.specs.Scopes.{env_of, program_of};
 ghost use Rattle.expr_eval.specs.Serves.{Serves};
@@ -11,8 +11,8 @@ ghost use Rattle.outcomes.specs.Outcome.{and_then, step_outcome};
 
 use crate::hosts::{Callee, Host};
 use eval_calls::{Called, find_called};
-use eval_lates::late_answer;
 use eval_scopes::{Env, EvalFault};
+use eval_steps::eval_lates::late_answer;
 use eval_steps::push_list;
 use function_table::Builtin;
 use xdm_items::ItemList;

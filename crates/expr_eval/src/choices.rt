@@ -1,7 +1,7 @@
 // Expressions that decide.
 ghost use Rattle.std.specs.Prelude.{map};
 ghost use Rattle.eval_scopes.specs.Answers.{Answers};
-ghost use Rattle.value_slots.specs.Slots.{Leaves};
+ghost use Rattle.flow_eval.specs.ValueSlots.Slots.{Leaves};
 ghost use Rattle.eval_scopes.specs.Scopes.{env_of, program_of};
 ghost use Rattle.expr_eval.specs.Serves.{Serves};
 ghost use Rattle.expr_meaning.specs.Meaning.{outcome};
@@ -13,8 +13,8 @@ ghost use Rattle.eval_steps.specs.Parts.{arm_outcome, bind_outcome};
 use crate::hosts::{Callee, Host};
 use eval_scopes::{Env, EvalFault, Scope};
 use eval_steps::{pop_variable, push_next, truth_of};
+use flow_eval::value_slots::put_truth;
 use lazy_seq::Seq;
-use value_slots::put_truth;
 use xdm_items::ItemList;
 use xt_names::ExprName;
 use xt_syntax::{Arm, Bind, Expr};

@@ -4,7 +4,7 @@ ghost use Rattle.xt_tree.specs.declared.trees.Tree.TheVariants.{Text as text_tre
 ghost use Rattle.node_builder.specs.Trees.{element_of};
 ghost use Rattle.node_builder.specs.declared.kinds.Duplicates.TheVariants.{Refuse};
 ghost use Rattle.eval_scopes.specs.Answers.{Answers};
-ghost use Rattle.value_slots.specs.Slots.{Leaves};
+ghost use Rattle.flow_eval.specs.ValueSlots.Slots.{Leaves};
 ghost use Rattle.eval_scopes.specs.Scopes.{env_of, program_of};
 ghost use Rattle.expr_eval.specs.Serves.{Serves};
 ghost use Rattle.eval_steps.specs.Parts.{attr_outcome, part_outcome};
@@ -15,13 +15,13 @@ ghost use Rattle.expr_meaning.specs.Making.{attribute_part, content_part, enclos
 ghost use Rattle.expr_meaning.specs.Making.{joined_atoms, made};
 
 use crate::hosts::{Callee, Host};
-use eval_nodes::{joined_atoms, make_element, spaced_text, text_node};
 use eval_scopes::{Env, EvalFault};
+use eval_steps::eval_nodes::{joined_atoms, make_element, spaced_text, text_node};
+use eval_steps::eval_values::one;
 use eval_steps::push_attribute;
-use eval_values::one;
 use expr_names::no_text;
+use flow_eval::value_slots::{clear, join, put};
 use std::alloc::Global;
-use value_slots::{clear, join, put};
 use xdm_items::ItemList;
 use xt_names::{ExprName, List, Name, Text, TextBuilder};
 use xt_syntax::{DirectAttr, Expr, Part};

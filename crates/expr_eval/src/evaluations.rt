@@ -1,18 +1,18 @@
 // The value of an expression, form by form.
 ghost use Rattle.std.specs.Prelude.{map};
 ghost use Rattle.eval_scopes.specs.Answers.{Answers};
-ghost use Rattle.value_slots.specs.Slots.{Leaves};
+ghost use Rattle.flow_eval.specs.ValueSlots.Slots.{Leaves};
 ghost use Rattle.eval_scopes.specs.Scopes.{env_of, program_of};
 ghost use Rattle.expr_eval.specs.Serves.{Serves};
 ghost use Rattle.expr_meaning.specs.Meaning.{outcome};
 ghost use Rattle.expr_meaning.specs.Values.{comma_of, unary, binary};
 ghost use Rattle.operator_values.specs.Types.{instance_value, treated_value};
-ghost use Rattle.eval_values.specs.Operators.{value_of_one, value_of_two};
+ghost use Rattle.eval_steps.specs.EvalValues.Operators.{value_of_one, value_of_two};
 
 use crate::hosts::{Callee, Host};
 use eval_scopes::{Env, EvalFault};
-use eval_values::{OneOperator, Operator, append};
-use value_slots::{
+use eval_steps::eval_values::{OneOperator, Operator, append};
+use flow_eval::value_slots::{
     apply_alone, apply_to, check_instance, put_context, put_integer, put_root, put_text,
     put_variable, treat,
 };

@@ -8,7 +8,7 @@ ghost use Rattle.expr_meaning.specs.Calls.{current_value, key_of, library_value,
 ghost use Rattle.operator_values.specs.Operands.{atom_of};
 ghost use Rattle.eval_calls.specs.Called.{called_as};
 ghost use Rattle.eval_scopes.specs.Answers.{Answers};
-ghost use Rattle.value_slots.specs.Slots.{Leaves};
+ghost use Rattle.flow_eval.specs.ValueSlots.Slots.{Leaves};
 ghost use Rattle.eval_scopes.specs.Scopes.{env_of, program_of};
 ghost use Rattle.eval_steps.specs.Parts.{flwor_outcome};
 ghost use Rattle.eval_steps.specs.Sizes.{flwor_nodes, nodes};
@@ -18,13 +18,13 @@ ghost use Rattle.expr_meaning.specs.Meaning.{outcome};
 use eval_calls::{
     Called, call_library, current_item, group_key, group_members, key_name, key_root,
 };
-use eval_inner::Within;
 use eval_scopes::{Env, EvalFault, Fixed, document_value};
 use flow_eval::Flows;
+use flow_eval::eval_inner::Within;
+use flow_eval::value_slots::put;
 use fn_lib::argument;
 use function_table::Builtin;
 use std::alloc::Global;
-use value_slots::put;
 use xdm_items::ItemList;
 use xt_names::{ExprName, Text};
 use xt_syntax::{Expr, Flwor};

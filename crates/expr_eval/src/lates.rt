@@ -1,7 +1,7 @@
 // Values that are walked on demand.
 ghost use Rattle.eval_scopes.specs.Answers.{Answers};
 ghost use Rattle.eval_scopes.specs.Scopes.{env_of, program_of};
-ghost use Rattle.eval_lates.specs.Late.{AnswersLate, literal};
+ghost use Rattle.eval_steps.specs.EvalLates.Late.{AnswersLate, literal};
 ghost use Rattle.expr_eval.specs.Serves.{Serves};
 ghost use Rattle.expr_meaning.specs.Meaning.{outcome};
 ghost use Rattle.expr_meaning.specs.Paths.{kept};
@@ -10,8 +10,8 @@ ghost use Rattle.operator_values.specs.Numbers.{range_value};
 ghost use Rattle.outcomes.specs.Outcome.{and_then};
 
 use crate::hosts::{Callee, Host};
-use eval_lates::{late_item, late_variable};
 use eval_scopes::{Env, EvalFault};
+use eval_steps::eval_lates::{late_item, late_variable};
 use lazy_seq::Seq;
 use operator_values::range;
 use quiet_steps::{has_late_walk, late_walk, late_walk_place};

@@ -1,5 +1,5 @@
 // Computed constructors.
-ghost use Rattle.value_slots.specs.Slots.{Leaves};
+ghost use Rattle.flow_eval.specs.ValueSlots.Slots.{Leaves};
 ghost use Rattle.eval_scopes.specs.Scopes.{env_of, program_of};
 ghost use Rattle.expr_eval.specs.Serves.{Serves};
 ghost use Rattle.expr_meaning.specs.Meaning.{outcome};
@@ -8,11 +8,11 @@ ghost use Rattle.expr_meaning.specs.Making.{element_made, document_made, attribu
 ghost use Rattle.expr_meaning.specs.Making.{comment_made, pi_made};
 
 use crate::hosts::{Callee, Host};
-use eval_nodes::{
+use eval_scopes::{Env, EvalFault};
+use eval_steps::eval_nodes::{
     make_attribute, make_comment, make_document, make_element, make_pi, make_text, spaced_text,
 };
-use eval_scopes::{Env, EvalFault};
-use value_slots::put;
+use flow_eval::value_slots::put;
 use xdm_items::ItemList;
 use xt_names::ExprName;
 use xt_syntax::{Expr, NameSource};

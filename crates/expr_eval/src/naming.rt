@@ -6,10 +6,10 @@ ghost use Rattle.eval_steps.specs.Parts.{name_outcome};
 ghost use Rattle.expr_meaning.specs.Names.{element_name_at, attribute_name_at, target_at};
 
 use crate::hosts::{Callee, Host};
-use eval_nodes::{
+use eval_scopes::{Env, EvalFault};
+use eval_steps::eval_nodes::{
     checked_attribute, computed_attribute, computed_element, computed_target, fixed_target,
 };
-use eval_scopes::{Env, EvalFault};
 use xdm_items::ItemList;
 use xt_names::{ExprName, Name, Text};
 use xt_syntax::NameSource;

@@ -2,7 +2,7 @@
 ghost use Rattle.std.specs.Prelude.{◌≡◌, map};
 ghost use Rattle.xt_syntax.specs.declared.exprs.Expr.TheVariants.{Slash, Step};
 ghost use Rattle.eval_scopes.specs.Answers.{Answers};
-ghost use Rattle.value_slots.specs.Slots.{Leaves};
+ghost use Rattle.flow_eval.specs.ValueSlots.Slots.{Leaves};
 ghost use Rattle.eval_scopes.specs.Scopes.{env_of, program_of};
 ghost use Rattle.expr_eval.specs.Serves.{Serves};
 ghost use Rattle.expr_meaning.specs.Meaning.{outcome};
@@ -13,13 +13,13 @@ ghost use Rattle.expr_meaning.specs.Env.{at_focus};
 
 use crate::hosts::{Callee, Host};
 use eval_scopes::{Env, EvalFault, Focus};
+use eval_steps::eval_values::append;
 use eval_steps::{
     is_kept_at, list_size, literal_place, ordered_items, path_items, path_size, place_in,
     push_kept, step_from,
 };
-use eval_values::append;
+use flow_eval::value_slots::put;
 use quiet_steps::{has_late_walk, late_walk_list};
-use value_slots::put;
 use xdm_items::{Item, ItemList};
 use xt_names::{ExprName, List};
 use xt_syntax::Expr;

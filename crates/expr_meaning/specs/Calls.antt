@@ -17,8 +17,8 @@ use Rattle.xdm_items.specs.Values.{string_value_of}
 use Rattle.function_table.specs.Find.{found, is_in_fn}
 use Rattle.function_table.specs.declared.builtins.Builtin.{Builtin}
 use Rattle.function_table.specs.declared.builtins.Builtin.TheVariants as function
-use Rattle.function_arguments.specs.Answers.{of_integer, of_text}
-use Rattle.function_arguments.specs.Arguments.{and_then as result_then, optional_text_argument}
+use Rattle.operator_values.specs.FunctionArguments.Answers.{of_integer, of_text}
+use Rattle.operator_values.specs.FunctionArguments.Arguments.{and_then as result_then, optional_text_argument}
 use Rattle.fn_lib.specs.Functions.{function_value}
 use Rattle.fn_lib.specs.Values.{argument}
 use Rattle.operator_values.specs.Operands.{atom_of}

@@ -9,3 +9,9 @@ pub mod Making
 pub mod Meaning
 pub mod Queries
 pub mod Documents
+pub use Rattle.fn_lib.specs as FnLib
+pub use Rattle.fn_lib.specs.ItemFunctions
+pub use Rattle.operator_values.specs.LazySeq
+pub use Rattle.operator_values.specs.NodeWalks
+pub use Rattle.operator_values.specs as OperatorValues
+pub use Rattle.sort_meaning.specs as SortMeaning

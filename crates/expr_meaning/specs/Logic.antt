@@ -8,7 +8,7 @@ use Rattle.xt_types.specs.declared.types.SeqType.{SeqType}
 use Rattle.xdm_items.specs.declared.items.Item.{Item}
 use Rattle.xdm_items.specs.Conversion.{matched}
 use Rattle.xdm_items.specs.Truth.{truth_of}
-use Rattle.function_arguments.specs.Answers.{of_truth}
+use Rattle.operator_values.specs.FunctionArguments.Answers.{of_truth}
 use Rattle.outcomes.specs.Outcome.{Outcome, Ends, and_then, step_outcome}
 use Rattle.expr_meaning.specs.Env.{Env, Meaning, bind}
 

@@ -11,14 +11,14 @@ use Rattle.xt_types.specs.declared.axes.Axis.{Axis}
 use Rattle.xt_types.specs.declared.node_tests.Test.{Test}
 use Rattle.xt_tree.specs.Place.{Place}
 use Rattle.doc_set.specs.Sets.{is_document}
-use Rattle.node_tests.specs.Tests.{passes_at}
-use Rattle.node_axes.specs.Axes.{axis_nodes}
+use Rattle.xdm_items.specs.NodeTests.Tests.{passes_at}
+use Rattle.operator_values.specs.NodeAxes.Axes.{axis_nodes}
 use Rattle.xt_atoms.specs.declared.atoms.Atom.TheVariants as atom
 use Rattle.xdm_items.specs.declared.items.Item.{Item}
 use Rattle.xdm_items.specs.declared.items.Item.TheVariants.{Node, Atom}
 use Rattle.xdm_items.specs.Truth.{truth_of}
-use Rattle.function_arguments.specs.Arguments.{and_then as result_then}
-use Rattle.lazy_seq.specs.Orders.{in_document_order}
+use Rattle.operator_values.specs.FunctionArguments.Arguments.{and_then as result_then}
+use Rattle.operator_values.specs.LazySeq.Orders.{in_document_order}
 use Rattle.operator_values.specs.Nodes.{is_node}
 use Rattle.outcomes.specs.Outcome.{Outcome, Ends, and_then, step_outcome, for_each}
 use Rattle.sort_meaning.specs.Sorted.{Placed, places}

@@ -20,7 +20,7 @@ use Rattle.xt_syntax.specs.declared.queries.QueryFunction.{QueryFunction}
 use Rattle.xt_syntax.specs.declared.queries.QueryParam.{QueryParam}
 use Rattle.xt_syntax.specs.declared.queries.QueryVar.{QueryVar}
 use Rattle.outcomes.specs.Outcome.{Outcome, Ends, Fails, Deep, and_then, step_outcome}
-use Rattle.function_arguments.specs.Arguments.{and_then as result_then}
+use Rattle.operator_values.specs.FunctionArguments.Arguments.{and_then as result_then}
 use Rattle.expr_meaning.specs.Env.{Binding, Calls, Env, Program, no_state, same_name}
 use Rattle.expr_meaning.specs.Logic.{typed}
 use Rattle.expr_meaning.specs.Meaning.{outcome}

@@ -10,4 +10,7 @@
 
 mod laws;
 
+pub use fn_lib;
 pub use laws::without_calls_left_a_call_needs_one;
+pub use operator_values;
+pub use operator_values::{function_arguments, lazy_seq};

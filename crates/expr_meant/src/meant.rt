@@ -1,7 +1,7 @@
 use expr_terms::{Key, Token};
 use xt_names::{AtomType, ExprName, List, Shared};
+use xt_syntax::xt_types::{SeqType, Test};
 use xt_syntax::{Bind, Clause, DirectAttr, Expr, Order, Part};
-use xt_types::{SeqType, Test};
 
 /// What a part of an expression means.
 #[derive(Drop)]

@@ -22,3 +22,4 @@ pub use names::{declared_uri, expr_name, no_text, node_name, uri_in, uri_of};
 pub use tests_of_names::{default_in, name_test};
 pub use types::{atomic_type, call_type, cast_type, single_type, type_named};
 pub use written::{Written, WrittenTest};
+pub use xt_types;

@@ -4,12 +4,12 @@ ghost use Rattle.expr_raws.specs.Raws.{form_of};
 ghost use Rattle.expr_pages.specs.Families.{is_leaf, is_control, is_comparison, is_combination};
 ghost use Rattle.expr_pages.specs.Families.{has_one_operand, is_constructor};
 
+use control_drafts::leaf_pages::push_var;
 use control_drafts::{push_flwor, push_if, push_quant};
 use element_drafts::{push_attribute, push_direct, push_element, push_enclosing, push_instruction};
 use expr_drafts::{Draft, Spot};
 use expr_places::{compare_key, value_key};
 use expr_terms::{Key, Level, Token};
-use leaf_pages::push_var;
 use name_prefixes::NamePrefixes;
 use operator_drafts::{
     push_arithmetic, push_call, push_cast, push_castable, push_chained, push_comparison,

@@ -7,16 +7,16 @@ use Rattle.xt_types.specs.declared.node_tests.Test.{Test}
 use Rattle.xt_types.specs.declared.node_tests.Test.TheVariants as test
 use Rattle.xt_types.specs.declared.node_tests.NameTest.{NameTest}
 use Rattle.xt_types.specs.declared.node_tests.NameTest.TheVariants as name
-use Rattle.xt_syntax.specs.declared.exprs.Expr.{Expr}
-use Rattle.xt_syntax.specs.declared.exprs.Expr.TheVariants as expr
-use Rattle.expr_names.specs.Names.{default_in}
+use Rattle.expr_rules.specs.XtSyntax.declared.exprs.Expr.{Expr}
+use Rattle.expr_rules.specs.XtSyntax.declared.exprs.Expr.TheVariants as expr
+use Rattle.expr_rules.specs.ExprNames.Names.{default_in}
 use Rattle.expr_terms.specs.declared.keys.Key.{Key}
 use Rattle.expr_terms.specs.declared.keys.Key.TheVariants as key
 use Rattle.expr_terms.specs.declared.tokens.Token.{Token}
-use Rattle.expr_meant.specs.declared.meant.Meant.{Meant}
-use Rattle.expr_meant.specs.declared.meant.Meant.TheVariants as meant
-use Rattle.expr_meant.specs.Parts.{exprs_of, key_of}
-use Rattle.expr_meant.specs.Names.{target_in}
+use Rattle.expr_rules.specs.ExprMeant.declared.meant.Meant.{Meant}
+use Rattle.expr_rules.specs.ExprMeant.declared.meant.Meant.TheVariants as meant
+use Rattle.expr_rules.specs.ExprMeant.Parts.{exprs_of, key_of}
+use Rattle.expr_rules.specs.ExprMeant.Names.{target_in}
 use Rattle.expr_rules.specs.Known.{name_test_of}
 
 -- the axis of the word

@@ -1,12 +1,12 @@
 -- What the productions of paths and primary expressions mean, from what their parts mean (XPath 2.0, 3.1 and 3.2).
 use Rattle.std.specs.Prelude.{List}
-use Rattle.xt_syntax.specs.declared.prefixes.Prefixes.{Prefixes}
-use Rattle.xt_syntax.specs.declared.exprs.Expr.TheVariants as expr
+use Rattle.expr_rules.specs.XtSyntax.declared.prefixes.Prefixes.{Prefixes}
+use Rattle.expr_rules.specs.XtSyntax.declared.exprs.Expr.TheVariants as expr
 use Rattle.expr_terms.specs.declared.productions.Production.{Production}
 use Rattle.expr_terms.specs.declared.productions.Production.TheVariants as production
-use Rattle.expr_meant.specs.declared.meant.Meant.{Meant}
-use Rattle.expr_meant.specs.declared.meant.Meant.TheVariants as meant
-use Rattle.expr_meant.specs.Parts.{exprs_of, expr_in}
+use Rattle.expr_rules.specs.ExprMeant.declared.meant.Meant.{Meant}
+use Rattle.expr_rules.specs.ExprMeant.declared.meant.Meant.TheVariants as meant
+use Rattle.expr_rules.specs.ExprMeant.Parts.{exprs_of, expr_in}
 use Rattle.expr_paths.specs.Steps.{axis_step, attribute_step, test_step, parent_step, plain_kind, pi_kind, named_kind}
 use Rattle.expr_paths.specs.Paths.{steps, root_steps, deep_steps, filtered}
 use Rattle.expr_paths.specs.Primaries.{literal, variable, call}

@@ -3,8 +3,8 @@ ghost use Rattle.std.specs.Prelude.{◌≡◌, IfOk};
 ghost use Rattle.expr_paths.specs.Steps.{plain_kind_of, plain_kind, target_of, pi_kind, named_kind_of, kind_name, named_kind};
 
 use bound_prefixes::BoundPrefixes;
-use expr_meant::{Meant, key_of, target_in};
-use expr_names::default_in;
+use expr_rules::expr_meant::{Meant, key_of, target_in};
+use expr_rules::expr_names::default_in;
 use expr_rules::name_test_of;
 use expr_terms::Key;
 use std::alloc::{AllocError, Global};

@@ -1,17 +1,17 @@
 // Paths and filters.
 ghost use Rattle.std.specs.Prelude.{◌≡◌, [], IfOk};
-ghost use Rattle.xt_syntax.specs.declared.exprs.Expr.TheVariants.{Slash, Step};
+ghost use Rattle.expr_rules.specs.XtSyntax.declared.exprs.Expr.TheVariants.{Slash, Step};
 ghost use Rattle.xt_types.specs.declared.axes.Axis.TheVariants.{DescendantOrSelf};
 ghost use Rattle.xt_types.specs.declared.node_tests.Test.TheVariants.{Node};
-ghost use Rattle.expr_meant.specs.declared.meant.Meant.TheVariants.{Expr as as_expr};
-ghost use Rattle.expr_meant.specs.Parts.{expr_of};
+ghost use Rattle.expr_rules.specs.ExprMeant.declared.meant.Meant.TheVariants.{Expr as as_expr};
+ghost use Rattle.expr_rules.specs.ExprMeant.Parts.{expr_of};
 ghost use Rattle.expr_paths.specs.Paths.{deep, stepped, path_from, steps, root_steps, deep_steps, filtered};
 
 use crate::primaries::nothing;
-use expr_meant::{Meant, as_part, expr_of, exprs_of};
+use expr_rules::expr_meant::{Meant, as_part, expr_of, exprs_of};
+use expr_rules::xt_syntax::Expr;
 use std::alloc::{AllocError, Global};
 use xt_names::{List, Shared};
-use xt_syntax::Expr;
 use xt_types::{Axis, Test};
 
 fn slash(alloc: Global, a: Shared<Expr>, b: Shared<Expr>) -> Result<Shared<Expr>, AllocError>

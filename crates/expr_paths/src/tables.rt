@@ -1,7 +1,7 @@
 // Which production means what.
 ghost use Rattle.std.specs.Prelude.{◌≡◌, IfOk};
-ghost use Rattle.expr_meant.specs.declared.meant.Meant.TheVariants.{Arguments, Deep, Kind};
-ghost use Rattle.expr_meant.specs.Parts.{exprs_of, expr_in};
+ghost use Rattle.expr_rules.specs.ExprMeant.declared.meant.Meant.TheVariants.{Arguments, Deep, Kind};
+ghost use Rattle.expr_rules.specs.ExprMeant.Parts.{exprs_of, expr_in};
 ghost use Rattle.expr_paths.specs.Steps.{pi_kind, named_kind};
 ghost use Rattle.expr_paths.specs.Table.{path_value};
 
@@ -10,11 +10,11 @@ use crate::paths::{deep_steps, filtered, root_steps, steps};
 use crate::primaries::{call, literal, only_expr, variable};
 use crate::walks::{attribute_step, axis_step, parent_step, test_step};
 use bound_prefixes::BoundPrefixes;
-use expr_meant::{Meant, as_part, expr_in, exprs_of};
+use expr_rules::expr_meant::{Meant, as_part, expr_in, exprs_of};
+use expr_rules::xt_syntax::{Expr, Prefixes};
 use expr_terms::Production;
 use std::alloc::{AllocError, Global};
 use xt_names::{Shared, Text};
-use xt_syntax::{Expr, Prefixes};
 
 fn deep_after(alloc: Global, parts: &[Meant]) -> Result<Meant, AllocError>
     ensures { IfOk result (λ made. made ≡ Deep (expr_in parts.now)) }

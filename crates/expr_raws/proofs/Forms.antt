@@ -36,12 +36,12 @@ use Rattle.expr_terms.specs.declared.productions.Level.TheVariants as level
 use Rattle.expr_terms.specs.declared.productions.Production.TheVariants as production
 use Rattle.expr_terms.specs.declared.raws.Raw.TheVariants.{Leaf as leaf, Node as node}
 use Rattle.expr_meant.specs.declared.meant.Meant.TheVariants as meant
-use Rattle.expr_paths.specs.Primaries as primaries
-use Rattle.expr_paths.specs.Table.{path_value}
-use Rattle.expr_control.specs.Operators as operators
-use Rattle.expr_resolve.specs.declared.setting.Setting.{Setting}
-use Rattle.expr_resolve.specs.Tables.{is_chain, family_of, value_in}
-use Rattle.expr_resolve.specs.Folds.{value_of}
+use Rattle.element_raws.specs.ExprPaths.Primaries as primaries
+use Rattle.element_raws.specs.ExprPaths.Table.{path_value}
+use Rattle.path_raws.specs.ExprControl.Operators as operators
+use Rattle.path_raws.specs.ExprResolve.declared.setting.Setting.{Setting}
+use Rattle.path_raws.specs.ExprResolve.Tables.{is_chain, family_of, value_in}
+use Rattle.path_raws.specs.ExprResolve.Folds.{value_of}
 use Rattle.xt_names.specs.declared.names.ExprName.{ExprName}
 use Rattle.xt_types.specs.declared.axes.Axis.{Axis}
 use Rattle.xt_types.specs.declared.node_tests.Test.{Test}
@@ -54,8 +54,8 @@ use Rattle.xt_types.specs.declared.types.SeqType.{SeqType}
 use Rattle.xt_syntax.specs.declared.exprs.Clause.TheOpen.{DocC, TextC, CommentC}
 use Rattle.xt_syntax.specs.declared.exprs.Expr.TheVariants.{rolls-DocC, rolls-TextC}
 use Rattle.xt_syntax.specs.declared.exprs.Expr.TheVariants.{rolls-CommentC}
-use Rattle.expr_elements.specs.Computed.{enclosing_by}
-use Rattle.expr_elements.specs.Table.{element_value}
+use Rattle.path_raws.specs.ExprElements.Computed.{enclosing_by}
+use Rattle.path_raws.specs.ExprElements.Table.{element_value}
 use Rattle.expr_terms.specs.declared.keys.Key.{Key}
 use Rattle.expr_meant.specs.Parts.{key_of, key_in, expr_or}
 use Rattle.expr_terms.specs.declared.keys.Key.TheVariants as key

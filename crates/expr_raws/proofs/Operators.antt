@@ -16,11 +16,11 @@ use Rattle.expr_terms.specs.declared.productions.Level.TheVariants as level
 use Rattle.expr_terms.specs.declared.productions.Production.TheVariants as production
 use Rattle.expr_meant.specs.declared.meant.Meant.TheVariants as meant
 use Rattle.expr_meant.specs.Parts.{expr_of, expr_or, key_of, key_in}
-use Rattle.expr_paths.specs.Table.{path_value}
-use Rattle.expr_control.specs.Table.{control_value}
-use Rattle.expr_control.specs.Operators as operators
-use Rattle.expr_resolve.specs.declared.setting.Setting.{Setting}
-use Rattle.expr_resolve.specs.Tables.{is_chain, family_of, value_in}
+use Rattle.element_raws.specs.ExprPaths.Table.{path_value}
+use Rattle.path_raws.specs.ExprControl.Table.{control_value}
+use Rattle.path_raws.specs.ExprControl.Operators as operators
+use Rattle.path_raws.specs.ExprResolve.declared.setting.Setting.{Setting}
+use Rattle.path_raws.specs.ExprResolve.Tables.{is_chain, family_of, value_in}
 use Rattle.path_raws.specs.Forms.{below, single, list, primary, signs, at, all_at, all_can}
 use Rattle.path_raws.specs.Forms.{key_leaf}
 use Rattle.path_raws.specs.Paths.{filtered}

@@ -1,1 +1,2 @@
 pub mod Raws
+pub use Rattle.path_raws.specs as PathRaws

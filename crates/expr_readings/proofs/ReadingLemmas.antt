@@ -14,7 +14,7 @@ use Rattle.expr_grammar.proofs.Run.{spells_runs, runs_spells, spells_type_runs, 
 use Rattle.expr_reader.specs.declared.readings.Reading.{Reading}
 use Rattle.expr_reader.specs.declared.readings.Reading.TheVariants as read
 use Rattle.expr_reader.specs.Answers.{within}
-use Rattle.expr_resolve.specs.declared.setting.Setting.{Setting}
+use Rattle.xpath_syntax.specs.ExprResolve.declared.setting.Setting.{Setting}
 use Rattle.text_tokens.specs.Lexed.{lexed}
 use Rattle.xpath_syntax.specs.Readings.{value, syntax, answer_of, reading_in, reading, Gives}
 use Rattle.xpath_syntax.specs.Spelled as tokens

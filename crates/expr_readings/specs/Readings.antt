@@ -7,7 +7,7 @@ use Rattle.expr_grammar.specs.Machine.{read_whole, read_type}
 use Rattle.expr_reader.specs.declared.readings.Reading.{Reading}
 use Rattle.expr_reader.specs.declared.readings.Reading.TheVariants as read
 use Rattle.expr_reader.specs.Answers.{within}
-use Rattle.expr_resolve.specs.declared.setting.Setting.{Setting}
+use Rattle.xpath_syntax.specs.ExprResolve.declared.setting.Setting.{Setting}
 use Rattle.text_tokens.specs.Lexed.{lexed}
 use Rattle.xpath_syntax.specs.Readings.{Answer, answer_of}
 

@@ -6,7 +6,7 @@ use Rattle.expr_terms.specs.declared.raws.Raw.{Raw}
 use Rattle.expr_terms.specs.declared.productions.Language.TheVariants.{Xpath as xpath}
 use Rattle.expr_grammar.specs.Grammar.{SpellsType}
 use Rattle.expr_tokens.specs.Terms.{Written, terms_of}
-use Rattle.expr_resolve.specs.declared.setting.Setting.{Setting}
+use Rattle.xpath_syntax.specs.ExprResolve.declared.setting.Setting.{Setting}
 use Rattle.text_tokens.specs.Lexed.{lexed}
 use Rattle.xpath_syntax.specs.Spelled as tokens
 

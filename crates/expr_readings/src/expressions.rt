@@ -3,9 +3,9 @@ ghost use Rattle.std.specs.Str.{chars};
 ghost use Rattle.xpath_syntax.specs.Readings.{Gives};
 ghost use Rattle.expr_readings.specs.Readings.{expr_reading};
 
-use expr_resolve::Setting;
 use std::alloc::Global;
 use text_tokens::lexed;
+use xpath_syntax::expr_resolve::Setting;
 use xpath_syntax::parse_expr;
 use xt_syntax::{Expr, ParseFault};
 

@@ -4,7 +4,7 @@ ghost use Rattle.xt_syntax.specs.declared.exprs.Expr.{Expr};
 ghost use Rattle.expr_terms.specs.declared.raws.Raw.{Raw};
 ghost use Rattle.expr_terms.specs.Nest.{raw_nest_of};
 ghost use Rattle.expr_reader.specs.declared.readings.Reading.TheVariants.{Value};
-ghost use Rattle.expr_resolve.specs.declared.setting.Setting.{Setting};
+ghost use Rattle.xpath_syntax.specs.ExprResolve.declared.setting.Setting.{Setting};
 ghost use Rattle.xpath_syntax.specs.Readings.{value};
 ghost use Rattle.expr_readings.specs.Readings.{expr_reading};
 ghost use Rattle.expr_readings.specs.Readings.{raw_reading, type_reading};

@@ -32,11 +32,11 @@ use Rattle.expr_meant.specs.Names.{written_in, written_of}
 use Rattle.expr_meant.specs.Parts.{key_in}
 use Rattle.expr_rules.specs.Known.{node_name_of}
 use Rattle.expr_shapes.specs.Shapes.{tag_in, declares_nothing}
-use Rattle.expr_elements.specs.Computed.{named_by, fixed_name, enclosing_by}
-use Rattle.expr_elements.specs.Space.{run_part, joined_from, piece_in, piece_of, parts_of}
-use Rattle.expr_elements.specs.Space.{is_white_text}
-use Rattle.expr_elements.specs.declared.space.Piece.{Piece}
-use Rattle.expr_elements.specs.declared.space.Piece.TheVariants.{Run, Whole}
+use Rattle.expr_resolve.specs.ExprElements.Computed.{named_by, fixed_name, enclosing_by}
+use Rattle.expr_resolve.specs.ExprElements.Space.{run_part, joined_from, piece_in, piece_of, parts_of}
+use Rattle.expr_resolve.specs.ExprElements.Space.{is_white_text}
+use Rattle.expr_resolve.specs.ExprElements.declared.space.Piece.{Piece}
+use Rattle.expr_resolve.specs.ExprElements.declared.space.Piece.TheVariants.{Run, Whole}
 use Rattle.sound_forms.specs.Sound.{is_sound_token, SoundUri, SoundBindings}
 use Rattle.sound_forms.proofs.NameLemmas.{IsWritten, name_written, word_written, word_bare}
 use Rattle.sound_forms.proofs.NameLemmas.{attribute_written}

@@ -14,8 +14,8 @@ use Rattle.expr_meant.specs.declared.meant.Meant.TheVariants as meant
 use Rattle.expr_meant.specs.Names.{written_of}
 use Rattle.expr_meant.specs.Parts.{expr_of, expr_or, key_of}
 use Rattle.expr_rules.specs.Rules.{own_broken}
-use Rattle.expr_elements.specs.Direct.{attrs_in, attr_and, content_in, content_or}
-use Rattle.expr_elements.specs.Table.{element_value}
+use Rattle.expr_resolve.specs.ExprElements.Direct.{attrs_in, attr_and, content_in, content_or}
+use Rattle.expr_resolve.specs.ExprElements.Table.{element_value}
 use Rattle.expr_resolve.specs.declared.setting.Setting.{Setting}
 use Rattle.expr_resolve.specs.Tables.{family_of, value_in, act}
 use Rattle.expr_shapes.specs.Shapes.{tag_in, declares_nothing}

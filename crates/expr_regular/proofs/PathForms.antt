@@ -28,10 +28,10 @@ use Rattle.expr_meant.specs.Names.{written_in, target_in}
 use Rattle.expr_meant.specs.Parts.{expr_of, exprs_of}
 use Rattle.expr_rules.specs.Known.{name_test_of}
 use Rattle.expr_rules.specs.Rules.{test_broken_of, args_in}
-use Rattle.expr_paths.specs.Paths.{deep, stepped, path_from}
-use Rattle.expr_paths.specs.Primaries.{literal_in, called}
-use Rattle.expr_paths.specs.Steps.{defaulted, test_on, step_on, plain_kind_of}
-use Rattle.expr_paths.specs.Steps.{target_of, named_kind_of}
+use Rattle.expr_resolve.specs.ExprPaths.Paths.{deep, stepped, path_from}
+use Rattle.expr_resolve.specs.ExprPaths.Primaries.{literal_in, called}
+use Rattle.expr_resolve.specs.ExprPaths.Steps.{defaulted, test_on, step_on, plain_kind_of}
+use Rattle.expr_resolve.specs.ExprPaths.Steps.{target_of, named_kind_of}
 use Rattle.sound_forms.specs.Sound.{is_sound_token, SoundUri, SoundBindings}
 use Rattle.sound_forms.proofs.NameLemmas.{GoodTest, GoodKindName, test_good, default_good, kind_good}
 use Rattle.sound_forms.proofs.NameLemmas.{default_kind, name_written, word_written}

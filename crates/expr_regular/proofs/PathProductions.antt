@@ -11,10 +11,10 @@ use Rattle.expr_meant.specs.declared.meant.Meant.TheVariants as meant
 use Rattle.expr_meant.specs.Names.{written_of}
 use Rattle.expr_meant.specs.Parts.{expr_of, exprs_of, expr_or, key_of}
 use Rattle.expr_rules.specs.Rules.{own_broken, end_broken, args_in}
-use Rattle.expr_paths.specs.Paths.{deep, stepped}
-use Rattle.expr_paths.specs.Primaries.{literal_of}
-use Rattle.expr_paths.specs.Steps.{axis_of, axis_for}
-use Rattle.expr_paths.specs.Table.{path_value}
+use Rattle.expr_resolve.specs.ExprPaths.Paths.{deep, stepped}
+use Rattle.expr_resolve.specs.ExprPaths.Primaries.{literal_of}
+use Rattle.expr_resolve.specs.ExprPaths.Steps.{axis_of, axis_for}
+use Rattle.expr_resolve.specs.ExprPaths.Table.{path_value}
 use Rattle.expr_resolve.specs.declared.setting.Setting.{Setting}
 use Rattle.expr_resolve.specs.Tables.{family_of, value_in, act, end as end_rules}
 use Rattle.sound_forms.specs.Sound.{SoundPrefixes}

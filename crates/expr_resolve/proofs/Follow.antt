@@ -10,10 +10,10 @@ use Rattle.expr_terms.specs.declared.raws.Raw.TheVariants.{Node as node, outs-No
 use Rattle.expr_terms.specs.declared.raws.Raw.TheOpen.{Node}
 use Rattle.expr_terms.specs.declared.raws.Raw.TheFolds.{map-Raw, fold_out-Raw}
 use Rattle.expr_terms.specs.declared.raws.Raw.TheViews.{out-Raw}
-use Rattle.expr_meant.specs.declared.meant.Meant.{Meant}
-use Rattle.expr_names.specs.declared.fault.ResolveFault.{ResolveFault}
-use Rattle.expr_names.specs.declared.fault.ResolveFault.TheVariants.{Static, Memory}
-use Rattle.expr_names.specs.Answers.{IsFaultOf, Answers}
+use Rattle.expr_elements.specs.ExprMeant.declared.meant.Meant.{Meant}
+use Rattle.expr_elements.specs.ExprNames.declared.fault.ResolveFault.{ResolveFault}
+use Rattle.expr_elements.specs.ExprNames.declared.fault.ResolveFault.TheVariants.{Static, Memory}
+use Rattle.expr_elements.specs.ExprNames.Answers.{IsFaultOf, Answers}
 use Rattle.expr_resolve.specs.declared.setting.Setting.{Setting}
 use Rattle.expr_resolve.specs.Tables.{act, end}
 use Rattle.expr_resolve.specs.Folds.{Found, found_layer, found_of, value_of, broken_of, values, is_none, step_broken, steps_broken, all_broken, parts_broken, parts_values}

@@ -5,12 +5,12 @@ use Rattle.expr_terms.specs.declared.productions.Production.{Production}
 use Rattle.expr_terms.specs.declared.raws.Raw.{Raw}
 use Rattle.expr_terms.specs.declared.raws.Raw.TheFolds.{fold-Raw}
 use Rattle.expr_terms.specs.declared.raws.Raw.TheOpen.{Raw-F, Leaf, Node}
-use Rattle.expr_meant.specs.declared.meant.Meant.{Meant}
-use Rattle.expr_meant.specs.declared.meant.Meant.TheVariants as meant
-use Rattle.xt_types.specs.declared.types.SeqType.{SeqType}
-use Rattle.xt_syntax.specs.declared.exprs.Expr.{Expr}
-use Rattle.expr_meant.specs.Parts.{expr_of}
-use Rattle.expr_rules.specs.Rules.{type_broken_of}
+use Rattle.expr_elements.specs.ExprMeant.declared.meant.Meant.{Meant}
+use Rattle.expr_elements.specs.ExprMeant.declared.meant.Meant.TheVariants as meant
+use Rattle.expr_control.specs.XtTypes.declared.types.SeqType.{SeqType}
+use Rattle.expr_elements.specs.XtSyntax.declared.exprs.Expr.{Expr}
+use Rattle.expr_elements.specs.ExprMeant.Parts.{expr_of}
+use Rattle.expr_elements.specs.ExprRules.Rules.{type_broken_of}
 use Rattle.expr_control.specs.Types.{sequence_of}
 use Rattle.expr_resolve.specs.declared.setting.Setting.{Setting}
 use Rattle.expr_resolve.specs.Tables.{act, own, end, is_chain, is_tag, before_last}

@@ -3,8 +3,8 @@ use Rattle.std.specs.Prelude.{List, [], Bool, true, false}
 use Rattle.xt_names.specs.declared.codes.Code.{Code}
 use Rattle.expr_terms.specs.declared.productions.Production.{Production}
 use Rattle.expr_terms.specs.declared.productions.Production.TheVariants as production
-use Rattle.expr_meant.specs.declared.meant.Meant.{Meant}
-use Rattle.expr_rules.specs.Rules.{own_broken, end_broken, doubles_broken}
+use Rattle.expr_elements.specs.ExprMeant.declared.meant.Meant.{Meant}
+use Rattle.expr_elements.specs.ExprRules.Rules.{own_broken, end_broken, doubles_broken}
 use Rattle.expr_paths.specs.Table.{path_value}
 use Rattle.expr_control.specs.Table.{control_value}
 use Rattle.expr_elements.specs.Table.{element_value}

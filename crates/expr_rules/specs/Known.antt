@@ -4,8 +4,8 @@ use Rattle.xt_names.specs.declared.names.Binding.{Binding}
 use Rattle.xt_names.specs.declared.names.ExprName.{ExprName}
 use Rattle.xt_names.specs.declared.names.Name.{Name}
 use Rattle.xt_names.specs.declared.kinds.AtomType.{AtomType}
-use Rattle.xt_types.specs.declared.node_tests.NameTest.{NameTest}
-use Rattle.xt_types.specs.declared.node_tests.NameTest.TheVariants as name
+use Rattle.expr_names.specs.XtTypes.declared.node_tests.NameTest.{NameTest}
+use Rattle.expr_names.specs.XtTypes.declared.node_tests.NameTest.TheVariants as name
 use Rattle.expr_names.specs.Names.{expr_name, node_name, name_test}
 use Rattle.expr_names.specs.Types.{type_named, type_or_any}
 use Rattle.expr_meant.specs.declared.meant.Meant.{Meant}

@@ -8,16 +8,16 @@ use Rattle.xt_names.specs.declared.names.Name.{Name}
 use Rattle.xt_names.specs.declared.codes.Code.{Code}
 use Rattle.xt_names.specs.declared.codes.Code.TheVariants.{QueryStatic}
 use Rattle.xt_names.specs.declared.codes.QueryStaticCode.TheVariants.{XPST0010, XQST0040, XQST0089}
-use Rattle.xt_syntax.specs.declared.exprs.Expr.{Expr}
+use Rattle.expr_meant.specs.XtSyntax.declared.exprs.Expr.{Expr}
 use Rattle.expr_names.specs.Names.{undeclared_in, test_broken}
 use Rattle.expr_names.specs.Types.{type_named, call_type, known_broken, cast_broken, arity_broken}
 use Rattle.expr_names.specs.Doubles.{names_differ}
-use Rattle.expr_terms.specs.declared.keys.Key.{Key}
-use Rattle.expr_terms.specs.declared.keys.Key.TheVariants.{NamespaceWord as namespace_word}
-use Rattle.expr_terms.specs.declared.productions.Production.{Production}
-use Rattle.expr_terms.specs.declared.productions.Production.TheVariants as production
-use Rattle.expr_terms.specs.declared.productions.Level.{Level}
-use Rattle.expr_terms.specs.declared.productions.Level.TheVariants as level
+use Rattle.expr_meant.specs.ExprTerms.declared.keys.Key.{Key}
+use Rattle.expr_meant.specs.ExprTerms.declared.keys.Key.TheVariants.{NamespaceWord as namespace_word}
+use Rattle.expr_meant.specs.ExprTerms.declared.productions.Production.{Production}
+use Rattle.expr_meant.specs.ExprTerms.declared.productions.Production.TheVariants as production
+use Rattle.expr_meant.specs.ExprTerms.declared.productions.Level.{Level}
+use Rattle.expr_meant.specs.ExprTerms.declared.productions.Level.TheVariants as level
 use Rattle.expr_meant.specs.declared.meant.Meant.{Meant}
 use Rattle.expr_meant.specs.declared.meant.Meant.TheVariants as meant
 use Rattle.expr_meant.specs.Parts.{key_of}

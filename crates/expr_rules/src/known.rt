@@ -6,10 +6,10 @@ ghost use Rattle.expr_rules.specs.Known.{name_of, node_name_of, name_test_of, na
 
 use bound_prefixes::BoundPrefixes;
 use expr_meant::{Meant, written_of, written_test_in};
+use expr_names::xt_types::NameTest;
 use expr_names::{Written, WrittenTest, no_text, type_named, uri_of};
 use std::alloc::{AllocError, Global};
 use xt_names::{AtomType, ExprName, Name, Text};
-use xt_types::NameTest;
 
 #[tactic(auto, unfolding(expr_names::specs::Names::uri_in))]
 fn uri_in(

@@ -6,8 +6,8 @@ ghost use Rattle.expr_rules.specs.Rules.{operated_broken, own_broken};
 use crate::rules::{axis_rule, cast_rule, name_rule, test_rule, type_rule};
 use bound_prefixes::BoundPrefixes;
 use expr_meant::Meant;
+use expr_meant::expr_terms::{Level, Production};
 use expr_names::ResolveFault;
-use expr_terms::{Level, Production};
 use std::alloc::Global;
 
 #[tactic(auto, unfolding(crate::specs::Rules::operated_broken))]

@@ -13,7 +13,7 @@ use Rattle.order_group.proofs.Natural.{natural}
 use Rattle.outcomes.specs.Outcome.{Ends, and_then, step_outcome}
 use Rattle.sort_meaning.specs.Sorted.{ordered, unless_mixed}
 use Rattle.eval_scopes.specs.declared.scopes.Variable.{Variable}
-use Rattle.eval_values.specs.Orders.{places_in_order, unless_mixed as or_mixed}
+use Rattle.eval_steps.specs.EvalValues.Orders.{places_in_order, unless_mixed as or_mixed}
 use Rattle.flow_eval.specs.Rows.{tuple_of, tuple_at, with_tuple}
 
 abbrev Tuple : Type 0

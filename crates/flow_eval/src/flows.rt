@@ -12,7 +12,7 @@ ghost use Rattle.eval_steps.specs.Parts.{clause_outcome, order_outcome, flwor_ou
 ghost use Rattle.eval_steps.specs.Parts.{bind_outcome};
 ghost use Rattle.expr_meaning.specs.Env.{bind_all};
 ghost use Rattle.eval_scopes.specs.Answers.{Answers};
-ghost use Rattle.value_slots.specs.Slots.{Leaves};
+ghost use Rattle.eval_inner.specs.ValueSlots.Slots.{Leaves};
 ghost use Rattle.eval_scopes.specs.Scopes.{env_of};
 ghost use Rattle.outcomes.specs.Outcome.{and_then, for_each, step_outcome};
 ghost use Rattle.sort_meaning.specs.Sorted.{places};
@@ -20,15 +20,15 @@ ghost use Rattle.sort_meaning.specs.Sorted.{places};
 use crate::inner::Flows;
 use crate::rows::Rows;
 use eval_inner::Within;
+use eval_inner::value_slots::put;
 use eval_scopes::{Env, EvalFault, Variable};
+use eval_steps::eval_values::append;
 use eval_steps::{
     list_size, place_in, pop_variable, push_cell, push_item, push_position, push_value, truth_of,
     tuple_key,
 };
-use eval_values::append;
 use flow_streams::is_streamed;
 use order_group::KeyRow;
-use value_slots::put;
 use xdm_items::{Item, ItemList};
 use xt_names::{ExprName, List, Shared};
 use xt_syntax::{Bind, Clause, Expr, Order};

@@ -7,7 +7,7 @@ ghost use Rattle.eval_steps.specs.Sizes.{flwor_nodes, nodes};
 ghost use Rattle.expr_meaning.specs.Env.{bind_all};
 ghost use Rattle.expr_meaning.specs.Meaning.{outcome};
 ghost use Rattle.flow_eval.specs.Rows.{tuple_of};
-ghost use Rattle.value_slots.specs.Slots.{Leaves};
+ghost use Rattle.eval_inner.specs.ValueSlots.Slots.{Leaves};
 
 use eval_inner::Within;
 use eval_scopes::{Env, EvalFault, Scope, Variable};

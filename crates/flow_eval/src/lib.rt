@@ -12,4 +12,6 @@ mod inner;
 mod rows;
 mod streams;
 
+pub use eval_inner;
+pub use eval_inner::value_slots;
 pub use inner::Flows;

@@ -4,13 +4,13 @@ ghost use Rattle.xt_atoms.specs.Casts.{wrong_type};
 ghost use Rattle.sort_meaning.specs.Sorted.{ordered};
 ghost use Rattle.outcomes.specs.Outcome.{step_outcome};
 ghost use Rattle.eval_scopes.specs.Answers.{Answers};
-ghost use Rattle.eval_values.specs.Orders.{places_in_order};
+ghost use Rattle.eval_steps.specs.EvalValues.Orders.{places_in_order};
 ghost use Rattle.eval_steps.specs.Lists.{AnswersAs};
 ghost use Rattle.flow_eval.specs.Rows.{rows_of, tuple_at, tuple_of, are_even, directions_of};
 
 use eval_scopes::{EvalFault, Variable, copy_variables};
 use eval_steps::WRONG_TYPE;
-use eval_values::sorted_places;
+use eval_steps::eval_values::sorted_places;
 use order_group::KeyRow;
 use std::alloc::{AllocError, Global};
 use xt_names::List;

@@ -10,16 +10,16 @@ ghost use Rattle.eval_steps.specs.Lists.{AnswersPushed};
 ghost use Rattle.eval_steps.specs.Parts.{bind_outcome};
 ghost use Rattle.eval_steps.specs.Sizes.{bind_nodes, clause_nodes, flwor_nodes, total};
 ghost use Rattle.eval_steps.specs.Steps.{bound_outcome};
-ghost use Rattle.value_slots.specs.Slots.{Leaves};
+ghost use Rattle.eval_inner.specs.ValueSlots.Slots.{Leaves};
 ghost use Rattle.eval_scopes.specs.Scopes.{env_of};
 ghost use Rattle.flow_streams.specs.Streams.{stream_of, stream_for, stream_let, stream_item};
 ghost use Rattle.flow_streams.specs.Streams.{stream_place, binder_of};
 
 use crate::inner::Flows;
 use eval_inner::Within;
+use eval_inner::value_slots::join;
 use eval_scopes::{Env, EvalFault, Scope, Variable};
 use eval_steps::{list_size, place_in, pop_variable, push_item, push_position, push_value};
-use value_slots::join;
 use xdm_items::{Item, ItemList};
 use xt_names::ExprName;
 use xt_syntax::{Bind, Clause, Expr};

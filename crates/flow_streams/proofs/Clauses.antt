@@ -13,10 +13,10 @@ use Rattle.xt_syntax.specs.declared.exprs.Expr.TheVariants.{rolls-Range}
 use Rattle.xt_syntax.specs.declared.exprs.Clause.TheVariants.{For, Let, rolls-For, rolls-Let}
 use Rattle.xt_syntax.specs.declared.exprs.Clause.TheViews.{out-Bind, out-Flwor, the_lemmas}
 use Rattle.xt_syntax.specs.declared.exprs.Clause.TheFolds.{fold-roll-Expr, fold_out-Flwor}
-use Rattle.lazy_seq.specs.Integers.{integers}
+use Rattle.expr_meaning.specs.LazySeq.Integers.{integers}
 use Rattle.xt_atoms.specs.Arithmetic.{integer_operand}
-use Rattle.operator_values.specs.Operands.{optional_atom}
-use Rattle.operator_values.specs.Numbers.{range_value, optional_number}
+use Rattle.expr_meaning.specs.OperatorValues.Operands.{optional_atom}
+use Rattle.expr_meaning.specs.OperatorValues.Numbers.{range_value, optional_number}
 use Rattle.outcomes.specs.Outcome.{Ends, step_outcome}
 use Rattle.expr_meaning.specs.Env.{Env, Meaning, Program}
 use Rattle.expr_meaning.specs.Logic.{Bound}

@@ -12,8 +12,8 @@ use Rattle.sort_meaning.specs.Sorted.{Placed, places}
 use Rattle.expr_meaning.specs.Env.{Binding, Env, Meaning, Program, bind_all}
 use Rattle.expr_meaning.specs.Meaning.{outcome}
 use Rattle.expr_meaning.specs.Logic.{Bound, typed}
-use Rattle.eval_scopes.specs.declared.faults.EvalFault.{EvalFault}
-use Rattle.eval_scopes.specs.Answers.{IsFaultOf}
+use Rattle.eval_steps.specs.EvalScopes.declared.faults.EvalFault.{EvalFault}
+use Rattle.eval_steps.specs.EvalScopes.Answers.{IsFaultOf}
 use Rattle.eval_steps.specs.Parts.{bind_outcome}
 use Rattle.eval_steps.specs.Steps.{bound_outcome}
 use Rattle.eval_steps.proofs.Forms.{bind_means}

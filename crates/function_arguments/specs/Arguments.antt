@@ -10,7 +10,7 @@ use Rattle.xt_types.specs.declared.types.Count.TheVariants.{One, Opt, Many}
 use Rattle.xt_types.specs.declared.types.ItemType.TheVariants.{Kind, Atomic}
 use Rattle.xt_types.specs.declared.types.SeqType.{SeqType}
 use Rattle.xt_types.specs.declared.types.SeqType.TheVariants.{Of}
-use Rattle.xt_tree.specs.Place.{Place}
+use Rattle.xdm_items.specs.XtTree.Place.{Place}
 use Rattle.xt_atoms.specs.Casts.{wrong_type}
 use Rattle.xt_atoms.specs.declared.atoms.Atom.{Atom as AtomValue}
 use Rattle.xt_atoms.specs.declared.atoms.Atom.TheVariants as atom

@@ -9,9 +9,9 @@ use crate::forms::{
 };
 use std::alloc::Global;
 use xdm_items::ItemList;
+use xdm_items::xt_tree::Node;
 use xt_atoms::{Atom, ValueFault};
 use xt_names::{AtomType, Name, Text};
-use xt_tree::Node;
 use xt_types::{Count, ItemType, SeqType, Test};
 
 /// The argument as one value of the type xs:string.

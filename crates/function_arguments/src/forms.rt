@@ -3,9 +3,9 @@ ghost use Rattle.xt_atoms.specs.Casts.{Answers};
 ghost use Rattle.function_arguments.specs.Arguments.{text_of_item, integer_of_item, name_of_item, atom_of_item, node_of_item};
 
 use xdm_items::Item;
+use xdm_items::xt_tree::Node;
 use xt_atoms::{Atom, ValueFault};
 use xt_names::{Code, DynamicCode, Name, Text};
-use xt_tree::Node;
 
 pub(crate) const WRONG_TYPE: ValueFault = ValueFault::Error(Code::Dynamic(DynamicCode::XPTY0004));
 

@@ -18,3 +18,4 @@ pub use arguments::{
     text, text_or_empty,
 };
 pub use conversions::{are_atoms, atoms, integers, texts};
+pub use xdm_items;

@@ -13,7 +13,7 @@ use Rattle.doc_reader.specs.declared.Scoped.{Scoped}
 use Rattle.module_names.specs.Names.{resolved}
 use Rattle.sheet_modules.specs.declared.links.Link.{Link}
 use Rattle.sheet_modules.specs.declared.modules.Part.{Part}
-use Rattle.sheet_language.specs.Language.{sheet_reading as reading}
+use Rattle.loaded_sheets.specs.SheetLanguage.Language.{sheet_reading as reading}
 use Rattle.module_loading.specs.Held.{Holdings}
 use Rattle.module_loading.specs.Loads.{IsLoadedSheet}
 use Rattle.module_loading.specs.Trees.{Modules, none, linked, listed}
@@ -21,7 +21,7 @@ use Rattle.module_loading.specs.Walk.{IsModule, LeadTo}
 use Rattle.module_loading.specs.declared.loaded.LoadedModule.{LoadedModule}
 use Rattle.module_loading.specs.declared.loaded.LoadedSheet.{LoadedSheet}
 use Rattle.module_reader.specs.Modules.{parts_faults, parts_value}
-use Rattle.loaded_parts.specs.Parts.{modules_faults, modules_value}
+use Rattle.loaded_sheets.specs.LoadedParts.Parts.{modules_faults, modules_value}
 use Rattle.loaded_sheets.specs.Sheets.{declarations_in, names_in, own_faults}
 use Rattle.sound_nodes.specs.Sound.{are_good_declarations}
 use Rattle.declared_bindings.proofs.Documents.{declared_good}

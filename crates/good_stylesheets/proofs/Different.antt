@@ -15,7 +15,7 @@ use Rattle.sheet_modules.specs.declared.modules.Part.TheVariants as part
 use Rattle.sheet_declarations.specs.declared.lists.Declaration.{Declaration}
 use Rattle.sheet_declarations.specs.Counts.{counted_of}
 use Rattle.sheet_assembly.specs.Named.{at, each_by, global_if, global_in, ordered, is_marked, behind}
-use Rattle.sheet_closure.specs.Declared.{global_name, has_different_names}
+use Rattle.assembly_laws.specs.SheetClosure.Declared.{global_name, has_different_names}
 use Rattle.module_loading.specs.declared.loaded.LoadedSheet.{LoadedSheet}
 use Rattle.loaded_sheets.specs.Sheets.{declarations_in, declared_in, sheet_value}
 use Rattle.loaded_sheets.specs.Wholes.{declared_sheet, evaluation_order, in_order}

@@ -7,7 +7,7 @@ use Rattle.import_levels.proofs.Nest.{each_first}
 use Rattle.sheet_levels.specs.declared.levels.SheetLevel.{SheetLevel}
 use Rattle.sheet_assembly.specs.Sheets.{level_of}
 use Rattle.sheet_assembly.specs.Templates.{small}
-use Rattle.sheet_closure.specs.Numbers.{are_levels}
+use Rattle.assembly_laws.specs.SheetClosure.Numbers.{are_levels}
 use Rattle.module_loading.specs.Laws.{first_of}
 use Rattle.module_loading.specs.Trees.{Modules, links_of, all_levels}
 use Rattle.module_loading.proofs.LevelLaws.{levels_same}

@@ -10,7 +10,7 @@ use Rattle.closed_sheets.specs.Sheets.{are_sound_modes, if_sound_name, is_good_s
 use Rattle.standing_parts.specs.Sheets.{template_stands}
 use Rattle.doc_reader.specs.declared.Scoped.{Scoped}
 use Rattle.sheet_modules.specs.declared.links.Link.{Link}
-use Rattle.sheet_closure.specs.Numbers.{are_levels}
+use Rattle.assembly_laws.specs.SheetClosure.Numbers.{are_levels}
 use Rattle.sheet_assembly.specs.Named.{at, ordered}
 use Rattle.sheet_assembly.specs.Sheets.{Parts, level_of}
 use Rattle.sheet_assembly.specs.Templates.{no_template}

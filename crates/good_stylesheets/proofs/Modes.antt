@@ -9,8 +9,8 @@ use Rattle.sheet_levels.specs.declared.levels.Span.{Span}
 use Rattle.sheet_levels.specs.declared.levels.SheetLevel.{SheetLevel}
 use Rattle.module_loading.specs.declared.loaded.LoadedModule.{LoadedModule}
 use Rattle.module_reader.specs.Modules.{module_nodes, with_modes}
-use Rattle.loaded_parts.specs.Names.{names_alone, with_levels, with_module, with_span, with_spans}
-use Rattle.loaded_parts.specs.declared.names.SheetNames.{SheetNames}
+use Rattle.loaded_sheets.specs.LoadedParts.Names.{names_alone, with_levels, with_module, with_span, with_spans}
+use Rattle.loaded_sheets.specs.LoadedParts.declared.names.SheetNames.{SheetNames}
 use Rattle.sound_nodes.specs.Sound.{are_good_declarations}
 use Rattle.good_stylesheets.proofs.Singles.{sound_module}
 use Rattle.good_stylesheets.proofs.Mentions.{nodes_named}

@@ -23,8 +23,8 @@ use Rattle.sheet_nodes.specs.declared.nodes.Node.TheViews.{out-Node}
 use Rattle.sheet_values.specs.Rules.{broken}
 use Rattle.sheet_texts.specs.declared.places.Place.{Place}
 use Rattle.sheet_modules.specs.declared.modules.Part.{Part}
-use Rattle.sheet_parts.specs.Tops.{top_faults, top_value}
-use Rattle.sheet_language.specs.Language.{sheet_reading as reading}
+use Rattle.closed_parts.specs.SheetParts.Tops.{top_faults, top_value}
+use Rattle.loaded_sheets.specs.SheetLanguage.Language.{sheet_reading as reading}
 use Rattle.module_reader.specs.Links.{document_content}
 use Rattle.module_reader.specs.Modules.{is_import, is_late, is_stylesheet, module_nodes}
 use Rattle.module_reader.specs.Modules.{nodes_faults, nodes_value, parts_faults, parts_value}

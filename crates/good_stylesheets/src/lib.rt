@@ -12,9 +12,9 @@ ghost use Rattle.loaded_sheets.specs.Sheets.{own_faults, sheet_value};
 ghost use Rattle.module_loading.specs.Held.{Holdings};
 ghost use Rattle.module_loading.specs.Loads.{IsLoadedSheet};
 ghost use Rattle.module_loading.specs.declared.loaded.LoadedSheet.{LoadedSheet};
-ghost use Rattle.sheet_closure.specs.Closed.{is_space_test};
-ghost use Rattle.sheet_closure.specs.Declared.{has_different_names, has_uri};
-ghost use Rattle.sheet_closure.specs.Numbers.{are_levels};
+ghost use Rattle.assembly_laws.specs.SheetClosure.Closed.{is_space_test};
+ghost use Rattle.assembly_laws.specs.SheetClosure.Declared.{has_different_names, has_uri};
+ghost use Rattle.assembly_laws.specs.SheetClosure.Numbers.{are_levels};
 ghost use Rattle.sheet_modules.specs.declared.links.Link.{Link};
 ghost use Rattle.standing_parts.specs.Sheets.{parts_stand};
 

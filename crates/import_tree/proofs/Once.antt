@@ -22,7 +22,7 @@ use Rattle.module_loading.specs.Held.{HoldsModule, StandsFor}
 use Rattle.module_loading.specs.Trees.{Modules, none, linked, listed, all_levels}
 use Rattle.module_loading.specs.Walk.{IsModule, LeadTo}
 use Rattle.module_loading.specs.Loads.{IsLoadedSheet}
-use Rattle.loaded_sheets.specs.Sheets.{sheet_faults, sheet_value}
+use Rattle.closed_stylesheets.specs.LoadedSheets.Sheets.{sheet_faults, sheet_value}
 use Rattle.import_tree.specs.Sheets.{sheet_links, HoldsSheet, BreaksRule}
 
 abbrev Map : Type 0

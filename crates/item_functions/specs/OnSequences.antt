@@ -1,7 +1,7 @@
 -- The functions on sequences (XQuery 1.0 and XPath 2.0 Functions and Operators, 15) on arguments of
 -- any kind, which are converted in turn to the types of the parameters.
 use Rattle.std.specs.Prelude.{List, Ok}
-use Rattle.xdm_items.specs.declared.items.Item.{Item}
+use Rattle.function_arguments.specs.XdmItems.declared.items.Item.{Item}
 use Rattle.function_arguments.specs.Answers.{of_truth}
 use Rattle.function_arguments.specs.Arguments.{and_then, atom_argument, atom_arguments, integer_argument}
 use Rattle.sequence_functions.specs.Cardinality.{counted, has_no_item, has_item}

@@ -4,8 +4,8 @@
 use Rattle.std.specs.Prelude.{ℤ, not, List, [], ◌∷◌, Option, Some, None, option_map, Ok}
 use Rattle.xt_names.specs.declared.kinds.CompareOp.{CompareOp}
 use Rattle.xt_atoms.specs.declared.atoms.Atom.{Atom as AtomValue}
-use Rattle.xdm_items.specs.Truth.{truth_of}
-use Rattle.xdm_items.specs.declared.items.Item.{Item}
+use Rattle.function_arguments.specs.XdmItems.Truth.{truth_of}
+use Rattle.function_arguments.specs.XdmItems.declared.items.Item.{Item}
 use Rattle.function_arguments.specs.Answers.{of_truth}
 use Rattle.function_arguments.specs.Arguments.{and_then, atom_arguments, optional_atom_argument, optional_integer_argument, optional_node_argument}
 use Rattle.number_functions.specs.Sums.{sum_of as integer_sum, absolute}

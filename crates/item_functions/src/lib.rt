@@ -17,3 +17,4 @@ pub use on_sequences::{
     subsequence, subsequence_for,
 };
 pub use on_values::{abs, boolean, max, min, not, root, sum, sum_with};
+pub use sequence_functions;

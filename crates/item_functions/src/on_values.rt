@@ -8,13 +8,13 @@ ghost use Rattle.item_functions.specs.OnValues.{extreme_atom, extreme_of, sum_of
 ghost use Rattle.item_functions.specs.Outcomes.{of_optional_node};
 
 use crate::outcomes::{integer_outcome, node_list, optional_atom_list, truth_outcome};
+use function_arguments::xdm_items::{ItemList, ebv};
 use function_arguments::{
     are_atoms, atoms, no_items, optional_atom, optional_integer, optional_node, truth_list,
 };
 use node_functions as nodes;
 use number_functions as numbers;
 use std::alloc::Global;
-use xdm_items::{ItemList, ebv};
 use xt_atoms::{Atom, ValueFault};
 use xt_tree::Node;
 

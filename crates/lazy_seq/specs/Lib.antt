@@ -8,3 +8,5 @@ pub mod ShapesFall
 pub mod Stable
 pub mod Stacks
 pub mod Stocks
+pub use Rattle.node_walks.specs.NodeAxes
+pub use Rattle.node_walks.specs as NodeWalks

@@ -3,11 +3,11 @@ ghost use Rattle.std.specs.Prelude.{◌≡◌, ◌++◌, ◌+◌, ◌≤◌, ◌
 ghost use Rattle.std.specs.Prelude.{[], length, slice_get, is_some, not, pos, map, replicate};
 ghost use Rattle.std.specs.List.{flat_map, list_all, sum_by};
 ghost use Rattle.std.specs.Option.{option_to_list, SomeIff};
-ghost use Rattle.node_axes.specs.Course.{to_come};
-ghost use Rattle.step_walks.specs.Hits.{hits_ahead, steps_ahead};
-ghost use Rattle.step_walks.specs.Nodes.{kept_by_all};
-ghost use Rattle.quiet_meaning.specs.Paths.{are_allowed, keeps};
-ghost use Rattle.quiet_places.specs.Free.{is_size_free_expr};
+ghost use Rattle.node_walks.specs.NodeAxes.Course.{to_come};
+ghost use Rattle.node_walks.specs.StepWalks.Hits.{hits_ahead, steps_ahead};
+ghost use Rattle.node_walks.specs.StepWalks.Nodes.{kept_by_all};
+ghost use Rattle.node_walks.specs.QuietMeaning.Paths.{are_allowed, keeps};
+ghost use Rattle.node_walks.specs.QuietPlaces.Free.{is_size_free_expr};
 ghost use Rattle.xdm_items.specs.declared.items.Item.TheVariants.{Node as a_node};
 ghost use Rattle.node_walks.specs.Courses.{moves_to_come};
 ghost use Rattle.node_walks.specs.Moves.{given, steps_before, all_steps, settled, has_item, giving};
@@ -25,16 +25,16 @@ use crate::parts::{at_parts, copy_parts, count_parts};
 use crate::shares::SharedStock;
 use crate::stacks::{Top, bring_up, first_of_parts, next_of_parts};
 use crate::stocks::Stock;
-use node_axes::{Cursor, Steps};
+use node_walks::node_axes::{Cursor, Steps};
+use node_walks::quiet_places::is_size_free;
+use node_walks::xt_syntax::Expr;
 use node_walks::{Walk, kept_hits};
-use quiet_places::is_size_free;
 use std::alloc::{AllocError, Global};
 use std::marker::{Brand, Model};
 use std::mem;
 use std::sync::ledger::{Blank, Ledger};
 use xdm_items::{Item, ItemList};
 use xt_names::List;
-use xt_syntax::Expr;
 
 /// A sequence (XPath 2.0, 2) that is walked on demand. Contracts see its moves, which are the steps
 /// along axes that it still takes and between them the items that it gives, and its weight, which

@@ -7,7 +7,7 @@ ghost use Rattle.node_walks.specs.Moves.{given, steps_before, all_steps, settled
 ghost use Rattle.lazy_seq.specs.Stacks.{stacked, total_weight, IsReady};
 
 use crate::seqs::Seq;
-use node_axes::Steps;
+use node_walks::node_axes::Steps;
 use std::alloc::AllocError;
 use std::sync::ledger::Ledger;
 use xdm_items::Item;

@@ -14,5 +14,6 @@ mod names;
 mod parts;
 
 pub use laws::loaded_modules_can_be_read;
+pub use module_reader;
 pub use names::{SheetNames, collect_all};
 pub use parts::read_all;

@@ -6,7 +6,7 @@ ghost use Rattle.loaded_parts.specs.Parts.{modules_faults, modules_value};
 use expr_names::ResolveFault;
 use module_loading::LoadedModule;
 use module_reader::read_parts;
-use sheet_bodies::with_item;
+use module_reader::sheet_bodies::with_item;
 use sheet_modules::Part;
 use sheet_texts::{NameTable, Reader};
 use std::alloc::Global;

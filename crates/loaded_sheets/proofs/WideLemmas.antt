@@ -18,9 +18,9 @@ use Rattle.name_rules.specs.declared.functions.Signature.{Signature}
 use Rattle.name_rules.specs.Scopes.{has_name, with_names}
 use Rattle.sheet_uses.specs.declared.uses.Use.{Use}
 use Rattle.sheet_uses.specs.declared.uses.Use.TheVariants as use_of
-use Rattle.sheet_names.specs.declared.names.Names.{Names}
-use Rattle.sheet_names.specs.Names.{as_name}
-use Rattle.sheet_names.specs.Uses.{broken_key, broken_use, broken_uses, broken_in, is_callable, is_key_call}
+use Rattle.sheet_rules.specs.SheetNames.declared.names.Names.{Names}
+use Rattle.sheet_rules.specs.SheetNames.Names.{as_name}
+use Rattle.sheet_rules.specs.SheetNames.Uses.{broken_key, broken_use, broken_uses, broken_in, is_callable, is_key_call}
 use Rattle.sheet_declarations.specs.declared.lists.Declaration.{Declaration}
 use Rattle.wide_rules.specs.declared.passing.Parameters.{Parameters}
 use Rattle.wide_rules.specs.Doubles.{code_if, double_codes, doubles_of}

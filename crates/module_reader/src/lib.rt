@@ -21,3 +21,4 @@ pub use laws::documents_can_be_read;
 pub use links::{document_content, links_of};
 pub use mentions::Mention;
 pub use modules::{collect_names, read_module, read_parts};
+pub use sheet_parts::sheet_bodies;

@@ -7,8 +7,8 @@ use Rattle.xt_tree.specs.Kinds.{name_of as name_of_tree, target_of}
 use Rattle.xt_tree.specs.Place.{Place, subtree_of}
 use Rattle.xt_atoms.specs.AtomTexts.{text_of}
 use Rattle.xt_atoms.specs.declared.atoms.Atom.TheVariants.{QName}
-use Rattle.xdm_items.specs.declared.items.Item.{Item}
-use Rattle.xdm_items.specs.declared.items.Item.TheVariants.{Atom}
+use Rattle.function_arguments.specs.XdmItems.declared.items.Item.{Item}
+use Rattle.function_arguments.specs.XdmItems.declared.items.Item.TheVariants.{Atom}
 use Rattle.function_arguments.specs.Answers.{of_text}
 use Rattle.function_arguments.specs.Arguments.{and_then, optional_node_argument}
 

@@ -7,8 +7,8 @@ use Rattle.xt_names.specs.declared.codes.Code.TheVariants.{Dynamic}
 use Rattle.xt_names.specs.declared.codes.DynamicCode.TheVariants.{FOCA0002}
 use Rattle.xt_names.specs.declared.names.Name.{Name}
 use Rattle.xt_atoms.specs.declared.atoms.Atom.TheVariants.{QName}
-use Rattle.xdm_items.specs.declared.items.Item.{Item}
-use Rattle.xdm_items.specs.declared.items.Item.TheVariants.{Atom}
+use Rattle.function_arguments.specs.XdmItems.declared.items.Item.{Item}
+use Rattle.function_arguments.specs.XdmItems.declared.items.Item.TheVariants.{Atom}
 use Rattle.function_arguments.specs.Answers.{of_optional_text}
 use Rattle.function_arguments.specs.Arguments.{and_then, optional_name_argument, text_argument, text_or_empty_argument}
 use Rattle.text_operations.specs.Searches.{text_before, text_after}

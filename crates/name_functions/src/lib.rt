@@ -14,6 +14,7 @@ mod names;
 mod parts;
 mod qnames;
 
+pub use function_arguments;
 pub use names::{local_name, name, namespace_uri, node_name};
 pub use parts::{local_name_from_qname, namespace_uri_from_qname, prefix_from_qname};
 pub use qnames::qname;

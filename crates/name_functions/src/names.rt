@@ -3,9 +3,9 @@ ghost use Rattle.std.specs.Prelude.{◌≡◌, [], IfOk};
 ghost use Rattle.xt_atoms.specs.Casts.{Answers};
 ghost use Rattle.name_functions.specs.NodeNames.{argument_name, lexical, local_name_of, local_text, name_of, namespace_uri_of, node_name_of, of_optional_name, place_name, target_name, uri_text};
 
+use function_arguments::xdm_items::ItemList;
 use function_arguments::{atom_list, no_items, optional_node, text_list};
 use std::alloc::{AllocError, Global};
-use xdm_items::ItemList;
 use xt_atoms::{Atom, ValueFault, qname_text};
 use xt_names::{Name, Text, TextBuilder};
 use xt_tree::Node;

@@ -4,9 +4,9 @@ ghost use Rattle.xt_atoms.specs.Casts.{Answers};
 ghost use Rattle.function_arguments.specs.Answers.{of_optional_text};
 ghost use Rattle.name_functions.specs.QNames.{local_name_from_qname_of, local_part, namespace_uri_from_qname_of, own_prefix, prefix_from_qname_of, prefix_part, uri_part};
 
+use function_arguments::xdm_items::ItemList;
 use function_arguments::{no_items, optional_name, text_list};
 use std::alloc::{AllocError, Global};
-use xdm_items::ItemList;
 use xt_atoms::ValueFault;
 use xt_names::Name;
 

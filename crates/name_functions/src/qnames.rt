@@ -4,10 +4,10 @@ ghost use Rattle.std.specs.Str.{chars};
 ghost use Rattle.xt_atoms.specs.Casts.{Answers};
 ghost use Rattle.name_functions.specs.QNames.{allowed_name, named, prefixed_name, qname_of, spelled_name};
 
+use function_arguments::xdm_items::ItemList;
 use function_arguments::{atom_list, text, text_or_empty};
 use std::alloc::{AllocError, Global};
 use text_operations::split_at_first;
-use xdm_items::ItemList;
 use xt_atoms::{Atom, ValueFault};
 use xt_names::{Code, DynamicCode, Name, is_ncname};
 

@@ -1,0 +1,1 @@
+pub use Rattle.standing_parts.specs as StandingParts

@@ -1,1 +1,2 @@
 pub mod Counted
+pub use Rattle.lazy_seq.specs as LazySeq

@@ -15,3 +15,5 @@ mod trees;
 pub use names::passes_name;
 pub use nodes::{attribute_passes, node_passes, spot_passes};
 pub use trees::passes;
+pub use xt_tree;
+pub use xt_types;

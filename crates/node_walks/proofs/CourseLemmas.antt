@@ -5,8 +5,8 @@ use Rattle.std.specs.Option.{option_map, option_to_list}
 use Rattle.xt_tree.specs.Place.{Place}
 use Rattle.xt_types.specs.declared.axes.Axis.{Axis}
 use Rattle.xt_types.specs.declared.node_tests.Test.{Test}
-use Rattle.node_tests.specs.Tests.{passes_at}
-use Rattle.node_axes.specs.Course.{Course, to_come, is_at_hit}
+use Rattle.xdm_items.specs.NodeTests.Tests.{passes_at}
+use Rattle.step_walks.specs.NodeAxes.Course.{Course, to_come, is_at_hit}
 use Rattle.xdm_items.specs.declared.items.Item.TheVariants.{Node}
 use Rattle.node_walks.specs.Courses.{moves_along, moves_to_come, present_moves, walk_moves, is_ahead}
 use Rattle.node_walks.specs.declared.axis_walks.Stand.{Stand}

@@ -8,13 +8,13 @@ use Rattle.xt_syntax.specs.declared.exprs.Expr.{Expr}
 use Rattle.xt_tree.specs.Place.{Place}
 use Rattle.xt_types.specs.declared.axes.Axis.{Axis}
 use Rattle.xt_types.specs.declared.node_tests.Test.{Test}
-use Rattle.node_tests.specs.Tests.{passes_at}
-use Rattle.node_axes.specs.Course.{Course, to_come}
+use Rattle.xdm_items.specs.NodeTests.Tests.{passes_at}
+use Rattle.step_walks.specs.NodeAxes.Course.{Course, to_come}
 use Rattle.step_walks.specs.Hits.{hits_ahead}
 use Rattle.step_walks.specs.Nodes.{Focus, kept_from, kept_by_all}
 use Rattle.step_walks.specs.Sifted.{AreSizeFree, sifted, kept_in_turn, raised, alone_if}
 use Rattle.step_walks.proofs.SiftLemmas.{begins, comes, raised_length}
-use Rattle.quiet_meaning.specs.Paths.{keeps}
+use Rattle.quiet_places.specs.QuietMeaning.Paths.{keeps}
 use Rattle.quiet_places.specs.Free.{is_size_free_expr}
 use Rattle.quiet_places.proofs.FreeLemmas.{size_free}
 use Rattle.xdm_items.specs.declared.items.Item.{Item}

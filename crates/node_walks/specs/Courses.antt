@@ -3,8 +3,8 @@ use Rattle.std.specs.Prelude.{List, [], Bool, true, false, ◌∷◌, ◌++◌, 
 use Rattle.xt_tree.specs.Place.{Place}
 use Rattle.xt_types.specs.declared.axes.Axis.{Axis}
 use Rattle.xt_types.specs.declared.node_tests.Test.{Test}
-use Rattle.node_tests.specs.Tests.{passes_at}
-use Rattle.node_axes.specs.Course.{Course, to_come}
+use Rattle.xdm_items.specs.NodeTests.Tests.{passes_at}
+use Rattle.step_walks.specs.NodeAxes.Course.{Course, to_come}
 use Rattle.xdm_items.specs.declared.items.Item.TheVariants.{Node}
 use Rattle.node_walks.specs.Moves.{Moves}
 use Rattle.node_walks.specs.declared.axis_walks.Stand.{Stand}

@@ -18,4 +18,7 @@ mod sieves;
 mod walks;
 
 pub use collected::kept_hits;
+pub use quiet_places;
+pub use step_walks::node_axes;
 pub use walks::Walk;
+pub use xt_syntax;

@@ -1,7 +1,7 @@
 // Predicates that are asked one node after another (XPath 2.0, 3.2.2).
 ghost use Rattle.std.specs.Prelude.{◌≡◌, ◌+◌, ◌<◌, ◌^◌, ℕ, length, replicate, slice_index, true};
 ghost use Rattle.std.specs.Prelude.{IfOk, OnOk, OnErr};
-ghost use Rattle.quiet_meaning.specs.Paths.{are_allowed, keeps};
+ghost use Rattle.quiet_places.specs.QuietMeaning.Paths.{are_allowed, keeps};
 ghost use Rattle.step_walks.specs.Sifted.{kept_in_turn};
 ghost use Rattle.xdm_items.specs.declared.items.Item.TheVariants.{Node as a_node};
 ghost use Rattle.node_walks.specs.Quiet.{IsSieve};

@@ -3,7 +3,7 @@ ghost use Rattle.std.specs.Prelude.{◌≡◌, ◌++◌, ◌+◌, ◌≤◌, ◌
 ghost use Rattle.std.specs.Prelude.{slice_get, map, replicate, Ok, true};
 ghost use Rattle.std.specs.Option.{option_map, option_to_list, SomeIff};
 ghost use Rattle.xdm_items.specs.declared.items.Item.TheVariants.{Node as a_node};
-ghost use Rattle.quiet_meaning.specs.Paths.{are_allowed, keeps};
+ghost use Rattle.quiet_places.specs.QuietMeaning.Paths.{are_allowed, keeps};
 ghost use Rattle.quiet_places.specs.Free.{is_size_free_expr};
 ghost use Rattle.std.specs.List.{list_all};
 ghost use Rattle.step_walks.specs.Hits.{hits_ahead};
@@ -16,10 +16,10 @@ ghost use Rattle.node_walks.specs.Moves.{settled, standing, passed};
 
 use crate::axis_walks::AxisWalk;
 use crate::quiet_walks::QuietWalk;
-use node_axes::{Cursor, Steps};
 use std::alloc::{AllocError, Global};
 use std::marker::{Brand, Model};
 use std::sync::ledger::{Blank, Ledger};
+use step_walks::node_axes::{Cursor, Steps};
 use xdm_items::Item;
 use xt_names::List;
 use xt_syntax::Expr;

@@ -10,7 +10,7 @@ use Rattle.function_arguments.specs.Answers.{of_integer}
 use Rattle.function_arguments.specs.Arguments.{and_then, as_some}
 use Rattle.xt_atoms.specs.declared.faults.ValueFault.{ValueFault}
 use Rattle.xt_atoms.specs.declared.faults.ValueFault.TheVariants.{Error, Memory}
-use Rattle.node_walks.specs.Moves.{given}
+use Rattle.lazy_seq.specs.NodeWalks.Moves.{given}
 use Rattle.lazy_seq.specs.Flow.{Flow}
 use Rattle.lazy_seq.specs.Integers.{integers}
 use Rattle.operator_values.specs.Operands.{optional_atom, of_both, of_one}

@@ -17,6 +17,8 @@ mod operands;
 mod types;
 
 pub use comparisons::{general, single};
+pub use function_arguments;
+pub use lazy_seq;
 pub use node_operators::{after, before, is};
 pub use node_sets::{are_nodes, except, in_order, intersect, union};
 pub use numbers::{arithmetic, negated, range, signed};

@@ -13,6 +13,7 @@ mod laws;
 mod rows;
 mod sorts;
 
+pub use atom_keys;
 pub use groups::{Group, group_adjacent, group_by, group_starting};
 pub use laws::{rows_have_one_order, sorted_values_follow_their_keys};
 pub use sorts::{KeyRow, SortFault, sort_by_keys};

@@ -26,8 +26,8 @@ use Rattle.global_needs.specs.Needs.{graph_of, all_needs, needs}
 use Rattle.sheet_uses.specs.Bodies.{bound_uses, callee_uses}
 use Rattle.sheet_assembly.specs.Named.{ordered}
 use Rattle.sheet_assembly.specs.Sheets.{Parts, sheet_of}
-use Rattle.sheet_closure.specs.Declared.{global_name}
-use Rattle.sheet_closure.specs.Numbers.{has_order}
+use Rattle.assembly_laws.specs.SheetClosure.Declared.{global_name}
+use Rattle.assembly_laws.specs.SheetClosure.Numbers.{has_order}
 use Rattle.assembly_laws.proofs.Globals.{globals_differ}
 use Rattle.assembly_laws.proofs.Rules.{rules_have}
 use Rattle.declared_uses.specs.Orders.{places_in, put_in_order, AreAllInOrder, HasEachGlobal}

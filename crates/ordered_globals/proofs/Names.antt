@@ -14,7 +14,7 @@ use Rattle.global_order.specs.Order as order
 use Rattle.sheet_declarations.specs.declared.lists.Declaration.{Declaration}
 use Rattle.sheet_declarations.specs.Counts.{counted_of}
 use Rattle.sheet_assembly.specs.Named.{at, each_by, global_if, ordered}
-use Rattle.sheet_closure.specs.Declared.{global_name}
+use Rattle.assembly_laws.specs.SheetClosure.Declared.{global_name}
 use Rattle.assembly_laws.proofs.Globals.{globals_differ}
 
 -- a graph that leads nowhere

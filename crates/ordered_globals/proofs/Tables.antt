@@ -12,7 +12,7 @@ use Rattle.name_rules.specs.Scopes.{same_name, has_name, with_name, are_new, nam
 use Rattle.name_rules.specs.Scopes.{same_signature, signature, has_function, with_function}
 use Rattle.global_needs.specs.Shapes.{with_all, variable_signature, variables_of}
 use Rattle.sheet_assembly.specs.Named.{at, ordered}
-use Rattle.sheet_closure.specs.Declared.{global_name}
+use Rattle.assembly_laws.specs.SheetClosure.Declared.{global_name}
 use Rattle.declared_uses.proofs.Names.{name_more, same_name_is}
 use Rattle.ordered_globals.proofs.Places.{at_place}
 

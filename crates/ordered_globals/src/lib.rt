@@ -5,7 +5,7 @@
 ghost use Rattle.std.specs.Prelude.{◌≡◌, true};
 ghost use Rattle.declared_uses.specs.Orders.{put_in_order, AreAllInOrder, HasEachGlobal};
 ghost use Rattle.sheet_assembly.specs.Sheets.{Parts, sheet_of};
-ghost use Rattle.sheet_closure.specs.Numbers.{has_order};
+ghost use Rattle.assembly_laws.specs.SheetClosure.Numbers.{has_order};
 
 /// In the order in which they are evaluated, each global variable and parameter of a stylesheet
 /// stands behind those on which it depends, through functions, templates, modes and other globals

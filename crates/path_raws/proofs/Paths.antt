@@ -13,10 +13,10 @@ use Rattle.xt_types.specs.declared.node_tests.NameTest.{NameTest}
 use Rattle.xt_types.specs.declared.node_tests.NameTest.TheVariants as name
 use Rattle.xt_types.specs.declared.node_tests.Test.{Test}
 use Rattle.xt_types.specs.declared.node_tests.Test.TheVariants as test
-use Rattle.xt_syntax.specs.declared.exprs.Expr.{Expr}
-use Rattle.xt_syntax.specs.declared.exprs.Expr.TheVariants as expr
+use Rattle.expr_resolve.specs.XtSyntax.declared.exprs.Expr.{Expr}
+use Rattle.expr_resolve.specs.XtSyntax.declared.exprs.Expr.TheVariants as expr
 use Rattle.path_raws.specs.Names.{no_codes}
-use Rattle.expr_names.specs.Names.{uri_in, name_test, undeclared_in, test_broken}
+use Rattle.expr_resolve.specs.ExprNames.Names.{uri_in, name_test, undeclared_in, test_broken}
 use Rattle.expr_terms.specs.declared.keys.Key.{Key}
 use Rattle.expr_terms.specs.declared.keys.Key.TheVariants as key
 use Rattle.expr_terms.specs.declared.tokens.Token.{Token}
@@ -30,19 +30,19 @@ use Rattle.expr_terms.specs.declared.raws.Raw.{Raw}
 use Rattle.expr_terms.specs.declared.raws.Raw.TheVariants.{Leaf as leaf, Node as node, rolls-Node}
 use Rattle.expr_terms.specs.declared.raws.Raw.TheViews.{out-Raw, roll-Raw, roll-out-Raw}
 use Rattle.expr_terms.specs.declared.raws.Raw.TheOpen.{Raw-F, Leaf, Node}
-use Rattle.expr_meant.specs.declared.meant.Meant.{Meant}
-use Rattle.expr_meant.specs.declared.meant.Meant.TheVariants as meant
-use Rattle.expr_meant.specs.Names.{written_of, written_in, written_test_in, target_in}
-use Rattle.expr_meant.specs.Parts.{expr_of, expr_or, exprs_of, key_of, key_in}
-use Rattle.expr_rules.specs.Known.{name_of, name_test_of}
-use Rattle.expr_rules.specs.Rules.{args_in}
-use Rattle.expr_names.specs.Types.{type_named, call_type}
+use Rattle.expr_resolve.specs.ExprMeant.declared.meant.Meant.{Meant}
+use Rattle.expr_resolve.specs.ExprMeant.declared.meant.Meant.TheVariants as meant
+use Rattle.expr_resolve.specs.ExprMeant.Names.{written_of, written_in, written_test_in, target_in}
+use Rattle.expr_resolve.specs.ExprMeant.Parts.{expr_of, expr_or, exprs_of, key_of, key_in}
+use Rattle.expr_resolve.specs.ExprRules.Known.{name_of, name_test_of}
+use Rattle.expr_resolve.specs.ExprRules.Rules.{args_in}
+use Rattle.expr_resolve.specs.ExprNames.Types.{type_named, call_type}
 use Rattle.xt_names.specs.declared.kinds.AtomType.{AtomType}
-use Rattle.expr_paths.specs.Primaries as primaries
-use Rattle.expr_paths.specs.Paths as paths
-use Rattle.expr_paths.specs.Steps.{axis_of, defaulted, test_on, plain_kind_of, target_of}
-use Rattle.expr_paths.specs.Steps.{named_kind_of}
-use Rattle.expr_paths.specs.Table.{path_value}
+use Rattle.expr_resolve.specs.ExprPaths.Primaries as primaries
+use Rattle.expr_resolve.specs.ExprPaths.Paths as paths
+use Rattle.expr_resolve.specs.ExprPaths.Steps.{axis_of, defaulted, test_on, plain_kind_of, target_of}
+use Rattle.expr_resolve.specs.ExprPaths.Steps.{named_kind_of}
+use Rattle.expr_resolve.specs.ExprPaths.Table.{path_value}
 use Rattle.expr_resolve.specs.declared.setting.Setting.{Setting}
 use Rattle.expr_resolve.specs.Tables.{is_chain, family_of, value_in}
 use Rattle.expr_resolve.specs.Folds.{value_of}

@@ -2,7 +2,7 @@
 use Rattle.std.proofs.Common.{◌≡◌, ℕ, nat_le, List, [], ◌∷◌, ◌++◌, map, reverse, Bool, true, false}
 use Rattle.std.proofs.Common.{cond, refl, sym, ◌∙◌, ap, ap₂}
 use Rattle.std.proofs.lemmas.Bool.{and_parts}
-use Rattle.xt_syntax.specs.declared.exprs.Expr.{Expr}
+use Rattle.expr_resolve.specs.XtSyntax.declared.exprs.Expr.{Expr}
 use Rattle.expr_terms.specs.declared.tokens.Token.{Token}
 use Rattle.expr_terms.specs.declared.productions.Production.{Production}
 use Rattle.expr_terms.specs.declared.productions.Production.TheVariants as production
@@ -12,9 +12,9 @@ use Rattle.expr_terms.specs.declared.raws.Raw.TheVariants.{rolls-Node}
 use Rattle.expr_terms.specs.declared.raws.Raw.TheViews.{roll-Raw}
 use Rattle.expr_terms.specs.declared.raws.Raw.TheFolds.{map-Raw, fold-roll-Raw}
 use Rattle.expr_terms.specs.declared.raws.Raw.TheOpen.{Raw-F, Leaf, Node}
-use Rattle.expr_meant.specs.declared.meant.Meant.TheVariants as meant
-use Rattle.expr_meant.specs.Parts.{expr_or}
-use Rattle.expr_paths.specs.Table.{path_value}
+use Rattle.expr_resolve.specs.ExprMeant.declared.meant.Meant.TheVariants as meant
+use Rattle.expr_resolve.specs.ExprMeant.Parts.{expr_or}
+use Rattle.expr_resolve.specs.ExprPaths.Table.{path_value}
 use Rattle.expr_resolve.specs.declared.setting.Setting.{Setting}
 use Rattle.expr_resolve.specs.Tables.{act, is_chain, family_of, value_in}
 use Rattle.expr_resolve.specs.Folds.{Found, values, found_layer, found_of, value_of}

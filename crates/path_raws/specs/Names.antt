@@ -9,7 +9,7 @@ use Rattle.xt_types.specs.declared.axes.Axis.{Axis}
 use Rattle.xt_types.specs.declared.node_tests.NameTest.{NameTest}
 use Rattle.xt_types.specs.declared.node_tests.NameTest.TheVariants as name
 use Rattle.xt_names.specs.declared.codes.Code.{Code}
-use Rattle.expr_names.specs.Names.{uri_in, name_test, undeclared_in, test_broken}
+use Rattle.expr_resolve.specs.ExprNames.Names.{uri_in, name_test, undeclared_in, test_broken}
 use Rattle.expr_terms.specs.Productions.{fits}
 use Rattle.expr_terms.specs.declared.keys.Key.TheVariants as key
 use Rattle.expr_terms.specs.declared.tokens.Token.{Token}
@@ -17,8 +17,8 @@ use Rattle.expr_terms.specs.declared.tokens.Token.TheVariants as token
 use Rattle.expr_terms.specs.declared.productions.Class.{Class}
 use Rattle.expr_terms.specs.declared.productions.Class.TheVariants as class
 use Rattle.expr_tokens.specs.Terms.{word_term}
-use Rattle.expr_meant.specs.Names.{written_in, written_test_in}
-use Rattle.expr_paths.specs.Steps.{defaulted}
+use Rattle.expr_resolve.specs.ExprMeant.Names.{written_in, written_test_in}
+use Rattle.expr_resolve.specs.ExprPaths.Steps.{defaulted}
 
 abbrev pub first_that : (Token → Bool) → List Token → Option Token
 first_that f [] = None

@@ -5,7 +5,7 @@ use Rattle.std.specs.Str.{bytes_eq}
 use Rattle.std.proofs.Math.Dec.{eqb-suc-zero}
 use Rattle.std.proofs.lemmas.List.{take_more, take_all, map-append}
 use Rattle.std.proofs.Math.ListN.{drop_of_length-le}
-use Rattle.step_walks.specs.Nodes.{Focus, Nodes, step_nodes}
+use Rattle.quiet_meaning.specs.StepWalks.Nodes.{Focus, Nodes, step_nodes}
 use Rattle.xt_names.specs.declared.kinds.CompareOp.{CompareOp}
 use Rattle.xt_types.specs.declared.axes.Axis.{Axis}
 use Rattle.xt_types.specs.declared.node_tests.Test.{Test}

@@ -5,7 +5,7 @@ use Rattle.xt_syntax.specs.declared.patterns.Pattern.{Pattern}
 use Rattle.xt_syntax.specs.declared.prefixes.ParseFault.{ParseFault}
 use Rattle.xt_syntax.specs.declared.prefixes.ParseFault.TheVariants.{Syntax, Static, TooDeep, Memory}
 use Rattle.expr_tokens.specs.Terms.{Written}
-use Rattle.expr_resolve.specs.declared.setting.Setting.{Setting}
+use Rattle.pattern_syntax.specs.ExprResolve.declared.setting.Setting.{Setting}
 use Rattle.text_tokens.specs.Lexed.{lexed}
 use Rattle.text_tokens.proofs.LexedLemmas.{tokens_lexed, faults_not_lexed}
 use Rattle.pattern_syntax.specs.Readings.{value, pattern_reading, IsLexed, Gives, IsAnswered, GivesText}

@@ -1,6 +1,6 @@
 -- What a text is read as: one function of its characters.
 use Rattle.std.specs.Prelude.{ℕ, List}
-use Rattle.expr_resolve.specs.declared.setting.Setting.{Setting}
+use Rattle.pattern_syntax.specs.ExprResolve.declared.setting.Setting.{Setting}
 use Rattle.text_tokens.specs.Lexed.{lexed}
 use Rattle.pattern_syntax.specs.Readings.{Answer, pattern_reading}
 

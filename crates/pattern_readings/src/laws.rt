@@ -2,7 +2,7 @@
 ghost use Rattle.std.specs.Prelude.{◌≡◌, ◌↔◌, ℕ, List};
 ghost use Rattle.std.specs.Str.{chars, IsUtf8};
 ghost use Rattle.xt_syntax.specs.declared.patterns.Pattern.{Pattern};
-ghost use Rattle.expr_resolve.specs.declared.setting.Setting.{Setting};
+ghost use Rattle.pattern_syntax.specs.ExprResolve.declared.setting.Setting.{Setting};
 ghost use Rattle.text_tokens.specs.Lexed.{lexed};
 ghost use Rattle.pattern_syntax.specs.Readings.{value, IsLexed};
 ghost use Rattle.pattern_syntax.specs.Spelled.{SpellsWithin};

@@ -10,4 +10,6 @@ mod laws;
 mod patterns;
 
 pub use laws::{each_text_is_lexed, reads_what_is_spelled};
+pub use pattern_syntax;
+pub use pattern_syntax::expr_resolve;
 pub use patterns::parse_text;

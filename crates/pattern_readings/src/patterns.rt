@@ -4,7 +4,7 @@ ghost use Rattle.pattern_syntax.specs.Readings.{Gives};
 ghost use Rattle.pattern_syntax.specs.Spelled.{Parsed};
 ghost use Rattle.pattern_readings.specs.Readings.{text_reading};
 
-use expr_resolve::Setting;
+use pattern_syntax::expr_resolve::Setting;
 use pattern_syntax::{LIMIT, parse_pattern};
 use std::alloc::Global;
 use xt_names::List;

@@ -14,7 +14,7 @@ use Rattle.expr_terms.specs.declared.raws.Raw.TheViews.{out-Raw}
 use Rattle.expr_terms.specs.declared.raws.Raw.TheFolds.{map-Raw, fold_out-Raw}
 use Rattle.expr_terms.specs.declared.raws.Raw.TheOpen.{Raw-F, Leaf, Node}
 use Rattle.expr_meant.specs.declared.meant.Meant.{Meant}
-use Rattle.expr_rules.specs.Rules.{own_broken, operated_broken, end_broken}
+use Rattle.expr_resolve.specs.ExprRules.Rules.{own_broken, operated_broken, end_broken}
 use Rattle.expr_resolve.specs.declared.setting.Setting.{Setting}
 use Rattle.expr_resolve.specs.Tables.{own, end, is_chain, is_tag, before_last}
 use Rattle.expr_resolve.specs.Folds as folds

@@ -60,10 +60,10 @@ use Rattle.expr_names.specs.Names.{uri_in, undeclared_in, name_test, test_broken
 use Rattle.expr_names.specs.Names.{default_in}
 use Rattle.expr_names.specs.Answers.{first}
 use Rattle.expr_names.specs.declared.written.WrittenTest.TheVariants as test
-use Rattle.expr_paths.specs.Steps.{axis_for, defaulted, test_on}
-use Rattle.expr_paths.specs.Table.{path_value}
-use Rattle.expr_rules.specs.Known.{name_test_of}
-use Rattle.expr_rules.specs.Rules.{own_broken, end_broken, test_broken_of}
+use Rattle.expr_resolve.specs.ExprPaths.Steps.{axis_for, defaulted, test_on}
+use Rattle.expr_resolve.specs.ExprPaths.Table.{path_value}
+use Rattle.expr_resolve.specs.ExprRules.Known.{name_test_of}
+use Rattle.expr_resolve.specs.ExprRules.Rules.{own_broken, end_broken, test_broken_of}
 use Rattle.expr_resolve.specs.declared.setting.Setting.{Setting}
 use Rattle.expr_resolve.specs.Folds.{Found, found_layer, found_of, value_of}
 use Rattle.expr_resolve.specs.Tables.{own, family_of, value_in, is_chain, is_tag, before_last}

@@ -4,3 +4,4 @@ pub mod Names
 pub mod Readings
 pub mod Spelled
 pub mod Predicates
+pub use Rattle.expr_resolve.specs as ExprResolve

@@ -20,7 +20,7 @@ use Rattle.xt_syntax.specs.declared.exprs.Clause.TheViews.{out-Expr}
 use Rattle.xt_syntax.specs.declared.exprs.Clause.TheOpen.{Expr-F, Step}
 use Rattle.xt_syntax.specs.declared.patterns.Pattern.{Pattern}
 use Rattle.xt_syntax.specs.declared.patterns.PatternStep.{PatternStep}
-use Rattle.quiet_meaning.specs.Quietly.{is_pattern_predicate}
+use Rattle.pattern_forms.specs.QuietMeaning.Quietly.{is_pattern_predicate}
 use Rattle.expr_terms.specs.declared.raws.Raw.{Raw}
 use Rattle.expr_resolve.specs.declared.setting.Setting.{Setting}
 use Rattle.expr_resolve.specs.Folds.{broken_of, expr_meant}

@@ -17,6 +17,7 @@ mod parts;
 mod patterns;
 mod tests_of_steps;
 
+pub use expr_resolve;
 pub use laws::{
     a_pattern_nests_as_its_predicates, breaks_what_its_steps_break, no_pattern_begins_with_key,
     reads_what_is_spelled, spells_one,

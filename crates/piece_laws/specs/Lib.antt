@@ -1,0 +1,1 @@
+pub use Rattle.sound_forms.specs as SoundForms

@@ -4,7 +4,7 @@ ghost use Rattle.outcomes.specs.Outcome.{Fails};
 ghost use Rattle.xt_names.specs.declared.codes.Code.TheVariants.{QueryStatic};
 ghost use Rattle.xt_names.specs.declared.codes.QueryStaticCode.TheVariants.{XPST0017 as unknown};
 ghost use Rattle.expr_meaning.specs.Meaning.{outcome};
-ghost use Rattle.eval_lates.specs.Late.{AnswersLate};
+ghost use Rattle.expr_eval.specs.EvalLates.Late.{AnswersLate};
 ghost use Rattle.eval_scopes.specs.Answers.{Answers};
 ghost use Rattle.eval_scopes.specs.Scopes.{focus_of};
 ghost use Rattle.plain_eval.specs.Plain.{AnswersPlain, focus_behind, plain_env, plain_program};

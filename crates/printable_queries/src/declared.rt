@@ -3,7 +3,7 @@ ghost use Rattle.std.specs.Prelude.{◌≡◌, ◌++◌, map, IfOk, OnOk};
 ghost use Rattle.path_raws.specs.Names.{no_codes};
 ghost use Rattle.prolog_rules.specs.Declarations.{query_broken};
 ghost use Rattle.prolog_rules.specs.declared.declarations.Declaration.TheVariants as declaration;
-ghost use Rattle.printed_queries.specs.Keeps.{declared_in, keeps_declarations};
+ghost use Rattle.printed_reads.specs.PrintedQueries.Keeps.{declared_in, keeps_declarations};
 
 use prolog_rules::{Declaration, broken_query};
 use std::alloc::{AllocError, Global};

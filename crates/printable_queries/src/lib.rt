@@ -18,4 +18,5 @@ mod rules;
 
 pub use nests::nests_within;
 pub use prefixes::prefixes_in;
+pub use prolog_drafts;
 pub use queries::is_kept;

@@ -2,7 +2,7 @@
 ghost use Rattle.std.specs.Prelude.{◌≡◌, map, IfOk};
 ghost use Rattle.prolog_rules.specs.declared.setters.Setter.TheVariants as setter_of;
 ghost use Rattle.query_raws.specs.Queries.{prefixes_of};
-ghost use Rattle.printed_queries.specs.Keeps.{has_own_prefixes};
+ghost use Rattle.printed_reads.specs.PrintedQueries.Keeps.{has_own_prefixes};
 
 use name_prefixes::NamePrefixes;
 use prolog_rules::{Setter, broken_setter};

@@ -1,7 +1,7 @@
 // Whole queries.
 ghost use Rattle.std.specs.Prelude.{◌≡◌, ◌&&◌, IfOk};
 ghost use Rattle.query_raws.specs.Queries.{prefixes_of, can_print};
-ghost use Rattle.printed_queries.specs.Keeps.{is_kept};
+ghost use Rattle.printed_reads.specs.PrintedQueries.Keeps.{is_kept};
 
 use crate::declarations::{can_functions, can_variables, is_clean};
 use crate::declared::keeps_declarations;

@@ -1,1 +1,2 @@
 pub mod Keeps
+pub use Rattle.expr_raws.specs as ExprRaws

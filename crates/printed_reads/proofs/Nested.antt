@@ -14,8 +14,8 @@ use Rattle.expr_terms.specs.Nest.{raw_nest_of}
 use Rattle.path_raws.specs.Forms.{single}
 use Rattle.path_raws.specs.Names.{function_token}
 use Rattle.control_raws.specs.Bindings.{typing, may}
-use Rattle.expr_raws.specs.Raws.{form_of, raw_of, is_printable}
-use Rattle.clean_raws.specs.Keeps.{keeps_rules}
+use Rattle.printed_queries.specs.ExprRaws.Raws.{form_of, raw_of, is_printable}
+use Rattle.query_raws.specs.CleanRaws.Keeps.{keeps_rules}
 use Rattle.nest_raws.proofs.Within.{at_within}
 use Rattle.nest_raws.proofs.Forms.{printable_within}
 use Rattle.query_grammar.specs.declared.declared.Declared.TheVariants as declared

@@ -6,7 +6,7 @@ use Rattle.xt_syntax.specs.declared.queries.Query.{Query}
 use Rattle.closed_queries.specs.Closed.{is_closed}
 use Rattle.token_texts.specs.Texts.{Layout, IsLayout, text_of}
 use Rattle.token_texts.proofs.Split.{text_splits}
-use Rattle.written_tokens.specs.Fit.{are_fit}
+use Rattle.printed_texts.specs.WrittenTokens.Fit.{are_fit}
 use Rattle.query_texts.specs.Texts.{spelled, query_nest}
 use Rattle.xquery_syntax.specs.Spelled.{SpellsWithin}
 use Rattle.query_raws.specs.Queries.{raw_query, query_tokens, can_print}

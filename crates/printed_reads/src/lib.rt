@@ -10,7 +10,7 @@ ghost use Rattle.xt_syntax.specs.declared.queries.Query.{Query};
 ghost use Rattle.xt_syntax.specs.declared.prefixes.ParseFault.{ParseFault};
 ghost use Rattle.closed_queries.specs.Closed.{is_closed};
 ghost use Rattle.token_texts.specs.Texts.{Layout, IsLayout, text_of};
-ghost use Rattle.written_tokens.specs.Fit.{are_fit};
+ghost use Rattle.printed_texts.specs.WrittenTokens.Fit.{are_fit};
 ghost use Rattle.query_texts.specs.Texts.{query_nest};
 ghost use Rattle.xquery_syntax.specs.Spelled.{SpellsWithin, Parsed, IsSettled};
 ghost use Rattle.query_raws.specs.Queries.{raw_query, query_tokens, can_print};

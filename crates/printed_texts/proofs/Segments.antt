@@ -14,7 +14,7 @@ use Rattle.query_pieces.specs.declared.contexts.Context.{Context}
 use Rattle.query_pieces.specs.declared.contexts.Context.TheVariants as context
 use Rattle.query_pieces.specs.Points.{in_expression}
 use Rattle.path_raws.specs.Forms.{single, said}
-use Rattle.expr_raws.specs.Raws.{form_of, tokens_of, is_printable}
+use Rattle.printed_queries.specs.ExprRaws.Raws.{form_of, tokens_of, is_printable}
 use Rattle.written_tokens.specs.Fit.{is_fit, are_fit}
 use Rattle.written_tokens.proofs.Says.{W, Fit, Says, in_case, Stays, one_says, said_says}
 use Rattle.written_tokens.proofs.Forms.{printable_written}

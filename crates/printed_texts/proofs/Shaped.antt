@@ -18,12 +18,12 @@ use Rattle.closed_queries.specs.Closed.{is_good_kind, is_good_expr, is_good_valu
 use Rattle.closed_queries.specs.Closed.{is_good_param, is_good_function, has_good_parts, is_closed}
 use Rattle.closed_queries.specs.Closed.{has_different_names, query_keeps_names}
 use Rattle.expr_shapes.specs.Shapes.{is_shaped}
-use Rattle.query_laws.specs.Shapes.{is_shaped_value, is_shaped_in, is_shaped_query}
+use Rattle.xquery_syntax.specs.QueryLaws.Shapes.{is_shaped_value, is_shaped_in, is_shaped_query}
 use Rattle.control_raws.specs.Bindings.{typing, may}
 use Rattle.path_raws.specs.Forms.{single}
 use Rattle.path_raws.specs.Names.{function_token}
-use Rattle.expr_raws.specs.Raws.{form_of, is_printable}
-use Rattle.clean_raws.specs.Keeps.{keeps_rules}
+use Rattle.printed_queries.specs.ExprRaws.Raws.{form_of, is_printable}
+use Rattle.query_raws.specs.CleanRaws.Keeps.{keeps_rules}
 use Rattle.shaped_raws.proofs.Shaped.{at_shaped}
 use Rattle.shaped_raws.proofs.Forms.{printable_shaped}
 use Rattle.query_raws.specs.Prologs as forms

@@ -29,8 +29,8 @@ use Rattle.path_raws.specs.Forms.{single, said}
 use Rattle.path_raws.specs.Names.{name_token, function_token}
 use Rattle.control_raws.specs.Bindings.{typing, may, typing_tokens}
 use Rattle.control_raws.specs.Types.{sequence_form}
-use Rattle.expr_raws.specs.Raws.{form_of, tokens_of, is_printable}
-use Rattle.clean_raws.specs.Keeps.{keeps_rules}
+use Rattle.printed_queries.specs.ExprRaws.Raws.{form_of, tokens_of, is_printable}
+use Rattle.query_raws.specs.CleanRaws.Keeps.{keeps_rules}
 use Rattle.written_tokens.specs.Fit.{are_fit}
 use Rattle.written_tokens.proofs.Says.{key_stays}
 use Rattle.written_tokens.proofs.Paths.{name_stays, word_stays, quoted_stays, sequence_says}

@@ -15,7 +15,7 @@ use Rattle.expr_terms.specs.declared.tokens.Token.TheVariants as token
 use Rattle.path_raws.specs.Forms.{single, said}
 use Rattle.path_raws.specs.Names.{name_token, function_token}
 use Rattle.control_raws.specs.Bindings.{typing, typing_tokens, may}
-use Rattle.clean_raws.specs.Keeps.{keeps_rules}
+use Rattle.query_raws.specs.CleanRaws.Keeps.{keeps_rules}
 use Rattle.expr_raws.specs.Raws.{form_of, is_printable, tokens_of}
 use Rattle.ended_tokens.proofs.Ends.{said_ends}
 use Rattle.ended_tokens.proofs.Parts.{sequence_ends}

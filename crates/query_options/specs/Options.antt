@@ -5,7 +5,7 @@ use Rattle.xt_names.specs.declared.names.Binding.{Binding}
 use Rattle.xt_names.specs.declared.names.ExprName.{ExprName}
 use Rattle.xt_names.specs.declared.codes.Code.{Code}
 use Rattle.expr_names.specs.Names.{undeclared_in, expr_name}
-use Rattle.expr_terms.specs.declared.tokens.Token.{Token}
+use Rattle.expr_meant.specs.ExprTerms.declared.tokens.Token.{Token}
 use Rattle.expr_meant.specs.Names.{written_in}
 use Rattle.query_options.specs.Spaces.{not_taken, space_broken, space_meant}
 use Rattle.query_options.specs.declared.effects.Effect.{Effect}

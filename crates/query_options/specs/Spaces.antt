@@ -7,7 +7,7 @@ use Rattle.xt_names.specs.declared.names.Binding.{Binding}
 use Rattle.xt_names.specs.declared.codes.Code.{Code}
 use Rattle.xt_names.specs.declared.codes.Code.TheVariants.{QueryStatic}
 use Rattle.xt_names.specs.declared.codes.QueryStaticCode.TheVariants.{XTOP0001}
-use Rattle.xt_types.specs.declared.node_tests.SpaceRule.{SpaceRule}
+use Rattle.expr_names.specs.XtTypes.declared.node_tests.SpaceRule.{SpaceRule}
 use Rattle.text_operations.specs.Searches.{text_before, text_after}
 use Rattle.expr_names.specs.Names.{name_test, test_broken}
 use Rattle.expr_names.specs.declared.written.WrittenTest.{WrittenTest}

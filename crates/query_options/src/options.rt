@@ -9,12 +9,12 @@ ghost use Rattle.query_options.specs.Options.{with_effect, with_option};
 use crate::effects::{Effect, effect_of};
 use crate::rules::{refused, space_rules};
 use bound_prefixes::BoundPrefixes;
+use expr_meant::expr_terms::Token;
 use expr_meant::written_in;
+use expr_names::xt_types::SpaceRule;
 use expr_names::{ResolveFault, expr_name, no_text};
-use expr_terms::Token;
 use std::alloc::Global;
 use xt_names::{ExprName, List, Text, is_ascii_text};
-use xt_types::SpaceRule;
 
 /// What the options so far mean.
 /// (XQuery 1.0, 4.16)

@@ -11,10 +11,10 @@ ghost use Rattle.query_options.specs.Spaces.{not_taken};
 use crate::tests_of_words::written_test;
 use crate::words::words_of;
 use bound_prefixes::BoundPrefixes;
+use expr_names::xt_types::{NameTest, SpaceRule};
 use expr_names::{ResolveFault, WrittenTest, name_test, static_fault};
 use std::alloc::Global;
 use xt_names::{List, QueryStaticCode, Text, is_ascii_text};
-use xt_types::{NameTest, SpaceRule};
 
 /// XTOP0001, of a text that the option does not take.
 /// (XQuery 1.0, 4.16)

@@ -6,9 +6,9 @@ use Rattle.closed_queries.specs.Closed.{is_closed}
 use Rattle.written_tokens.specs.Fit.{are_fit}
 use Rattle.query_pages.specs.Laid.{IsTextOf}
 use Rattle.query_raws.specs.Queries.{query_tokens, can_print}
-use Rattle.xquery_syntax.specs.Spelled.{SpellsWithin}
+use Rattle.printed_reads.specs.XquerySyntax.Spelled.{SpellsWithin}
 use Rattle.xt_names.specs.Allowed.{is_empty_text}
-use Rattle.printed_queries.specs.Keeps.{is_kept, has_own_prefixes, keeps_declarations}
+use Rattle.printed_reads.specs.PrintedQueries.Keeps.{is_kept, has_own_prefixes, keeps_declarations}
 use Rattle.printed_reads.specs.Nests.{query_nest_of}
 use Rattle.printed_reads.proofs.TextsWithin.{text_within}
 use Rattle.query_printer.specs.Printable.{is_printable, nests_within, deepest}

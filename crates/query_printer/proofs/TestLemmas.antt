@@ -4,7 +4,7 @@ use Rattle.std.proofs.lemmas.Bool.{and_parts}
 use Rattle.xt_names.specs.Allowed.{is_empty_text}
 use Rattle.xt_syntax.specs.declared.queries.Query.{Query}
 use Rattle.query_raws.specs.Queries.{can_print}
-use Rattle.printed_queries.specs.Keeps.{is_kept, has_own_prefixes, keeps_declarations}
+use Rattle.printed_reads.specs.PrintedQueries.Keeps.{is_kept, has_own_prefixes, keeps_declarations}
 
 pub and_true : (b : Bool) → (b && true) ≡ b
 and_true true = refl

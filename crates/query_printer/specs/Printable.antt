@@ -4,7 +4,7 @@ use Rattle.xt_syntax.specs.declared.queries.Query.{Query}
 use Rattle.closed_queries.specs.Closed.{is_closed}
 use Rattle.written_tokens.specs.Fit.{are_fit}
 use Rattle.query_raws.specs.Queries.{query_tokens}
-use Rattle.printed_queries.specs.Keeps.{is_kept}
+use Rattle.printed_reads.specs.PrintedQueries.Keeps.{is_kept}
 use Rattle.printed_reads.specs.Nests.{query_nest_of}
 
 -- how deep a query nests at most that is printed

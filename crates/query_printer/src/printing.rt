@@ -4,14 +4,14 @@ ghost use Rattle.expr_raws.specs.Raws.{tokens_of};
 ghost use Rattle.query_pages.specs.Laid.{IsTextOf};
 ghost use Rattle.query_raws.specs.Queries.{prefixes_of, late, can_print};
 ghost use Rattle.query_raws.specs.Queries.{prolog_tokens, query_tokens};
-ghost use Rattle.xquery_syntax.specs.Spelled.{SpellsWithin};
+ghost use Rattle.printed_reads.specs.XquerySyntax.Spelled.{SpellsWithin};
 ghost use Rattle.query_printer.specs.Printable.{is_printable, deepest};
 
 use expr_drafts::{Draft, Spot};
 use expr_pages::{expr_page, settled};
 use name_prefixes::NamePrefixes;
 use printable_queries::prefixes_in;
-use prolog_drafts::{
+use printable_queries::prolog_drafts::{
     push_functions, push_namespaces, push_omit, push_preserved, push_space, push_variables,
     push_version,
 };

@@ -29,8 +29,8 @@ use Rattle.expr_grammar.specs.Grammar.{Derives, Spells, by, next, end}
 use Rattle.path_raws.specs.Forms.{single, list, at, said}
 use Rattle.path_raws.specs.Names.{names, spellings, name_token, function_token, token_in}
 use Rattle.path_raws.proofs.Paths.{fitting_sound}
-use Rattle.control_raws.specs.Bindings.{typing, may, typing_tokens}
-use Rattle.expr_raws.specs.Raws.{form_of, raw_of, tokens_of, is_printable}
+use Rattle.clean_raws.specs.ControlRaws.Bindings.{typing, may, typing_tokens}
+use Rattle.clean_raws.specs.ExprRaws.Raws.{form_of, raw_of, tokens_of, is_printable}
 use Rattle.expr_spellings.proofs.Climb.{X, climb}
 use Rattle.expr_spellings.proofs.Paths.{always}
 use Rattle.expr_spellings.proofs.Types.{sequence_spelled}

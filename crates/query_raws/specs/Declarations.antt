@@ -15,8 +15,8 @@ use Rattle.expr_terms.specs.declared.tokens.Token.TheVariants as token
 use Rattle.expr_terms.specs.declared.raws.Raw.{Raw}
 use Rattle.path_raws.specs.Forms.{single, at, said}
 use Rattle.path_raws.specs.Names.{name_token, function_token}
-use Rattle.control_raws.specs.Bindings.{typing, may, typing_tokens}
-use Rattle.expr_raws.specs.Raws.{form_of, raw_of, tokens_of, is_printable}
+use Rattle.clean_raws.specs.ControlRaws.Bindings.{typing, may, typing_tokens}
+use Rattle.clean_raws.specs.ExprRaws.Raws.{form_of, raw_of, tokens_of, is_printable}
 use Rattle.query_grammar.specs.declared.declared.Declared.TheVariants as declared
 use Rattle.query_grammar.specs.declared.declared.Typed.{Typed}
 use Rattle.query_tokens.specs.Tokens.{behind_declare}

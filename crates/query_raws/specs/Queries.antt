@@ -7,7 +7,7 @@ use Rattle.xt_syntax.specs.declared.queries.Query.{Query}
 use Rattle.expr_terms.specs.declared.keys.Key.TheVariants as key
 use Rattle.expr_terms.specs.declared.tokens.Token.{Token}
 use Rattle.expr_terms.specs.declared.tokens.Token.TheVariants as token
-use Rattle.expr_raws.specs.Raws.{raw_of, tokens_of}
+use Rattle.clean_raws.specs.ExprRaws.Raws.{raw_of, tokens_of}
 use Rattle.query_grammar.specs.declared.declared.Declared.{Declared}
 use Rattle.query_grammar.specs.declared.declared.RawQuery.{RawQuery}
 use Rattle.query_raws.specs.Prologs.{DeclaredForm, prefixes_behind, version, namespace, preserved}

@@ -6,10 +6,10 @@ ghost use Rattle.query_runs.specs.Queries.{outcome_on, param_of, IsRunRefusedAs}
 
 use command_words::{Inputs, Parameter};
 use doc_set::DocSet;
-use eval_scopes::EvalFault;
 use run_parts::Status;
 use std::alloc::{AllocError, Global};
 use xdm_items::ItemList;
+use xquery_eval::eval_scopes::EvalFault;
 use xquery_eval::{Param, run_query_in};
 use xt_names::List;
 use xt_syntax::Query;

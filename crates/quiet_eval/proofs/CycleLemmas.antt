@@ -13,8 +13,8 @@ use Rattle.xt_syntax.specs.declared.exprs.Expr.TheVariants.{rolls-Or, rolls-And,
 use Rattle.xt_syntax.specs.declared.exprs.Clause.TheViews.{out-Expr, roll-Expr, roll-out-Expr}
 use Rattle.xt_syntax.specs.declared.exprs.Clause.TheOpen.{Or, And, General, Slash, Step, Call}
 use Rattle.xt_forms.specs.Quiet.{quiet_call}
-use Rattle.node_tests.specs.Tests.{passes_at}
-use Rattle.node_axes.specs.Axes.{axis_nodes}
+use Rattle.quiet_meaning.specs.NodeTests.Tests.{passes_at}
+use Rattle.step_walks.specs.NodeAxes.Axes.{axis_nodes}
 use Rattle.step_walks.specs.Nodes.{Focus, Nodes, kept_from, kept_by, kept_by_all, in_tree_order, step_nodes, nodes_of_each, slash_nodes}
 use Rattle.step_walks.specs.Within.{AreWithin}
 use Rattle.step_walks.proofs.NodeLemmas.{step_found_within, each_within}

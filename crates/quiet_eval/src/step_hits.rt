@@ -1,12 +1,12 @@
 // The nodes of an axis that pass a test.
 ghost use Rattle.std.specs.Prelude.{◌≡◌, ◌++◌, ◌<◌, IfOk, Ok, true, false, filter, length};
-ghost use Rattle.node_tests.specs.Tests.{passes_at};
-ghost use Rattle.node_axes.specs.Axes.{axis_nodes};
+ghost use Rattle.quiet_meaning.specs.NodeTests.Tests.{passes_at};
+ghost use Rattle.step_walks.specs.NodeAxes.Axes.{axis_nodes};
 ghost use Rattle.step_walks.specs.Hits.{hits_ahead};
 
-use node_axes::Cursor;
 use std::alloc::{AllocError, Global};
 use step_walks::next_hit;
+use step_walks::node_axes::Cursor;
 use xt_tree::Node;
 use xt_types::{Axis, Test};
 

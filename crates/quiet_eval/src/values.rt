@@ -3,12 +3,12 @@ ghost use Rattle.std.specs.Prelude.{◌≡◌, pos, IfOk, option_and_then};
 ghost use Rattle.xt_tree.specs.Kinds.{target_of};
 ghost use Rattle.xt_atoms.specs.declared.atoms.Atom.TheVariants.{Int, Str};
 ghost use Rattle.xt_tree.specs.Place.{subtree_of};
-ghost use Rattle.xdm_items.specs.Values.{typed_value_below};
+ghost use Rattle.quiet_meaning.specs.XdmItems.Values.{typed_value_below};
 ghost use Rattle.quiet_meaning.specs.Values.{compares, some_compares, name_text, written_name};
 ghost use Rattle.quiet_eval.specs.Subjects.{or_empty};
 
+use quiet_meaning::xdm_items::typed_value;
 use std::alloc::{AllocError, Global};
-use xdm_items::typed_value;
 use xt_atoms::{Atom, general_compare, holds, qname_text, text_order};
 use xt_names::{CompareOp, Name, Text};
 use xt_tree::Node;

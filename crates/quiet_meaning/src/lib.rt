@@ -21,3 +21,6 @@ pub fn quiet_predicates_stand_in_patterns()
 pub fn what_is_quiet_has_a_meaning()
     ensures { (e : Expr) → form_of (quietly_of e) ≡ quiet_form_of e }
 {}
+
+pub use xdm_items;
+pub use xt_forms;

@@ -24,11 +24,11 @@ use Rattle.xt_syntax.specs.declared.exprs.Clause.TheOpen.{Expr-F, Int, Or, And, 
 use Rattle.xt_syntax.specs.declared.exprs.Clause.TheOpen.{Step, Call}
 use Rattle.xt_syntax.specs.Layers.{Kinds, ExprLayer, clause_gives, name_gives, part_gives}
 use Rattle.xt_syntax.specs.Layers.{arm_gives, bind_gives, attr_gives, flwor_gives, order_gives}
-use Rattle.xt_forms.specs.Quiet.{quiet_call}
-use Rattle.xt_forms.specs.declared.quiet_calls.QuietCall.{QuietCall}
-use Rattle.xt_forms.specs.declared.quiet_calls.QuietCall.TheVariants as call
-use Rattle.step_walks.specs.Nodes.{Focus, Nodes, step_nodes}
-use Rattle.step_walks.specs.Sifted.{IsSizeFree}
+use Rattle.quiet_meaning.specs.XtForms.Quiet.{quiet_call}
+use Rattle.quiet_meaning.specs.XtForms.declared.quiet_calls.QuietCall.{QuietCall}
+use Rattle.quiet_meaning.specs.XtForms.declared.quiet_calls.QuietCall.TheVariants as call
+use Rattle.quiet_meaning.specs.StepWalks.Nodes.{Focus, Nodes, step_nodes}
+use Rattle.quiet_meaning.specs.StepWalks.Sifted.{IsSizeFree}
 use Rattle.quiet_meaning.specs.Quietly.{Quietly, integer, literal, position, last, attribute, step}
 use Rattle.quiet_meaning.specs.Quietly.{path, condition, conjunction, other, quietly_of, holds_at}
 use Rattle.quiet_meaning.specs.Quietly.{is_truth, is_predicate, is_conjunction, holds_all, any_of}

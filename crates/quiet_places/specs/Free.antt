@@ -5,10 +5,10 @@ use Rattle.xt_tree.specs.Place.{Place}
 use Rattle.xt_syntax.specs.declared.exprs.Expr.{Expr}
 use Rattle.xt_syntax.specs.declared.exprs.Clause.TheOpen.{Int, Or, And, General, Call}
 use Rattle.xt_syntax.specs.Layers.{Kinds, Steps, ExprLayer, expr_gives}
-use Rattle.xt_forms.specs.Quiet.{quiet_call}
-use Rattle.xt_forms.specs.declared.quiet_calls.QuietCall.{QuietCall}
-use Rattle.xt_forms.specs.declared.quiet_calls.QuietCall.TheVariants as call
-use Rattle.step_walks.specs.Nodes.{Focus}
+use Rattle.quiet_meaning.specs.XtForms.Quiet.{quiet_call}
+use Rattle.quiet_meaning.specs.XtForms.declared.quiet_calls.QuietCall.{QuietCall}
+use Rattle.quiet_meaning.specs.XtForms.declared.quiet_calls.QuietCall.TheVariants as call
+use Rattle.quiet_meaning.specs.StepWalks.Nodes.{Focus}
 use Rattle.quiet_meaning.specs.Quietly.{Quietly, holds_at}
 
 abbrev pub focus : Place → ℕ → ℕ → Focus

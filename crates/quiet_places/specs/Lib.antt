@@ -1,1 +1,2 @@
 pub mod Free
+pub use Rattle.quiet_meaning.specs as QuietMeaning

@@ -3,11 +3,11 @@ ghost use Rattle.std.specs.Prelude.{◌≡◌, map, true, false};
 ghost use Rattle.std.specs.List.{list_all};
 ghost use Rattle.xt_syntax.specs.declared.exprs.Expr.{Expr as AnExpr};
 ghost use Rattle.quiet_meaning.specs.Quietly.{quietly_of, holds_at};
-ghost use Rattle.step_walks.specs.Sifted.{IsSizeFree};
+ghost use Rattle.quiet_meaning.specs.StepWalks.Sifted.{IsSizeFree};
 ghost use Rattle.quiet_places.specs.Free.{IsSame, called_free, free_of};
 ghost use Rattle.quiet_places.specs.Free.{is_place_free_expr, is_size_free_expr};
 
-use xt_forms::{QuietCall, quiet_call};
+use quiet_meaning::xt_forms::{QuietCall, quiet_call};
 use xt_syntax::Expr;
 
 /// A predicate that is free of its place keeps a node at one position among so many exactly where it keeps it at any other.

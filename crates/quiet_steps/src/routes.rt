@@ -8,7 +8,7 @@ ghost use Rattle.way_laws.specs.Ways.{last_step, path_in, way, way_at};
 ghost use Rattle.quiet_steps.specs.Routes.{way_along};
 ghost use Rattle.xt_syntax.specs.declared.exprs.Clause.TheViews.{out-Expr};
 
-use eval_scopes::document_of;
+use eval_lates::eval_scopes::document_of;
 use quiet_places::is_place_free;
 use std::alloc::{AllocError, Global};
 use xt_names::List;

@@ -13,8 +13,8 @@ ghost use Rattle.expr_meaning.specs.Env.{Program};
 ghost use Rattle.expr_meaning.specs.Meaning.{outcome};
 ghost use Rattle.expr_meaning.specs.Paths.{kept};
 ghost use Rattle.outcomes.specs.Outcome.{and_then};
-ghost use Rattle.eval_scopes.specs.Answers.{Answers};
-ghost use Rattle.eval_scopes.specs.Scopes.{env_of};
+ghost use Rattle.eval_lates.specs.EvalScopes.Answers.{Answers};
+ghost use Rattle.eval_lates.specs.EvalScopes.Scopes.{env_of};
 ghost use Rattle.eval_lates.specs.Late.{AnswersLate, literal};
 ghost use Rattle.quiet_steps.specs.Late.{AnswersWalk, AnswersWay, IsValue};
 ghost use Rattle.quiet_steps.specs.Routes.{way_along};
@@ -22,8 +22,8 @@ ghost use Rattle.way_laws.specs.Ways.{can_be_counted, has_walk, is_walked, node_
 ghost use Rattle.way_laws.specs.Ways.{way_at, way_nodes, way_of};
 
 use crate::routes::{Route, route_of};
+use eval_lates::eval_scopes::{Env, EvalFault, Focus};
 use eval_lates::late_place;
-use eval_scopes::{Env, EvalFault, Focus};
 use lazy_seq::Seq;
 use node_axes::Cursor;
 use std::alloc::{AllocError, Global};

@@ -22,7 +22,7 @@ use Rattle.sequence_functions.specs.Cardinality.{counted as counted_items, has_i
 use Rattle.item_functions.specs.Outcomes.{as_integer}
 use Rattle.item_functions.specs.OnSequences.{count_of as count_value, empty_of, exists_of}
 use Rattle.item_functions.specs.OnValues.{not_of}
-use Rattle.fn_lib.specs.Functions.{function_value, value_of}
+use Rattle.expr_meaning.specs.FnLib.Functions.{function_value, value_of}
 use Rattle.xt_forms.specs.NamedTexts.{is_one_of}
 use Rattle.xt_forms.specs.Quiet.{quiet_call, local_call}
 use Rattle.xt_forms.specs.declared.quiet_calls.QuietCall.{QuietCall}

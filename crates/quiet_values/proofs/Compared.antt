@@ -11,8 +11,8 @@ use Rattle.xt_atoms.specs.Comparisons.{general_comparison, value_comparison}
 use Rattle.xdm_items.specs.Values.{typed_value_below}
 use Rattle.xdm_items.specs.declared.items.Item.TheVariants.{Node}
 use Rattle.function_arguments.specs.Answers.{of_integer, of_text, of_truth}
-use Rattle.operator_values.specs.Comparisons.{or_next, some_compare, truth_list, general_value}
-use Rattle.operator_values.specs.Operands.{atom_of}
+use Rattle.expr_meaning.specs.OperatorValues.Comparisons.{or_next, some_compare, truth_list, general_value}
+use Rattle.expr_meaning.specs.OperatorValues.Operands.{atom_of}
 use Rattle.step_walks.specs.Nodes.{Focus}
 use Rattle.quiet_meaning.specs.Values.{compares, some_compares, is_true}
 use Rattle.quiet_meaning.specs.Quietly.{Quietly, integer, literal, position, last, text_of, count_of}

@@ -15,8 +15,8 @@ use Rattle.xt_types.specs.declared.axes.Axis.{Axis}
 use Rattle.xt_types.specs.declared.node_tests.Test.{Test}
 use Rattle.xt_forms.specs.Quiet.{quiet_call}
 use Rattle.function_arguments.specs.Arguments.{and_then as result_then}
-use Rattle.operator_values.specs.Nodes.{is_node}
-use Rattle.lazy_seq.specs.Orders.{in_document_order}
+use Rattle.expr_meaning.specs.OperatorValues.Nodes.{is_node}
+use Rattle.node_orders.specs.LazySeq.Orders.{in_document_order}
 use Rattle.step_walks.specs.Nodes.{Focus, Nodes, step_nodes, slash_nodes, nodes_of_each}
 use Rattle.step_walks.proofs.NodeLemmas.{Stays, each_within}
 use Rattle.quiet_meaning.specs.Quietly.{Quietly, attribute, step, path, other, quietly_of, holds_at}

@@ -15,7 +15,7 @@ use Rattle.node_tests.specs.Tests.{passes_at}
 use Rattle.node_axes.specs.Axes.{axis_nodes}
 use Rattle.step_walks.specs.Nodes.{Focus, kept_from, kept_by, kept_by_all, step_nodes}
 use Rattle.step_walks.proofs.NodeLemmas.{axis_within, filter_within, step_found_within}
-use Rattle.lazy_seq.specs.Orders.{in_document_order}
+use Rattle.node_orders.specs.LazySeq.Orders.{in_document_order}
 use Rattle.quiet_meaning.specs.Quietly.{Quietly, attribute, step, other, holds_at, is_predicate, stepped}
 use Rattle.quiet_meaning.specs.Quietly.{is_attribute_name, is_attribute_axis, is_named}
 use Rattle.outcomes.specs.Outcome.{Ends, and_then, step_outcome, for_each}

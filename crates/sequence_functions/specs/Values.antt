@@ -2,7 +2,7 @@
 use Rattle.std.specs.Prelude.{List, map}
 use Rattle.xdm_items.specs.declared.items.Item.{Item}
 use Rattle.xdm_items.specs.declared.items.Item.TheVariants.{Atom}
-use Rattle.atom_keys.specs.declared.tables.KeyEntry.{KeyEntry}
+use Rattle.order_group.specs.AtomKeys.declared.tables.KeyEntry.{KeyEntry}
 use Rattle.order_group.specs.Groups.{atoms_of, first_seen}
 
 -- each value where it first stands; two atoms are one value where they are the same key

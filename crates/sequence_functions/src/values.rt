@@ -4,7 +4,7 @@ ghost use Rattle.order_group.specs.Groups.{atoms_of};
 ghost use Rattle.order_group.specs.Steps.{with_row};
 ghost use Rattle.sequence_functions.specs.Values.{distinct_values, entry_value};
 
-use atom_keys::{KeyEntry, KeyTable};
+use order_group::atom_keys::{KeyEntry, KeyTable};
 use std::alloc::{AllocError, Global};
 use xdm_items::{Item, ItemList};
 

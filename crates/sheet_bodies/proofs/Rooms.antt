@@ -7,8 +7,8 @@ use Rattle.xt_names.specs.declared.codes.SheetStaticCode.TheVariants.{XTLM0004}
 use Rattle.xt_sheets.specs.declared.instrs.Instr.{Instr}
 use Rattle.sheet_nodes.specs.Parts.{is_variable}
 use Rattle.sheet_nodes.specs.declared.nodes.Node.{Node}
-use Rattle.sheet_texts.specs.declared.places.Place.{Place}
-use Rattle.sheet_texts.specs.Readings.{Reading}
+use Rattle.sheet_heads.specs.SheetTexts.declared.places.Place.{Place}
+use Rattle.sheet_heads.specs.SheetTexts.Readings.{Reading}
 use Rattle.sheet_bodies.specs.Bodies.{body_faults, body_value, node_faults, node_value, walk_faults, walk_value}
 
 module _ {E P : Type 0} (r : Reading E P) (p : Place) where

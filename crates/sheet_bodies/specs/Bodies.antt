@@ -25,10 +25,10 @@ use Rattle.sheet_nodes.specs.Parts.{is_with_param, is_variable, none_faults, mis
 use Rattle.sheet_nodes.specs.declared.nodes.Node.{Node}
 use Rattle.sheet_nodes.specs.declared.nodes.Node.TheViews.{out-Node}
 use Rattle.sheet_nodes.specs.declared.nodes.Node.TheOpen.{Node-F, Elem, Chars}
-use Rattle.sheet_values.specs.Rules.{broken}
-use Rattle.sheet_texts.specs.declared.places.Place.{Place}
-use Rattle.sheet_texts.specs.Places.{within, grouped}
-use Rattle.sheet_texts.specs.Readings.{Reading}
+use Rattle.sheet_heads.specs.SheetValues.Rules.{broken}
+use Rattle.sheet_heads.specs.SheetTexts.declared.places.Place.{Place}
+use Rattle.sheet_heads.specs.SheetTexts.Places.{within, grouped}
+use Rattle.sheet_heads.specs.SheetTexts.Readings.{Reading}
 use Rattle.sheet_heads.specs.Attributes.{needed_faults, needed_value}
 use Rattle.sheet_heads.specs.declared.forms.Form.{Form}
 use Rattle.sheet_heads.specs.declared.forms.Form.TheVariants as form

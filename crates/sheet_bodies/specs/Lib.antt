@@ -1,1 +1,2 @@
 pub mod Bodies
+pub use Rattle.sheet_heads.specs as SheetHeads

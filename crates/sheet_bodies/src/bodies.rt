@@ -13,7 +13,7 @@ ghost use Rattle.sheet_bodies.specs.Bodies.{other_layer_faults, other_layer_valu
 ghost use Rattle.sheet_bodies.specs.Bodies.{bind_faults, bind_value, passed_faults, passed_value};
 ghost use Rattle.sheet_bodies.specs.Bodies.{passed_layer_faults, passed_layer_value, call_faults};
 ghost use Rattle.sheet_bodies.specs.Bodies.{call_value};
-ghost use Rattle.sheet_texts.specs.Places.{within};
+ghost use Rattle.sheet_heads.specs.SheetTexts.Places.{within};
 ghost use Rattle.sheet_table.specs.declared.elements.XslElement.TheVariants.{WithParam};
 
 use crate::parts::{
@@ -21,14 +21,14 @@ use crate::parts::{
     when, with_item,
 };
 use expr_names::ResolveFault;
+use sheet_heads::sheet_texts::{Place, Reader};
+use sheet_heads::sheet_values::sheet_fault;
 use sheet_heads::{
     Form, bound_head, call_head, check_repeats, form_of, leaf, literal_head, needed_expr,
     read_head, refuse_if,
 };
 use sheet_nodes::{Node, check_none, is_with_param, misplaced_node, split_front};
 use sheet_table::{XslElement, check_attributes, content_of, is_in_xslt, misplaced, xsl_element};
-use sheet_texts::{Place, Reader};
-use sheet_values::sheet_fault;
 use std::alloc::Global;
 use xt_names::{Binding, List, Name, SheetStaticCode};
 use xt_sheets::instrs::{Bound, Instr, When};

@@ -14,3 +14,4 @@ mod parts;
 
 pub use bodies::{read_body, read_bound};
 pub use parts::{is_none, with_item};
+pub use sheet_heads;

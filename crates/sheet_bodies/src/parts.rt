@@ -17,10 +17,10 @@ ghost use Rattle.sheet_table.specs.Elements.{xsl_element};
 ghost use Rattle.std.specs.Prelude.{IfOk};
 
 use expr_names::ResolveFault;
+use sheet_heads::sheet_texts::Place;
 use sheet_heads::{BoundHead, CallHead, Head, with_body, with_passed, with_value};
 use sheet_nodes::{Node, is_variable};
 use sheet_table::{XslElement, xsl_element};
-use sheet_texts::Place;
 use std::alloc::{AllocError, Global};
 use xt_names::{List, Name, Shared};
 use xt_sheets::instrs::{Bound, Instr, When};

@@ -14,7 +14,7 @@ use Rattle.xt_sheets.specs.declared.sheets.KeyRule.{KeyRule}
 use Rattle.xt_sheets.specs.declared.sheets.Sheet.{Sheet}
 use Rattle.name_rules.specs.declared.functions.Signature.{Signature}
 use Rattle.name_rules.specs.Scopes.{with_names, names_differ, has_function, with_function}
-use Rattle.sheet_expressions.specs.Keys.{braced}
+use Rattle.sheet_names.specs.SheetExpressions.Keys.{braced}
 use Rattle.sheet_uses.specs.declared.uses.Use.{Use}
 use Rattle.sheet_uses.specs.declared.uses.Use.TheVariants as use_of
 use Rattle.sheet_names.specs.declared.names.Names.{Names}

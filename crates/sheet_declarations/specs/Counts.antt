@@ -4,8 +4,8 @@ use Rattle.std.specs.List.{list_any}
 use Rattle.xt_names.specs.declared.names.ExprName.{ExprName}
 use Rattle.name_rules.specs.declared.functions.Signature.{Signature}
 use Rattle.name_rules.specs.Scopes.{has_function, with_function, same_signature, signature}
-use Rattle.xt_sheets.specs.declared.instrs.Instr.TheViews.{out-Bound}
-use Rattle.xt_sheets.specs.declared.instrs.Bound.{Bound}
+use Rattle.sheet_modules.specs.XtSheets.declared.instrs.Instr.TheViews.{out-Bound}
+use Rattle.sheet_modules.specs.XtSheets.declared.instrs.Bound.{Bound}
 use Rattle.sheet_modules.specs.declared.modules.Part.{Part}
 use Rattle.sheet_modules.specs.declared.modules.Part.TheVariants as part
 use Rattle.sheet_declarations.specs.declared.lists.Declaration.{Declaration}

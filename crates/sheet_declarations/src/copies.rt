@@ -2,10 +2,10 @@
 ghost use Rattle.std.specs.Prelude.{◌≡◌, IfOk};
 ghost use Rattle.sheet_modules.specs.declared.modules.Part.TheVariants.{Template};
 
+use sheet_modules::xt_sheets::{copy_bound_list, copy_instr_list};
 use sheet_modules::{FunctionPart, GlobalPart, KeyPart, Part, RulePart, TemplatePart};
 use std::alloc::AllocError;
 use xt_names::{List, Share};
-use xt_sheets::{copy_bound_list, copy_instr_list};
 use xt_types::{copy_option, copy_space_rule_list};
 
 /// The same declaration.

@@ -12,7 +12,7 @@ use Rattle.expr_terms.specs.declared.raws.Raw.{Raw}
 use Rattle.expr_terms.specs.declared.raws.Raw.TheVariants.{Leaf as leaf, Node as node}
 use Rattle.expr_terms.specs.declared.raws.Raw.TheViews.{out-Raw}
 use Rattle.expr_terms.specs.declared.raws.Raw.TheOpen.{Raw-F, Leaf, Node}
-use Rattle.expr_meant.specs.Names.{written_in}
+use Rattle.sheet_values.specs.ExprMeant.Names.{written_in}
 use Rattle.expr_names.specs.Names.{undeclared_in, expr_name}
 use Rattle.expr_names.specs.declared.written.Written.{Written}
 use Rattle.sheet_expressions.specs.declared.calls.SheetCall.{SheetCall}

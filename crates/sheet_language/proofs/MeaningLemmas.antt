@@ -5,7 +5,7 @@ use Rattle.xt_syntax.specs.declared.exprs.Expr.{Expr}
 use Rattle.expr_terms.specs.declared.raws.Raw.{Raw}
 use Rattle.expr_reader.specs.declared.readings.Reading.{Reading}
 use Rattle.expr_reader.specs.declared.readings.Reading.TheVariants as read
-use Rattle.expr_resolve.specs.Folds.{broken_of, expr_meant}
+use Rattle.pattern_readings.specs.ExprResolve.Folds.{broken_of, expr_meant}
 use Rattle.expr_readings.specs.Readings.{raw_reading}
 use Rattle.expr_readings.proofs.ReadingLemmas.{read_value, value_read}
 use Rattle.sheet_expressions.specs.Checked.{checked}

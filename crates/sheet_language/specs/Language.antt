@@ -12,10 +12,10 @@ use Rattle.xt_syntax.specs.declared.patterns.Pattern.{Pattern}
 use Rattle.expr_terms.specs.declared.raws.Raw.{Raw}
 use Rattle.expr_reader.specs.declared.readings.Reading.{Reading as RawReading}
 use Rattle.expr_reader.specs.declared.readings.Reading.TheVariants as read
-use Rattle.expr_resolve.specs.declared.setting.Setting.{Setting}
-use Rattle.expr_resolve.specs.Folds.{broken_of, expr_meant, type_broken, type_meant}
+use Rattle.pattern_readings.specs.ExprResolve.declared.setting.Setting.{Setting}
+use Rattle.pattern_readings.specs.ExprResolve.Folds.{broken_of, expr_meant, type_broken, type_meant}
 use Rattle.expr_readings.specs.Readings.{raw_reading, type_reading}
-use Rattle.pattern_syntax.specs.Readings as pattern
+use Rattle.pattern_readings.specs.PatternSyntax.Readings as pattern
 use Rattle.pattern_readings.specs.Readings.{text_reading}
 use Rattle.pattern_priorities.specs.Priorities.{priority_of}
 use Rattle.sheet_expressions.specs.Checked.{checked}

@@ -3,7 +3,7 @@ use Rattle.std.specs.Prelude.{◌≡◌, ◌≤◌, ℕ, List, [], Some}
 use Rattle.xt_syntax.specs.declared.exprs.Expr.{Expr}
 use Rattle.expr_terms.specs.declared.raws.Raw.{Raw}
 use Rattle.expr_terms.specs.Nest.{raw_nest_of}
-use Rattle.expr_resolve.specs.Folds.{broken_of, expr_meant}
+use Rattle.pattern_readings.specs.ExprResolve.Folds.{broken_of, expr_meant}
 use Rattle.expr_readings.specs.Spelled.{IsRead}
 use Rattle.sheet_expressions.specs.Checked.{checked}
 use Rattle.sheet_texts.specs.declared.places.Place.{Place}

@@ -2,7 +2,7 @@
 use Rattle.std.specs.Prelude.{List, [], true, codes}
 use Rattle.xt_names.specs.declared.names.Binding.{Binding}
 use Rattle.xt_syntax.specs.declared.prefixes.Prefixes.{Prefixes}
-use Rattle.expr_resolve.specs.declared.setting.Setting.{Setting}
+use Rattle.pattern_readings.specs.ExprResolve.declared.setting.Setting.{Setting}
 
 -- names of elements and types without prefix have no uri, functions have that of XPath's functions
 abbrev pub prefixes_at : List Binding → Prefixes

@@ -1,6 +1,6 @@
 // Expressions.
 ghost use Rattle.expr_names.specs.Answers.{Answers};
-ghost use Rattle.expr_resolve.specs.Folds.{broken_of, expr_meant};
+ghost use Rattle.pattern_readings.specs.ExprResolve.Folds.{broken_of, expr_meant};
 ghost use Rattle.sheet_expressions.specs.Checked.{checked};
 ghost use Rattle.sheet_language.specs.Language.{checked_faults, checked_value};
 ghost use Rattle.sheet_language.specs.Language.{raw_faults, raw_value, expr_faults, expr_value};
@@ -9,11 +9,11 @@ use crate::settings::{LIMIT, nothing_spelled, setting_at, too_deep};
 use expr_names::ResolveFault;
 use expr_reader::Reading;
 use expr_readings::raw_expression;
-use expr_resolve::{Setting, resolve};
 use expr_terms::Raw;
+use pattern_readings::expr_resolve::{Setting, resolve};
 use sheet_expressions::checked;
 use sheet_texts::Place;
-use sheet_values::sheet_fault;
+use sheet_texts::sheet_values::sheet_fault;
 use std::alloc::Global;
 use xt_names::{Shared, SheetStaticCode, Text};
 use xt_syntax::Expr;

@@ -9,8 +9,8 @@ ghost use Rattle.sheet_language.specs.Settings.{prefixes_at, setting_at};
 
 use bound_prefixes::BoundPrefixes;
 use expr_names::{ResolveFault, no_text, static_fault};
-use expr_resolve::Setting;
-use sheet_values::sheet_fault;
+use pattern_readings::expr_resolve::Setting;
+use sheet_texts::sheet_values::sheet_fault;
 use std::alloc::{AllocError, Global};
 use xt_names::{QueryStaticCode, SheetStaticCode, Text};
 use xt_syntax::Prefixes;

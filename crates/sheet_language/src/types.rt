@@ -1,6 +1,6 @@
 // Sequence types.
 ghost use Rattle.expr_names.specs.Answers.{Answers};
-ghost use Rattle.expr_resolve.specs.Folds.{type_broken, type_meant};
+ghost use Rattle.pattern_readings.specs.ExprResolve.Folds.{type_broken, type_meant};
 ghost use Rattle.sheet_language.specs.Language.{raw_type_faults, raw_type_value};
 ghost use Rattle.sheet_language.specs.Language.{type_faults, type_value};
 
@@ -8,8 +8,8 @@ use crate::settings::{LIMIT, nothing_spelled, setting_at, too_deep};
 use expr_names::ResolveFault;
 use expr_reader::Reading;
 use expr_readings::raw_type;
-use expr_resolve::{Setting, resolve_type};
 use expr_terms::Raw;
+use pattern_readings::expr_resolve::{Setting, resolve_type};
 use sheet_texts::Place;
 use std::alloc::Global;
 use xt_names::Text;

@@ -16,7 +16,7 @@ use Rattle.text_tokens.specs.Lexed.{front_of, token_of, with_token, lexed_here, 
 use Rattle.text_tokens.specs.Lexed.{lexed_from, lexed}
 use Rattle.text_tokens.proofs.TokenEnds as ends
 use Rattle.text_tokens.proofs.TokenEnds.{TokenEnd, token_found}
-use Rattle.sound_forms.specs.Sound.{is_sound_token, are_sound}
+use Rattle.piece_laws.specs.SoundForms.Sound.{is_sound_token, are_sound}
 use Rattle.piece_laws.proofs.Terms.{term_fits}
 use Rattle.sheet_laws.proofs.Literals.{unquoted_sound}
 

@@ -4,19 +4,19 @@ use Rattle.std.proofs.Common.{◌∙◌, codes, option_and_then}
 use Rattle.std.proofs.lemmas.Bool.{and_from}
 use Rattle.xt_names.specs.Classes.{is_xml_text, is_in_ranges}
 use Rattle.xt_names.specs.declared.names.Binding.{Binding}
-use Rattle.closed_queries.specs.Closed.{is_good_kind}
+use Rattle.expr_regular.specs.ClosedQueries.Closed.{is_good_kind}
 use Rattle.expr_readings.specs.Readings.{terms_in, type_reading}
 use Rattle.expr_readings.proofs.ReadingLemmas.{value_type}
 use Rattle.expr_reader.specs.declared.readings.Reading.{Reading as RawReading}
 use Rattle.expr_reader.specs.declared.readings.Reading.TheVariants as read
-use Rattle.expr_resolve.specs.Folds.{broken_of}
+use Rattle.expr_regular.specs.ExprResolve.Folds.{broken_of}
 use Rattle.expr_regular.proofs.Regular.{type_regular, type_sound}
 use Rattle.expr_tokens.specs.Terms.{terms_of}
 use Rattle.sheet_language.specs.Settings.{prefixes_at, setting_at}
 use Rattle.sheet_language.specs.Language.{most_levels, raw_type_faults, raw_type_value}
 use Rattle.sheet_language.specs.Language.{type_faults, type_value}
-use Rattle.sheet_texts.specs.declared.places.Place.{Place}
-use Rattle.sound_forms.specs.Sound.{SoundBindings, SoundPrefixes, SoundUri}
+use Rattle.sheet_language.specs.SheetTexts.declared.places.Place.{Place}
+use Rattle.piece_laws.specs.SoundForms.Sound.{SoundBindings, SoundPrefixes, SoundUri}
 use Rattle.sheet_laws.proofs.Lexed.{text_sound}
 
 no_uri : SoundUri []

@@ -1,0 +1,3 @@
+pub use Rattle.expr_readings.specs as ExprReadings
+pub use Rattle.sheet_language.specs.PatternReadings
+pub use Rattle.sheet_language.specs as SheetLanguage

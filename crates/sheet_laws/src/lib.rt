@@ -5,12 +5,12 @@
 #![tactic(auto)]
 
 ghost use Rattle.std.specs.Prelude.{◌≡◌, ℕ, List, [], Some, true};
-ghost use Rattle.closed_queries.specs.Closed.{is_good_kind};
+ghost use Rattle.expr_regular.specs.ClosedQueries.Closed.{is_good_kind};
 ghost use Rattle.expr_terms.specs.declared.tokens.Token.{Token};
 ghost use Rattle.expr_readings.specs.Readings.{terms_in};
 ghost use Rattle.sheet_language.specs.Language.{type_faults, type_value};
-ghost use Rattle.sheet_texts.specs.declared.places.Place.{Place};
-ghost use Rattle.sound_forms.specs.Sound.{SoundBindings, are_sound};
+ghost use Rattle.sheet_language.specs.SheetTexts.declared.places.Place.{Place};
+ghost use Rattle.piece_laws.specs.SoundForms.Sound.{SoundBindings, are_sound};
 
 /// The tokens of a text of XPath are sound: their texts are of characters of XML, and their names
 /// can be written (XML 1.0, 2.2; Namespaces in XML 1.0, 3; XPath 2.0, A.2).

@@ -1,0 +1,1 @@
+pub use Rattle.xt_sheets.specs as XtSheets

@@ -16,3 +16,4 @@ mod templates;
 pub use links::Link;
 pub use modules::{FunctionPart, GlobalPart, KeyPart, Module, Part};
 pub use templates::{ModeSet, RulePart, TemplatePart};
+pub use xt_sheets;

@@ -2,7 +2,7 @@
 use crate::templates::{RulePart, TemplatePart};
 use xt_names::{ExprName, List, Shared};
 use xt_sheets::instrs::{Bound, Instr};
-use xt_types::{SeqType, SpaceRule};
+use xt_sheets::xt_types::{SeqType, SpaceRule};
 
 /// A global variable or parameter (XSLT 2.0, 9.5).
 #[derive(Drop)]

@@ -4,7 +4,7 @@ ghost use Rattle.std.specs.Prelude.{◌≡◌, IfOk};
 use std::alloc::AllocError;
 use xt_names::{ExprName, List, Shared};
 use xt_sheets::instrs::{Bound, Instr};
-use xt_types::SeqType;
+use xt_sheets::xt_types::SeqType;
 
 /// A template (XSLT 2.0, 6.1 and 10.1).
 #[derive(Drop)]

@@ -1,12 +1,12 @@
 // The content of an element, part by part.
 ghost use Rattle.std.specs.Prelude.{◌≡◌, ◌≤◌, length, take, drop};
-ghost use Rattle.expr_names.specs.Answers.{Answers};
+ghost use Rattle.sheet_table.specs.ExprNames.Answers.{Answers};
 ghost use Rattle.sheet_nodes.specs.Parts.{xsl_of, is_lead, leading, behind};
 ghost use Rattle.sheet_nodes.specs.Parts.{is_sort, is_with_param, is_variable, misplaced_node, none_faults};
 ghost use Rattle.xt_names.specs.declared.codes.Code.TheVariants.{SheetStatic};
 
 use crate::nodes::Node;
-use expr_names::ResolveFault;
+use sheet_table::expr_names::ResolveFault;
 use sheet_table::{Content, XslElement, leads, misplaced, xsl_element};
 use xt_names::{Code, SheetStaticCode};
 

@@ -9,8 +9,8 @@ use Rattle.sheet_nodes.specs.declared.nodes.Node.{Node}
 use Rattle.sheet_values.specs.Names.{function_faults, qname_value}
 use Rattle.sheet_texts.specs.declared.places.Place.{Place}
 use Rattle.sheet_texts.specs.Readings.{Reading}
-use Rattle.sheet_heads.specs.Attributes.{optional_faults, optional_value}
-use Rattle.sheet_heads.specs.Attributes.{needed_faults, needed_value}
+use Rattle.sheet_bodies.specs.SheetHeads.Attributes.{optional_faults, optional_value}
+use Rattle.sheet_bodies.specs.SheetHeads.Attributes.{needed_faults, needed_value}
 use Rattle.sheet_modules.specs.declared.modules.FunctionPart.{FunctionPart}
 use Rattle.sheet_modules.specs.declared.modules.Part.{Part}
 use Rattle.sheet_modules.specs.declared.modules.Part.TheVariants.{Function}

@@ -13,7 +13,7 @@ use Rattle.sheet_values.specs.Rules.{broken}
 use Rattle.sheet_values.specs.Names.{qname_value}
 use Rattle.sheet_texts.specs.declared.places.Place.{Place}
 use Rattle.sheet_texts.specs.Readings.{Reading}
-use Rattle.sheet_heads.specs.Attributes.{needed_faults, needed_value}
+use Rattle.sheet_bodies.specs.SheetHeads.Attributes.{needed_faults, needed_value}
 use Rattle.sheet_modules.specs.declared.modules.KeyPart.{KeyPart}
 use Rattle.sheet_modules.specs.declared.modules.Part.{Part}
 use Rattle.sheet_modules.specs.declared.modules.Part.TheVariants.{Key}

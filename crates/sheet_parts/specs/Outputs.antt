@@ -13,7 +13,7 @@ use Rattle.sheet_nodes.specs.Parts.{none_faults}
 use Rattle.sheet_nodes.specs.declared.nodes.Node.{Node}
 use Rattle.sheet_values.specs.Elements.{name_tests_faults, name_tests_value}
 use Rattle.sheet_texts.specs.declared.places.Place.{Place}
-use Rattle.sheet_heads.specs.Attributes.{needed_faults, needed_value}
+use Rattle.sheet_bodies.specs.SheetHeads.Attributes.{needed_faults, needed_value}
 use Rattle.sheet_modules.specs.declared.modules.Part.{Part}
 use Rattle.sheet_modules.specs.declared.modules.Part.TheVariants.{Space, Output}
 

@@ -21,10 +21,10 @@ use Rattle.sheet_values.specs.Names.{declared_faults, qname_value}
 use Rattle.sheet_texts.specs.declared.places.Place.{Place}
 use Rattle.sheet_texts.specs.Places.{within}
 use Rattle.sheet_texts.specs.Readings.{Reading}
-use Rattle.sheet_heads.specs.Attributes.{optional_faults, optional_value}
-use Rattle.sheet_heads.specs.Attributes.{needed_faults, needed_value}
-use Rattle.sheet_heads.specs.Bindings.{is_yes}
-use Rattle.sheet_heads.specs.Repeats.{repeats_broken}
+use Rattle.sheet_bodies.specs.SheetHeads.Attributes.{optional_faults, optional_value}
+use Rattle.sheet_bodies.specs.SheetHeads.Attributes.{needed_faults, needed_value}
+use Rattle.sheet_bodies.specs.SheetHeads.Bindings.{is_yes}
+use Rattle.sheet_bodies.specs.SheetHeads.Repeats.{repeats_broken}
 use Rattle.sheet_bodies.specs.Bodies.{is_none, bind_faults, bind_value, body_faults, body_value}
 
 -- instructions nest at most 40 levels

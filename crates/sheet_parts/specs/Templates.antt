@@ -18,7 +18,7 @@ use Rattle.sheet_values.specs.declared.modes.Modes.TheVariants as mode
 use Rattle.sheet_texts.specs.declared.places.Place.{Place}
 use Rattle.sheet_texts.specs.Names.{number_of}
 use Rattle.sheet_texts.specs.Readings.{Reading}
-use Rattle.sheet_heads.specs.Attributes.{optional_faults, optional_value}
+use Rattle.sheet_bodies.specs.SheetHeads.Attributes.{optional_faults, optional_value}
 use Rattle.sheet_modules.specs.declared.templates.ModeSet.{ModeSet}
 use Rattle.sheet_modules.specs.declared.templates.ModeSet.TheVariants.{All, Numbers}
 use Rattle.sheet_modules.specs.declared.templates.RulePart.{RulePart}

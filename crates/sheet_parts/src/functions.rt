@@ -4,7 +4,7 @@ ghost use Rattle.expr_names.specs.Answers.{Answers};
 ghost use Rattle.xt_names.specs.declared.codes.Code.{Code};
 ghost use Rattle.sheet_table.specs.Attributes.{attribute};
 ghost use Rattle.sheet_values.specs.Names.{function_faults, qname_value};
-ghost use Rattle.sheet_heads.specs.Attributes.{needed_faults, needed_value};
+ghost use Rattle.sheet_bodies.specs.SheetHeads.Attributes.{needed_faults, needed_value};
 ghost use Rattle.sheet_modules.specs.declared.modules.Part.TheVariants.{Function};
 ghost use Rattle.sheet_parts.specs.declared.parameters.Content.{Content as AnyContent};
 ghost use Rattle.sheet_parts.specs.Parameters.{front, arguments_faults, arguments_value};
@@ -14,7 +14,7 @@ ghost use Rattle.sheet_parts.specs.Functions.{element_faults, element_value};
 
 use crate::parameters::{Content, arguments, with_behind};
 use expr_names::ResolveFault;
-use sheet_heads::optional_type;
+use sheet_bodies::sheet_heads::optional_type;
 use sheet_modules::{FunctionPart, Part};
 use sheet_nodes::{Node, split_front};
 use sheet_table::{Content as Contents, XslElement, attribute, check_attributes};

@@ -2,12 +2,12 @@
 ghost use Rattle.std.specs.Prelude.{◌≡◌, map, IfOk, codes};
 ghost use Rattle.expr_names.specs.Answers.{Answers};
 ghost use Rattle.sheet_table.specs.Attributes.{attribute};
-ghost use Rattle.sheet_heads.specs.Attributes.{needed_faults, needed_value};
+ghost use Rattle.sheet_bodies.specs.SheetHeads.Attributes.{needed_faults, needed_value};
 ghost use Rattle.sheet_parts.specs.Keys.{key_of, keys_of, use_faults};
 ghost use Rattle.sheet_parts.specs.Keys.{element_faults, element_value};
 
 use expr_names::ResolveFault;
-use sheet_heads::{needed_name, refuse_if};
+use sheet_bodies::sheet_heads::{needed_name, refuse_if};
 use sheet_modules::{KeyPart, Part};
 use sheet_nodes::{Node, check_none};
 use sheet_table::{XslElement, attribute, check_attributes};

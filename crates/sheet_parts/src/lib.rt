@@ -18,4 +18,6 @@ mod parameters;
 mod templates;
 mod tops;
 
+pub use sheet_bodies;
+pub use sheet_bodies::sheet_heads;
 pub use tops::part;

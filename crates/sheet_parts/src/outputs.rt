@@ -2,7 +2,7 @@
 ghost use Rattle.std.specs.Prelude.{◌≡◌, map, IfOk, codes};
 ghost use Rattle.expr_names.specs.Answers.{Answers};
 ghost use Rattle.sheet_table.specs.Attributes.{attribute};
-ghost use Rattle.sheet_heads.specs.Attributes.{needed_faults, needed_value};
+ghost use Rattle.sheet_bodies.specs.SheetHeads.Attributes.{needed_faults, needed_value};
 ghost use Rattle.sheet_values.specs.Elements.{name_tests_faults, name_tests_value};
 ghost use Rattle.sheet_modules.specs.declared.modules.Part.TheVariants.{Linked};
 ghost use Rattle.sheet_table.specs.declared.elements.XslElement.TheVariants.{Output};

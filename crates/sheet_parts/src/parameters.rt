@@ -14,8 +14,8 @@ ghost use Rattle.sheet_parts.specs.Parameters.{arguments_faults, arguments_value
 ghost use Rattle.sheet_parts.specs.Parameters.{behind_faults, behind_value};
 
 use expr_names::ResolveFault;
+use sheet_bodies::sheet_heads::{check_repeats, is_yes, needed_name, optional_type, refuse_if};
 use sheet_bodies::{is_none, read_body, read_bound, with_item};
-use sheet_heads::{check_repeats, is_yes, needed_name, optional_type, refuse_if};
 use sheet_nodes::{Node, misplaced_node, split_front};
 use sheet_table::{Content as Contents, XslElement, check_attributes, has};
 use sheet_texts::{Place, Reader};

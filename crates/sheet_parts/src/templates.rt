@@ -4,7 +4,7 @@ ghost use Rattle.expr_names.specs.Answers.{Answers};
 ghost use Rattle.xt_names.specs.declared.codes.Code.{Code};
 ghost use Rattle.xt_names.specs.declared.codes.SheetStaticCode.TheVariants.{XTSE0020};
 ghost use Rattle.sheet_table.specs.Attributes.{attribute};
-ghost use Rattle.sheet_heads.specs.Attributes.{optional_faults, optional_value};
+ghost use Rattle.sheet_bodies.specs.SheetHeads.Attributes.{optional_faults, optional_value};
 ghost use Rattle.sheet_texts.specs.Names.{number_of};
 ghost use Rattle.sheet_values.specs.Names.{declared_faults, qname_value};
 ghost use Rattle.sheet_values.specs.Priorities.{priority_faults, priority_value};
@@ -20,7 +20,7 @@ ghost use Rattle.sheet_parts.specs.Templates.{template_faults, template_value};
 
 use crate::parameters::{Content, params, with_behind};
 use expr_names::ResolveFault;
-use sheet_heads::{optional_type, refuse_if};
+use sheet_bodies::sheet_heads::{optional_type, refuse_if};
 use sheet_modules::{ModeSet, Part, RulePart, TemplatePart};
 use sheet_nodes::{Node, split_front};
 use sheet_table::{Content as Contents, XslElement, attribute, check_attributes, has};

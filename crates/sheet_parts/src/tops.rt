@@ -12,7 +12,7 @@ use crate::keys::key;
 use crate::outputs::{link, output, space};
 use crate::templates::template;
 use expr_names::ResolveFault;
-use sheet_heads::refuse_if;
+use sheet_bodies::sheet_heads::refuse_if;
 use sheet_modules::Part;
 use sheet_nodes::Node;
 use sheet_table::{XslElement, is_in_xslt, misplaced, xsl_element};

@@ -11,7 +11,7 @@ use Rattle.sheet_modules.specs.declared.modules.Part.TheVariants as part
 use Rattle.sheet_modules.specs.declared.modules.KeyPart.{KeyPart}
 use Rattle.sheet_declarations.specs.declared.lists.Declaration.{Declaration}
 use Rattle.sheet_declarations.specs.Counts.{global_name}
-use Rattle.sheet_expressions.specs.Keys.{braced}
+use Rattle.sheet_names.specs.SheetExpressions.Keys.{braced}
 use Rattle.sheet_names.specs.declared.names.Names.{Names}
 use Rattle.sheet_names.specs.Names.{as_name}
 

@@ -2,7 +2,7 @@
 ghost use Rattle.std.specs.Prelude.{◌≡◌, ◌++◌, [], map, IfOk, OnOk};
 ghost use Rattle.name_rules.specs.Scopes.{with_name, with_names};
 ghost use Rattle.sheet_names.specs.Names.{as_name};
-ghost use Rattle.sheet_expressions.specs.Keys.{braced};
+ghost use Rattle.sheet_names.specs.SheetExpressions.Keys.{braced};
 ghost use Rattle.sheet_rules.specs.Names.{global_names, template_names, with_functions, with_keys};
 ghost use Rattle.sheet_rules.specs.Names.{with_function_of, with_keys_of, key_name, names_of};
 ghost use Rattle.sheet_rules.specs.Names.{missing_codes};

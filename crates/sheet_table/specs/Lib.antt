@@ -7,3 +7,4 @@ pub mod Choices
 pub mod ChoicesOfCode
 pub mod Contents
 pub mod Rules
+pub use Rattle.expr_names.specs as ExprNames

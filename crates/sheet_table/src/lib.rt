@@ -21,4 +21,5 @@ mod texts;
 pub use attributes::{attribute, has, is_in_xslt};
 pub use contents::{Content, content_of, holds_body, leads};
 pub use elements::{XslElement, is_left_out_element, misplaced, xsl_element};
+pub use expr_names;
 pub use rules::{check_attributes, check_literal_attributes};

@@ -20,4 +20,5 @@ pub use laws::templates_mean_their_parts;
 pub use names::NameTable;
 pub use places::{Place, bound_within};
 pub use readers::Reader;
+pub use sheet_values;
 pub use templates::template;

@@ -7,3 +7,4 @@ pub mod Priorities
 pub mod Within
 pub mod Templates
 pub mod TemplateLaws
+pub use Rattle.query_options.specs.ExprMeant

@@ -27,6 +27,7 @@ pub use faults::sheet_fault;
 pub use modes::{ModeChoice, Modes, default_mode, mode_choice, mode_list};
 pub use names::{declared_name, function_name, is_reserved, qname, written_name};
 pub use priorities::priority;
+pub use query_options::expr_meant;
 pub use template_laws::templates_are_read;
 pub use templates::{Piece, template_pieces};
 pub use tests_of_elements::name_tests;

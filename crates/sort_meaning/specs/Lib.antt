@@ -1,2 +1,3 @@
 pub mod Sorted
 pub mod Related
+pub use Rattle.order_group.specs as OrderGroup

@@ -7,9 +7,9 @@ use Rattle.xt_names.specs.declared.codes.Code.TheVariants.{Dynamic}
 use Rattle.xt_names.specs.declared.codes.DynamicCode.TheVariants.{FOAR0002}
 use Rattle.xt_atoms.specs.declared.atoms.Atom.{Atom as AtomValue}
 use Rattle.xt_tree.specs.Place.{subtree_of}
-use Rattle.xdm_items.specs.Values.{typed_value_below}
-use Rattle.xdm_items.specs.declared.items.Item.{Item}
-use Rattle.xdm_items.specs.declared.items.Item.TheVariants.{Node, Atom}
+use Rattle.order_group.specs.XdmItems.Values.{typed_value_below}
+use Rattle.order_group.specs.XdmItems.declared.items.Item.{Item}
+use Rattle.order_group.specs.XdmItems.declared.items.Item.TheVariants.{Node, Atom}
 use Rattle.order_group.specs.Rows.{Cell, Row, Keyed, mixed_column, in_order}
 use Rattle.outcomes.specs.Outcome.{Outcome, Ends, Fails, and_then, step_outcome, for_each}
 

@@ -50,13 +50,13 @@ use Rattle.xt_syntax.specs.declared.exprs.Clause.TheFolds.{fold-roll-Expr, fold-
 use Rattle.xt_syntax.specs.declared.exprs.Clause.TheFolds.{fold-roll-Part, fold-roll-Flwor, fold_out-Arm, fold_out-Bind}
 use Rattle.xt_syntax.specs.declared.exprs.Clause.TheFolds.{fold_out-DirectAttr, fold_out-Order}
 use Rattle.xt_syntax.specs.declared.exprs.Clause.TheFolds.{map-Expr, map-Clause, map-NameSource, map-Part, map-Flwor}
-use Rattle.xt_forms.specs.Regular.{regulars, every, every_regular, is_cast_type}
-use Rattle.xt_forms.specs.Regular.{is_cast_name, is_bare_name, is_regular_kind, are_regular_parts}
-use Rattle.xt_forms.specs.Regular.{has_no_child, expr_facts, clause_regular, name_facts, part_facts}
-use Rattle.xt_forms.specs.Regular.{flwor_regular, expr_facts_of, is_regular_arm, is_regular_clause}
-use Rattle.xt_forms.specs.Regular.{is_regular_bind, is_regular_order, name_facts_of}
-use Rattle.xt_forms.specs.Regular.{is_regular_attr, part_facts_of, is_regular_flwor}
-use Rattle.xt_forms.specs.Regular.{is_regular_expr}
+use Rattle.closed_queries.specs.XtForms.Regular.{regulars, every, every_regular, is_cast_type}
+use Rattle.closed_queries.specs.XtForms.Regular.{is_cast_name, is_bare_name, is_regular_kind, are_regular_parts}
+use Rattle.closed_queries.specs.XtForms.Regular.{has_no_child, expr_facts, clause_regular, name_facts, part_facts}
+use Rattle.closed_queries.specs.XtForms.Regular.{flwor_regular, expr_facts_of, is_regular_arm, is_regular_clause}
+use Rattle.closed_queries.specs.XtForms.Regular.{is_regular_bind, is_regular_order, name_facts_of}
+use Rattle.closed_queries.specs.XtForms.Regular.{is_regular_attr, part_facts_of, is_regular_flwor}
+use Rattle.closed_queries.specs.XtForms.Regular.{is_regular_expr}
 use Rattle.closed_queries.specs.Texts.{is_sound_expr_name, is_sound_name, is_sound_attribute_name}
 use Rattle.closed_queries.specs.Texts.{is_sound_test, is_sound_type, is_sound_kind}
 use Rattle.closed_queries.specs.ExprTexts.{Bound, sounds, every_bound, expr_sound, clause_sound}

@@ -19,7 +19,7 @@ use Rattle.xt_names.specs.declared.kinds.AtomType.TheVariants as atom
 use Rattle.xt_types.specs.Regular.{is_regular_name_test, is_kind_name}
 use Rattle.xt_types.specs.declared.node_tests.NameTest.{NameTest}
 use Rattle.xt_types.specs.declared.node_tests.NameTest.TheVariants as name
-use Rattle.xt_forms.specs.Regular.{is_cast_type, is_cast_name, is_bare_name}
+use Rattle.closed_queries.specs.XtForms.Regular.{is_cast_type, is_cast_name, is_bare_name}
 use Rattle.closed_queries.specs.Texts.{is_sound_expr_name, is_sound_name, is_sound_name_test}
 use Rattle.expr_names.specs.declared.written.Written.{Written}
 use Rattle.expr_names.specs.declared.written.WrittenTest.TheVariants as written

@@ -13,7 +13,7 @@ use Rattle.xt_types.specs.declared.node_tests.Test.TheVariants as test
 use Rattle.xt_forms.specs.Nest.{pattern_nest_of}
 use Rattle.xt_syntax.specs.declared.patterns.Pattern.{Pattern}
 use Rattle.xt_syntax.specs.declared.patterns.PatternStep.{PatternStep}
-use Rattle.quiet_meaning.specs.Quietly.{is_pattern_predicate}
+use Rattle.pattern_forms.specs.QuietMeaning.Quietly.{is_pattern_predicate}
 
 unfoldable pub is_pattern_axis : Axis → Bool
 is_pattern_axis axis.Child = true

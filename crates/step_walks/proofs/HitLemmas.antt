@@ -4,9 +4,9 @@ use Rattle.std.specs.Prelude.{if◌then◌else◌}
 use Rattle.std.specs.List.{filter}
 use Rattle.std.specs.Option.{option_to_list}
 use Rattle.xt_tree.specs.Place.{Place}
-use Rattle.xt_types.specs.declared.axes.Axis.{Axis}
-use Rattle.xt_types.specs.declared.node_tests.Test.{Test}
-use Rattle.node_tests.specs.Tests.{passes_at}
+use Rattle.node_axes.specs.XtTypes.declared.axes.Axis.{Axis}
+use Rattle.node_axes.specs.XtTypes.declared.node_tests.Test.{Test}
+use Rattle.node_axes.specs.NodeTests.Tests.{passes_at}
 use Rattle.node_axes.specs.Course.{Course, to_come, is_at_hit}
 use Rattle.step_walks.specs.Hits.{Gives, hits_ahead, steps_to_hit, steps_ahead, stands_at}
 

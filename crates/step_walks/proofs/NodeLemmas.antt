@@ -6,9 +6,9 @@ use Rattle.std.proofs.lemmas.List.Folds.{list_any-append}
 use Rattle.std.proofs.lemmas.List.Sorted.{IsPermutation-reverse, IsPermutation-sym, Contains-permutation}
 use Rattle.xt_tree.specs.Place.{Place}
 use Rattle.xt_tree.specs.Walk.{Spot, spots_of}
-use Rattle.xt_types.specs.declared.axes.Axis.{Axis}
-use Rattle.xt_types.specs.declared.node_tests.Test.{Test}
-use Rattle.node_tests.specs.Tests.{passes_at}
+use Rattle.node_axes.specs.XtTypes.declared.axes.Axis.{Axis}
+use Rattle.node_axes.specs.XtTypes.declared.node_tests.Test.{Test}
+use Rattle.node_axes.specs.NodeTests.Tests.{passes_at}
 use Rattle.node_axes.specs.Axes.{is_itself, is_reverse, in_axis_order, on_axis, spot_of, place_at, axis_nodes}
 use Rattle.node_axes.proofs.FilterLemmas.{In, In-from_Contains, Contains-from_In}
 use Rattle.step_walks.specs.Nodes.{Focus, Nodes, kept_from, kept_by, kept_by_all, in_tree_order, step_nodes, nodes_of_each, slash_nodes}

@@ -1,9 +1,9 @@
 -- The nodes of an axis that pass the test.
 use Rattle.std.specs.Prelude.{◌≡◌, ℕ, ◌+◌, List, [], ◌∷◌, filter, Bool, true, false, if◌then◌else◌, Option, Some, None}
 use Rattle.xt_tree.specs.Place.{Place}
-use Rattle.xt_types.specs.declared.axes.Axis.{Axis}
-use Rattle.xt_types.specs.declared.node_tests.Test.{Test}
-use Rattle.node_tests.specs.Tests.{passes_at}
+use Rattle.node_axes.specs.XtTypes.declared.axes.Axis.{Axis}
+use Rattle.node_axes.specs.XtTypes.declared.node_tests.Test.{Test}
+use Rattle.node_axes.specs.NodeTests.Tests.{passes_at}
 use Rattle.node_axes.specs.Course.{Course, to_come}
 
 -- the nodes that a cursor has not reached yet and that pass its test

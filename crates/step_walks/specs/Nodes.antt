@@ -3,9 +3,9 @@ use Rattle.std.specs.Prelude.{ℕ, ◌+◌, List, [], ◌∷◌, ◌++◌, map, 
 use Rattle.std.specs.List.{list_any}
 use Rattle.xt_tree.specs.Place.{Place}
 use Rattle.xt_tree.specs.Walk.{spots_of}
-use Rattle.xt_types.specs.declared.axes.Axis.{Axis}
-use Rattle.xt_types.specs.declared.node_tests.Test.{Test}
-use Rattle.node_tests.specs.Tests.{passes_at}
+use Rattle.node_axes.specs.XtTypes.declared.axes.Axis.{Axis}
+use Rattle.node_axes.specs.XtTypes.declared.node_tests.Test.{Test}
+use Rattle.node_axes.specs.NodeTests.Tests.{passes_at}
 use Rattle.node_axes.specs.Axes.{is_itself, spot_of, place_at, axis_nodes}
 
 -- what a predicate looks at: a node, its position from 1, and how many nodes there are

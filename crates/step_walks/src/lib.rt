@@ -12,5 +12,6 @@ mod orders;
 mod positions;
 
 pub use hits::{go_to_hit, next_hit};
+pub use node_axes;
 pub use orders::in_order;
 pub use positions::{predicates_in_turn_need_no_list, raise, zeros};

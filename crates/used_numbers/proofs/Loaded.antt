@@ -11,7 +11,7 @@ use Rattle.xt_names.specs.declared.names.ExprName.{ExprName}
 use Rattle.xt_syntax.specs.declared.exprs.Expr.{Expr}
 use Rattle.xt_syntax.specs.declared.patterns.Pattern.{Pattern}
 use Rattle.doc_reader.specs.declared.Scoped.{Scoped}
-use Rattle.sheet_language.specs.Language.{sheet_reading as reading}
+use Rattle.loaded_sheets.specs.SheetLanguage.Language.{sheet_reading as reading}
 use Rattle.sheet_modules.specs.declared.links.Link.{Link}
 use Rattle.sheet_modules.specs.declared.modules.Part.{Part}
 use Rattle.sheet_modules.specs.declared.modules.Part.TheVariants as part
@@ -21,7 +21,7 @@ use Rattle.sheet_nodes.specs.declared.nodes.Node.TheOpen as form
 use Rattle.sheet_nodes.specs.declared.nodes.Node.TheOpen.{Node-F}
 use Rattle.sheet_nodes.specs.declared.nodes.Node.TheViews.{out-Node}
 use Rattle.sheet_parts.specs.Tops.{top_faults, top_value}
-use Rattle.sheet_rules.specs.Uses.{use_of_key, part_uses, declared_uses}
+use Rattle.declared_uses.specs.SheetRules.Uses.{use_of_key, part_uses, declared_uses}
 use Rattle.sheet_table.specs.Elements.{xsl_element}
 use Rattle.sheet_table.specs.Rules.{attribute_faults}
 use Rattle.sheet_table.specs.declared.elements.XslElement.TheVariants as element
@@ -40,8 +40,8 @@ use Rattle.module_reader.specs.Modules.{parts_faults, parts_value, placed_faults
 use Rattle.module_reader.specs.Modules.{root_layer_faults, root_layer_value, root_place, tops_faults}
 use Rattle.module_reader.specs.Modules.{tops_value}
 use Rattle.module_reader.specs.declared.mentions.Mention.TheVariants as mention
-use Rattle.loaded_parts.specs.Names.{names_alone}
-use Rattle.loaded_parts.specs.Parts.{modules_faults, modules_value}
+use Rattle.loaded_sheets.specs.LoadedParts.Names.{names_alone}
+use Rattle.loaded_sheets.specs.LoadedParts.Parts.{modules_faults, modules_value}
 use Rattle.loaded_sheets.specs.Sheets.{declarations_in, names_in, own_faults}
 use Rattle.added_uses.proofs.Ends.{Adds, adding, expr_adds}
 use Rattle.added_uses.proofs.Bodies.{bound_adds, callee_adds, each_adds}

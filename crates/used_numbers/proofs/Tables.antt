@@ -20,8 +20,8 @@ use Rattle.module_reader.specs.Modules.{module_nodes, nodes_names, root_bound, r
 use Rattle.module_reader.specs.Modules.{with_modes}
 use Rattle.module_reader.specs.declared.mentions.Mention.{Mention}
 use Rattle.module_reader.specs.declared.mentions.Mention.TheVariants as mention
-use Rattle.loaded_parts.specs.Names.{with_levels, with_module, with_span, with_spans}
-use Rattle.loaded_parts.specs.declared.names.SheetNames.{SheetNames}
+use Rattle.loaded_sheets.specs.LoadedParts.Names.{with_levels, with_module, with_span, with_spans}
+use Rattle.loaded_sheets.specs.LoadedParts.declared.names.SheetNames.{SheetNames}
 use Rattle.used_numbers.proofs.Covers.{Sub, covers_top, tops_covered, top_grows, top_first}
 use Rattle.used_numbers.proofs.Covers.{FirstIsDefault}
 

@@ -34,7 +34,7 @@ use Rattle.sheet_parts.specs.Templates.{template_faults, template_value}
 use Rattle.sheet_parts.specs.Tops.{declaration_faults, declaration_value, xsl_faults, xsl_value}
 use Rattle.sheet_parts.specs.Tops.{layer_faults, layer_value, top_faults}
 use Rattle.sheet_parts.specs.Tops.{top_value}
-use Rattle.sheet_rules.specs.Uses.{use_of_key, part_uses}
+use Rattle.declared_uses.specs.SheetRules.Uses.{use_of_key, part_uses}
 use Rattle.sheet_table.specs.Attributes.{attribute, is_in_xslt}
 use Rattle.sheet_table.specs.Elements.{xsl_element}
 use Rattle.sheet_table.specs.declared.contents.Content.TheVariants as content

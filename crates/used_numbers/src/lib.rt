@@ -25,3 +25,5 @@ pub fn numbers_that_are_used_are_there()
         ≡ true }
     ensures default { (l : LoadedSheet) → nat_lt 0 (length (names_in l).modes) ≡ true }
 {}
+
+pub use loaded_sheets;

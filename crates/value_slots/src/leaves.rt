@@ -4,16 +4,16 @@ ghost use Rattle.xt_atoms.specs.declared.atoms.Atom.TheVariants.{Str};
 ghost use Rattle.xdm_items.specs.declared.items.Item.TheVariants.{Atom as as_atom};
 ghost use Rattle.function_arguments.specs.Answers.{of_integer};
 ghost use Rattle.outcomes.specs.Outcome.{Outcome, Ends};
-ghost use Rattle.expr_meaning.specs.Env.{Calls, Keys};
-ghost use Rattle.expr_meaning.specs.Logic.{as_items};
-ghost use Rattle.expr_meaning.specs.Values.{variable, context};
-ghost use Rattle.expr_meaning.specs.Paths.{root_of};
-ghost use Rattle.eval_scopes.specs.Answers.{Answers};
-ghost use Rattle.eval_scopes.specs.Scopes.{env_of, program_of};
+ghost use Rattle.eval_steps.specs.ExprMeaning.Env.{Calls, Keys};
+ghost use Rattle.eval_steps.specs.ExprMeaning.Logic.{as_items};
+ghost use Rattle.eval_steps.specs.ExprMeaning.Values.{variable, context};
+ghost use Rattle.eval_steps.specs.ExprMeaning.Paths.{root_of};
+ghost use Rattle.eval_steps.specs.EvalScopes.Answers.{Answers};
+ghost use Rattle.eval_steps.specs.EvalScopes.Scopes.{env_of, program_of};
 ghost use Rattle.value_slots.specs.Slots.{Leaves};
 
 use crate::slots::put;
-use eval_scopes::{Env, EvalFault, Fixed, context_item, document_root, variable_list};
+use eval_steps::eval_scopes::{Env, EvalFault, Fixed, context_item, document_root, variable_list};
 use eval_steps::{literal_integer, literal_text, truth_list};
 use std::alloc::Global;
 use xdm_items::ItemList;
@@ -72,7 +72,7 @@ pub fn put_context(alloc: Global, env: &Env, value: &mut ItemList) -> Result<(),
 }
 
 /// Puts the root of the context node's tree (XPath 2.0, 3.2), with the errors of
-/// `eval_scopes::document_root`.
+/// `eval_steps::eval_scopes::document_root`.
 #[inline(never)]
 pub fn put_root(alloc: Global, env: &Env, value: &mut ItemList) -> Result<(), EvalFault>
     ensures { (k : ℕ) → Leaves result value.new k (root_of (env_of env.now) k) }

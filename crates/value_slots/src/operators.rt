@@ -1,14 +1,14 @@
 // Operators whose value replaces an operand.
 ghost use Rattle.std.specs.Prelude.{ℕ};
 ghost use Rattle.outcomes.specs.Outcome.{step_outcome};
-ghost use Rattle.operator_values.specs.Types.{instance_value, treated_value};
-ghost use Rattle.eval_values.specs.Operators.{value_of_one, value_of_two};
+ghost use Rattle.eval_steps.specs.OperatorValues.Types.{instance_value, treated_value};
+ghost use Rattle.eval_steps.specs.EvalValues.Operators.{value_of_one, value_of_two};
 ghost use Rattle.value_slots.specs.Slots.{Leaves};
 
 use crate::slots::take;
-use eval_scopes::EvalFault;
-use eval_values::{OneOperator, Operator, apply, apply_to_one};
-use operator_values::{instance, treated};
+use eval_steps::eval_scopes::EvalFault;
+use eval_steps::eval_values::{OneOperator, Operator, apply, apply_to_one};
+use eval_steps::operator_values::{instance, treated};
 use std::alloc::Global;
 use xdm_items::ItemList;
 use xt_types::SeqType;

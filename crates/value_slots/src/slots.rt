@@ -2,11 +2,11 @@
 ghost use Rattle.std.specs.Prelude.{◌≡◌, ◌++◌, ℕ, List, OnOk, []};
 ghost use Rattle.outcomes.specs.Outcome.{Outcome};
 ghost use Rattle.xdm_items.specs.declared.items.Item.{Item};
-ghost use Rattle.eval_scopes.specs.Answers.{Answers};
+ghost use Rattle.eval_steps.specs.EvalScopes.Answers.{Answers};
 ghost use Rattle.value_slots.specs.Slots.{Leaves};
 
-use eval_scopes::EvalFault;
-use eval_values::append;
+use eval_steps::eval_scopes::EvalFault;
+use eval_steps::eval_values::append;
 use std::alloc::{AllocError, Global};
 use std::mem::replace;
 use xdm_items::ItemList;

@@ -13,9 +13,9 @@ use Rattle.xt_forms.specs.Quiet.{is_quiet_expr}
 use Rattle.xdm_items.specs.declared.items.Item.TheVariants.{Node}
 use Rattle.node_tests.specs.Tests.{passes_at}
 use Rattle.node_axes.specs.Axes.{axis_nodes, is_reverse}
-use Rattle.operator_values.specs.Nodes.{is_node}
+use Rattle.expr_meaning.specs.OperatorValues.Nodes.{is_node}
 use Rattle.function_arguments.specs.Arguments.{and_then as result_then}
-use Rattle.lazy_seq.specs.Orders.{in_document_order}
+use Rattle.node_orders.specs.LazySeq.Orders.{in_document_order}
 use Rattle.step_walks.specs.Nodes.{Focus, kept_from, kept_by, kept_by_all, step_nodes, in_tree_order}
 use Rattle.step_walks.proofs.NodeLemmas.{step_found_within}
 use Rattle.quiet_meaning.specs.Paths.{keeps}

@@ -10,11 +10,11 @@ use Rattle.sheet_levels.specs.declared.levels.SheetLevel.{SheetLevel}
 use Rattle.sheet_declarations.specs.declared.lists.Declaration.{Declaration}
 use Rattle.sheet_declarations.specs.Counts.{counted_of}
 use Rattle.wide_rules.specs.Doubles.{code_if}
-use Rattle.sheet_rules.specs.Rules.{broken_rules}
+use Rattle.declared_uses.specs.SheetRules.Rules.{broken_rules}
 use Rattle.sheet_assembly.specs.Named.{each_by, global_if}
 use Rattle.sheet_assembly.specs.Sheets.{Parts, sheet_of}
-use Rattle.sheet_closure.specs.Declared.{keeps_names}
-use Rattle.sheet_closure.specs.Numbers.{has_order}
+use Rattle.ordered_globals.specs.SheetClosure.Declared.{keeps_names}
+use Rattle.ordered_globals.specs.SheetClosure.Numbers.{has_order}
 use Rattle.loaded_sheets.specs.Wholes.{declared_sheet, evaluation_order, is_circular, wide_broken}
 use Rattle.loaded_sheets.specs.Wholes.{called_parameters, wide_faults, in_order}
 use Rattle.loaded_sheets.proofs.Globals.{all_there, few_globals}

@@ -5,8 +5,8 @@
 ghost use Rattle.std.specs.Prelude.{◌≡◌, List, [], true};
 ghost use Rattle.declared_uses.specs.Numbers.{have_numbers};
 ghost use Rattle.loaded_sheets.specs.Wholes.{declared_sheet, in_order, wide_faults};
-ghost use Rattle.sheet_closure.specs.Declared.{keeps_names};
-ghost use Rattle.sheet_closure.specs.Numbers.{has_order};
+ghost use Rattle.ordered_globals.specs.SheetClosure.Declared.{keeps_names};
+ghost use Rattle.ordered_globals.specs.SheetClosure.Numbers.{has_order};
 ghost use Rattle.sheet_declarations.specs.declared.lists.Declaration.{Declaration};
 ghost use Rattle.sheet_levels.specs.declared.levels.SheetLevel.{SheetLevel};
 ghost use Rattle.xt_names.specs.declared.names.ExprName.{ExprName};

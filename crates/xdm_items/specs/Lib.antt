@@ -3,3 +3,5 @@ pub mod Lists
 pub mod Matching
 pub mod Truth
 pub mod Values
+pub use Rattle.node_tests.specs as NodeTests
+pub use Rattle.node_tests.specs.XtTree

@@ -3,11 +3,11 @@ use Rattle.std.specs.Prelude.{ℕ, List, [], map, Option, Some, None}
 use Rattle.xt_atoms.specs.AtomTexts.{text_of}
 use Rattle.xt_atoms.specs.declared.atoms.Atom.{Atom as AtomValue}
 use Rattle.xt_atoms.specs.declared.atoms.Atom.TheVariants.{Str, Untyped}
-use Rattle.xt_tree.specs.Forest.{texts}
-use Rattle.xt_tree.specs.Place.{subtree_of}
-use Rattle.xt_tree.specs.TreeView as tree_view
-use Rattle.xt_tree.specs.declared.trees.Tree.{Tree}
-use Rattle.xt_tree.specs.declared.trees.Tree.TheVariants.{Doc, Elem, Text, Comment, Pi, Attr}
+use Rattle.node_tests.specs.XtTree.Forest.{texts}
+use Rattle.node_tests.specs.XtTree.Place.{subtree_of}
+use Rattle.node_tests.specs.XtTree.TreeView as tree_view
+use Rattle.node_tests.specs.XtTree.declared.trees.Tree.{Tree}
+use Rattle.node_tests.specs.XtTree.declared.trees.Tree.TheVariants.{Doc, Elem, Text, Comment, Pi, Attr}
 use Rattle.xdm_items.specs.declared.items.Item.{Item}
 use Rattle.xdm_items.specs.declared.items.Item.TheVariants.{Node, Atom}
 

@@ -1,9 +1,9 @@
 ghost use Rattle.std.specs.Prelude.{◌≡◌, IfOk};
 
+use node_tests::xt_tree::Node;
 use std::alloc::AllocError;
 use xt_atoms::Atom;
 use xt_names::Share;
-use xt_tree::Node;
 
 /// An item: a node or an atomic value (XDM, 2.1).
 #[derive(Drop)]

@@ -20,5 +20,6 @@ pub use conversions::convert;
 pub use items::Item;
 pub use lists::{HeldItems, ItemList, copy_item_list};
 pub use matching::{has_atom_type, matches, matches_item};
+pub use node_tests::xt_tree;
 pub use truths::{ebv, truth_of_atom};
 pub use values::{atomize, typed_value};

@@ -28,7 +28,7 @@ impl Model for ItemList {
     ghost use Rattle.std.specs.Coded.{codes};
     ghost use Rattle.xdm_items.specs.Lists.{held_items};
     ghost use Rattle.xdm_items.specs.declared.items.Item.{Item};
-    ghost use Rattle.xt_tree.specs.Forest.{forest_code};
+    ghost use Rattle.node_tests.specs.XtTree.Forest.{forest_code};
 
     ghost Value = { List Item };
 

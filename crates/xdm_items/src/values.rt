@@ -1,13 +1,13 @@
 ghost use Rattle.std.specs.Prelude.{◌≡◌, ◌++◌, ◌∷◌, [], OnOk, IfOk};
 ghost use Rattle.xdm_items.specs.declared.items.Item.TheVariants.{Atom as as_atom};
 ghost use Rattle.xdm_items.specs.Values.{typed_value_below, atomized_item, atomized};
-ghost use Rattle.xt_tree.specs.Place.{subtree_of};
+ghost use Rattle.node_tests.specs.XtTree.Place.{subtree_of};
 
 use crate::items::Item;
 use crate::lists::ItemList;
+use node_tests::xt_tree::{Kind, Node};
 use std::alloc::{AllocError, Global};
 use xt_atoms::Atom;
-use xt_tree::{Kind, Node};
 
 /// Each item made an atom (XPath 2.0, 2.4.2): the typed value of a node is its string value, untyped for a document, an
 /// element, an attribute and a text, and a string for a comment and a processing instruction; atoms stay as they are.

@@ -13,5 +13,6 @@
 mod expressions;
 mod laws;
 
+pub use expr_resolve;
 pub use expressions::parse_expr;
 pub use laws::{reads_what_is_spelled, spells_one};

@@ -14,5 +14,6 @@ mod globals;
 mod params;
 mod runs;
 
+pub use eval_scopes;
 pub use params::Param;
 pub use runs::{run_query, run_query_in};

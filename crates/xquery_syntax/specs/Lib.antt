@@ -1,2 +1,3 @@
 pub mod Answers
 pub mod Spelled
+pub use Rattle.query_laws.specs as QueryLaws

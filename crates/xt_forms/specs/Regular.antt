@@ -7,8 +7,8 @@ use Rattle.xt_names.specs.declared.names.ExprName.{ExprName}
 use Rattle.xt_names.specs.declared.names.Name.{Name}
 use Rattle.xt_names.specs.declared.kinds.AtomType.{AtomType}
 use Rattle.xt_names.specs.declared.kinds.AtomType.TheVariants as atom
-use Rattle.xt_types.specs.declared.types.SeqType.{SeqType}
-use Rattle.xt_types.specs.Regular.{is_regular_test, is_regular_type}
+use Rattle.xt_syntax.specs.XtTypes.declared.types.SeqType.{SeqType}
+use Rattle.xt_syntax.specs.XtTypes.Regular.{is_regular_test, is_regular_type}
 use Rattle.xt_forms.specs.NamedTexts.{is_one_of}
 use Rattle.xt_syntax.specs.declared.exprs.Expr.{Expr}
 use Rattle.xt_syntax.specs.declared.exprs.Arm.{Arm}

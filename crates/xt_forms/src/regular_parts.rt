@@ -4,8 +4,8 @@ ghost use Rattle.xt_forms.specs.Regular.{has_no_child, is_bare_name, is_cast_nam
 
 use crate::named_texts::is_one_of;
 use xt_names::{AtomType, ExprName, Name, is_ascii_text};
+use xt_syntax::xt_types::is_regular_type;
 use xt_syntax::{Part, SeqType};
-use xt_types::is_regular_type;
 
 /// Whether an atom may be cast to the type.
 #[tactic(auto, unfolding(crate::specs::Regular::is_cast_type))]

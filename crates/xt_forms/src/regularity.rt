@@ -9,8 +9,8 @@ use crate::regular_parts::{
     has_no_child, is_bare_name, is_cast_name, is_cast_type, is_regular_kind,
 };
 use xt_names::Shared;
+use xt_syntax::xt_types::{is_regular_test, is_regular_type};
 use xt_syntax::{Arm, Bind, Clause, DirectAttr, Expr, Flwor, NameSource, Order, Part};
-use xt_types::{is_regular_test, is_regular_type};
 
 /// Whether the expression has the form that the grammar gives (XPath 2.0, 3; XQuery 1.0, 3): all parts are regular, and each
 /// of the following holds.

@@ -7,7 +7,7 @@ use crate::values::{Avt, AvtName, Grouping, LiteralAttr, ModeUse, Sort};
 use std::alloc::AllocError;
 use xt_names::{List, Name, Share, Shared, copy_list};
 use xt_syntax::copy_shared_option;
-use xt_types::copy_option;
+use xt_syntax::xt_types::copy_option;
 
 impl<E: Drop, P: Drop> Instr<E, P> {
     /// The same instruction.

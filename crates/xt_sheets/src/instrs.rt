@@ -1,7 +1,7 @@
 // Instructions, and the parts that hold instructions again.
 use crate::values::{Avt, AvtName, Grouping, LiteralAttr, ModeUse, Sort};
 use xt_names::{ExprName, List, Name, Shared, Text};
-use xt_types::SeqType;
+use xt_syntax::xt_types::SeqType;
 
 /// An instruction, literal text or literal element of a sequence constructor (XSLT 2.0, 5.7). Its prefixes are resolved.
 /// `E` is the type of the expressions, `P` that of the patterns.

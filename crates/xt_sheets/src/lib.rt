@@ -28,7 +28,7 @@ pub use value_copies::{
     copy_mode_use_list, copy_sort_list,
 };
 pub use values::ModeUse;
-pub use xt_syntax::SpaceRule;
+pub use xt_syntax::{SpaceRule, xt_types};
 use xt_syntax::{Expr, Pattern};
 
 /// An instruction whose expressions and patterns are those of xt_syntax.

@@ -5,7 +5,7 @@ use crate::instr_copies::{copy_bound_list, copy_instr_list};
 use crate::sheets::{Global, KeyRule, Level, Rule, Sheet, SheetFunction, Template};
 use std::alloc::AllocError;
 use xt_names::{List, Share, copy_expr_name_list, copy_list};
-use xt_types::{copy_option, copy_space_rule_list};
+use xt_syntax::xt_types::{copy_option, copy_space_rule_list};
 
 impl Sheet {
     /// The same stylesheet.

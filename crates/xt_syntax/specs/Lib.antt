@@ -1,1 +1,2 @@
 pub mod Layers
+pub use Rattle.xt_types.specs as XtTypes

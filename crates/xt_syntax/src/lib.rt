@@ -30,4 +30,5 @@ pub use query_copies::{
     copy_prefixes_list, copy_query_function_list, copy_query_list, copy_query_param_list,
     copy_query_var_list,
 };
+pub use xt_types;
 pub use xt_types::{Axis, Count, ItemType, NameTest, SeqType, SpaceRule, Test};

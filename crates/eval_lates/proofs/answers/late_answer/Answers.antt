@@ -1,5 +1,5 @@
 use Rattle.std.proofs.Common.{◌≡◌, ap, sym, ◌∙◌}
-use Rattle.node_walks.specs.Moves.{given}
+use Rattle.eval_scopes.specs.NodeWalks.Moves.{given}
 use Rattle.eval_lates.proofs.CountLemmas.{count_is, exists_is, empty_is}
 use Rattle.eval_lates.proofs.answers.late_answer.Goals as goal
 

@@ -3,8 +3,8 @@ use Rattle.std.specs.Prelude.{FitsSigned}
 use Rattle.std.specs.Int.{w64}
 use Rattle.std.specs.Option.{option_to_list}
 use Rattle.std.proofs.lemmas.Int.{to_z-of_z}
-use Rattle.node_walks.specs.Moves.{given}
-use Rattle.lazy_seq.specs.Flow.{Flow, item_at}
+use Rattle.eval_scopes.specs.NodeWalks.Moves.{given}
+use Rattle.eval_scopes.specs.LazySeq.Flow.{Flow, item_at}
 use Rattle.outcomes.specs.Outcome.{Ends}
 use Rattle.eval_lates.proofs.PlaceLemmas.{kept_there, kept_nowhere}
 use Rattle.eval_lates.proofs.places.late_item.Goals as goal

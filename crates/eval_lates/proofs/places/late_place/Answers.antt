@@ -5,8 +5,8 @@ use Rattle.std.specs.Option.{option_to_list}
 use Rattle.std.proofs.lemmas.Bool.{lt-ltb}
 use Rattle.std.proofs.lemmas.Int.{to_z-of_z}
 use Rattle.std.proofs.lemmas.Result.{IfOk-weaker}
-use Rattle.node_walks.specs.Moves.{given}
-use Rattle.lazy_seq.specs.Flow.{item_at}
+use Rattle.eval_scopes.specs.NodeWalks.Moves.{given}
+use Rattle.eval_scopes.specs.LazySeq.Flow.{item_at}
 use Rattle.outcomes.specs.Outcome.{Ends}
 use Rattle.eval_lates.proofs.PlaceLemmas.{kept_there}
 use Rattle.eval_lates.proofs.places.late_place.Goals as goal

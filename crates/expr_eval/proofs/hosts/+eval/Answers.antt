@@ -28,13 +28,13 @@ use Rattle.std.specs.Int.{w64}
 use Rattle.std.proofs.lemmas.Int.{to_z-of_z}
 use Rattle.expr_meaning.specs.Paths.{kept}
 use Rattle.eval_scopes.specs.Answers.{Answers}
-use Rattle.eval_lates.specs.Late.{literal}
+use Rattle.eval_steps.specs.EvalLates.Late.{literal}
 use Rattle.xt_syntax.specs.declared.exprs.Part.{Part}
 use Rattle.xt_syntax.specs.declared.exprs.Clause.TheViews.{out-Arm, out-DirectAttr}
-use Rattle.eval_inner.specs.Inner.{CanEvaluate, Evaluates}
+use Rattle.flow_eval.specs.EvalInner.Inner.{CanEvaluate, Evaluates}
 use Rattle.eval_steps.proofs.Places.{placed_item, placed_length}
 use Rattle.expr_eval.proofs.Steps.{slash_means, step_means, library_call}
-use Rattle.value_slots.specs.Slots.{Leaves}
+use Rattle.flow_eval.specs.ValueSlots.Slots.{Leaves}
 use Rattle.expr_eval.proofs.hosts.+eval.Goals as goal
 
 pub Host::eval_comma-eval-requires : goal.Host::eval_comma-eval-requires

@@ -1,6 +1,6 @@
 use Rattle.std.proofs.Common.{◌≡◌, ℕ, ◌+◌, ◌<◌, ◌^◌, drop}
 use Rattle.std.specs.Prelude.{slice_index}
-use Rattle.quiet_meaning.specs.Paths.{keeps}
+use Rattle.quiet_places.specs.QuietMeaning.Paths.{keeps}
 use Rattle.step_walks.specs.Sifted.{kept_in_turn}
 use Rattle.node_walks.proofs.sieves.count_kept.Given as goal
 

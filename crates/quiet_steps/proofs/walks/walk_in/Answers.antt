@@ -1,6 +1,6 @@
 use Rattle.std.proofs.Common.{ap}
 use Rattle.std.proofs.lemmas.Result.{IfOk-weaker}
-use Rattle.eval_scopes.specs.Scopes.{env_of, focus_of}
+use Rattle.eval_lates.specs.EvalScopes.Scopes.{env_of, focus_of}
 use Rattle.quiet_steps.proofs.Answered.{focus_answers, nowhere_answers}
 use Rattle.quiet_steps.proofs.walks.walk_in.Goals as goal
 

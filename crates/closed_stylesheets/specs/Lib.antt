@@ -1,0 +1,2 @@
+pub use Rattle.used_numbers.specs.LoadedSheets
+pub use Rattle.assembly_laws.specs.SheetClosure

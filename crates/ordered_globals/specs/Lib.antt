@@ -1,0 +1,1 @@
+pub use Rattle.assembly_laws.specs.SheetClosure

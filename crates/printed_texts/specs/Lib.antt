@@ -1,0 +1,1 @@
+pub use Rattle.written_tokens.specs as WrittenTokens
