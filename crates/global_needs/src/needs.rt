@@ -47,6 +47,9 @@ pub fn global_needs(alloc: Global, sheet: &Sheet) -> Result<List<List<usize>>, A
 pub fn needed_order(alloc: Global, sheet: &Sheet) -> Result<List<usize>, AllocError>
     ensures { IfOk result (λ order. order ≡ order_of (needs sheet.now)) }
 {
+    if let [] = sheet.globals.as_slice() {
+        return Ok(List::new(alloc));
+    }
     let shape = measured(alloc, sheet)?;
     let graph = graph(alloc, &shape, sheet)?;
     order_by(

@@ -27,7 +27,6 @@ use crate::stacks::{Top, bring_up, first_of_parts, next_of_parts};
 use crate::stocks::Stock;
 use node_walks::node_axes::{Cursor, Steps};
 use node_walks::quiet_places::is_size_free;
-use node_walks::xt_syntax::Expr;
 use node_walks::{Walk, kept_hits};
 use std::alloc::{AllocError, Global};
 use std::marker::{Brand, Model};
@@ -35,6 +34,7 @@ use std::mem;
 use std::sync::ledger::{Blank, Ledger};
 use xdm_items::{Item, ItemList};
 use xt_names::List;
+use xt_syntax::Expr;
 
 /// A sequence (XPath 2.0, 2) that is walked on demand. Contracts see its moves, which are the steps
 /// along axes that it still takes and between them the items that it gives, and its weight, which

@@ -1,12 +1,12 @@
 -- The names of several tables.
-use Rattle.std.proofs.Common.{◌≡◌, List, [], ◌∷◌, ◌++◌, Bool, true, false, cond, ◌||◌, refl, sym, ◌∙◌, append_assoc}
+use Rattle.std.proofs.Common.{arith, ◌≡◌, ◌<◌, length, List, [], ◌∷◌, ◌++◌, Bool, true, false, cond, ◌||◌, refl, sym, ap, ◌∙◌, append_assoc}
 use Rattle.std.proofs.lemmas.List.{append-nil}
 use Rattle.std.proofs.lemmas.List.Folds.{list_any-append}
 use Rattle.std.specs.HashSet.{HashSet}
 use Rattle.std.specs.declared.rc.Rc.{Rc}
 use Rattle.xt_names.specs.declared.names.ExprName.{ExprName}
 use Rattle.name_rules.specs.Layers.{layer_names}
-use Rattle.name_rules.specs.Scopes.{has_name, same_name}
+use Rattle.name_rules.specs.Scopes.{has_name, names_differ, same_name}
 
 pub has_name_append : (xs ys : List ExprName) (n : ExprName) → has_name (xs ++ ys) n ≡ (has_name xs n || has_name ys n)
 has_name_append xs ys n = list_any-append (same_name n) xs ys
@@ -25,12 +25,16 @@ added_last xs ys n h =
     let q : has_name ys n ≡ false = second_false (has_name xs n) (has_name ys n) (sym (has_name_append xs ys n) ∙ h) in
     rw q (sym (append_assoc xs ys (n ∷ [])))
 
--- a table that is put behind the others, and a new one
-pub one_more_table : {S A : Type 0} (old new : List (Rc (HashSet ExprName S) A)) (r own : Rc (HashSet ExprName S) A) (keys : List ExprName)
-    → new ≡ old ++ r ∷ [] → r ≡ own → keys ≡ [] → layer_names new ++ keys ≡ layer_names old ++ own.value.keys
-one_more_table old new r own keys e p k = rw (e, p, k, layer_names_append old (own ∷ [])) (simp append-nil)
-
--- a copy of a table behind the others
+-- a table, or a copy of it, behind the others
 pub layer_pushed : {S A : Type 0} (old new : List (Rc (HashSet ExprName S) A)) (copy layer : Rc (HashSet ExprName S) A)
     → new ≡ old ++ copy ∷ [] → copy.value ≡ layer.value → layer_names new ≡ layer_names old ++ layer.value.keys
 layer_pushed old new copy layer e same = rw (e, layer_names_append old (copy ∷ []), same) (simp append-nil)
+
+few_differ : (ns : List ExprName) → length ns < 2 → true ≡ names_differ ns
+few_differ [] few = refl
+few_differ (n ∷ []) few = refl
+few_differ (n ∷ m ∷ ns) few = absurd (omega (arith, few))
+
+-- no name stands twice among fewer than two
+pub few_names_differ : (ns ms : List ExprName) → ms ≡ ns → length ms < 2 → true ≡ names_differ ns
+few_names_differ ns ms same few = few_differ ms few ∙ ap names_differ same

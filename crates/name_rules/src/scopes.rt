@@ -62,15 +62,15 @@ impl Scope {
         Ok(Scope { outer, own })
     }
 
-    /// The same names, to which others are added without a change of this scope.
+    /// The same names, to which others are added without a change of this scope. It takes memory only where tables stand
+    /// around this scope's own.
     pub fn inside(&self) -> Result<Scope, AllocError>
         ensures { IfOk result (λ scope. scope ≡ self.now) }
     {
-        let alloc = *self.outer.allocator();
-        let mut outer = share_layers(&self.outer)?;
-        share_layer(&mut outer, &self.own)?;
-        let own = Rc::new(alloc, IndexSet::new(alloc))?;
-        Ok(Scope { outer, own })
+        Ok(Scope {
+            outer: share_layers(&self.outer)?,
+            own: self.own.clone()?,
+        })
     }
 
     /// The scope with these names too.
@@ -89,6 +89,9 @@ impl Scope {
 pub fn names_differ(names: &List<ExprName>) -> Result<bool, AllocError>
     ensures { IfOk result (λ differ. differ ≡ names_differ names.now) }
 {
+    if let [] | [_] = names.as_slice() {
+        return Ok(true);
+    }
     let mut seen = Scope::new(names.allocator())?;
     for name in names.as_slice() {
         if seen.has(name) {
@@ -124,6 +127,20 @@ fn share_layer(
     Ok(())
 }
 
+/// Puts the table behind the others, where it has a name.
+fn put_layer(
+    outer: &mut Vec<Rc<IndexSet<ExprName>>>,
+    layer: Rc<IndexSet<ExprName>>,
+) -> Result<(), AllocError>
+    ensures { OnOk result (layer_names outer.new.items ≡ layer_names outer.old.items ++ layer.value.keys) }
+{
+    if layer.is_empty() {
+        return Ok(());
+    }
+    outer.push(layer)?;
+    Ok(())
+}
+
 /// The table, to write to. One that other scopes share stays as it is, behind the others, and a new one is begun.
 fn open_table(
     outer: &mut Vec<Rc<IndexSet<ExprName>>>,
@@ -135,7 +152,7 @@ fn open_table(
     match Rc::try_unwrap(own) {
         Ok(names) => Ok(names),
         Err(shared) => {
-            outer.push(shared)?;
+            put_layer(outer, shared)?;
             Ok(IndexSet::new(alloc))
         }
     }

@@ -21,4 +21,3 @@ pub use collected::kept_hits;
 pub use quiet_places;
 pub use step_walks::node_axes;
 pub use walks::Walk;
-pub use xt_syntax;
