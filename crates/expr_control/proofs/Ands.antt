@@ -1,9 +1,9 @@
 -- What a part gives comes in front of what the others give.
 use Rattle.std.proofs.Common.{◌≡◌, ℕ, List, [], ◌∷◌, ◌++◌, ◌+◌, ◌<◌, suc, length, drop, get_or, drop-cons, add-one, append_assoc, refl, ap, sym, ◌∙◌}
 use Rattle.std.proofs.lemmas.List.{append-nil}
-use Rattle.expr_rules.specs.XtSyntax.declared.exprs.Bind.{Bind}
-use Rattle.expr_rules.specs.XtSyntax.declared.exprs.Clause.{Clause}
-use Rattle.expr_rules.specs.XtSyntax.declared.exprs.Order.{Order}
+use Rattle.xt_syntax.specs.declared.exprs.Bind.{Bind}
+use Rattle.xt_syntax.specs.declared.exprs.Clause.{Clause}
+use Rattle.xt_syntax.specs.declared.exprs.Order.{Order}
 use Rattle.expr_rules.specs.ExprMeant.declared.meant.Meant.{Meant}
 use Rattle.expr_rules.specs.ExprMeant.declared.meant.Meant.TheVariants as meant
 use Rattle.expr_control.specs.Lists.{bind_and}

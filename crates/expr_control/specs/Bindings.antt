@@ -3,13 +3,13 @@ use Rattle.std.specs.Prelude.{List, [], ◌∷◌, ◌++◌, Bool, true, false, 
 use Rattle.xt_names.specs.declared.names.Binding.{Binding}
 use Rattle.xt_names.specs.declared.names.ExprName.{ExprName}
 use Rattle.xt_types.specs.declared.types.SeqType.{SeqType}
-use Rattle.expr_rules.specs.XtSyntax.declared.exprs.Expr.{Expr}
-use Rattle.expr_rules.specs.XtSyntax.declared.exprs.Expr.TheVariants as expr
-use Rattle.expr_rules.specs.XtSyntax.declared.exprs.Bind.{Bind}
-use Rattle.expr_rules.specs.XtSyntax.declared.exprs.Clause.{Clause}
-use Rattle.expr_rules.specs.XtSyntax.declared.exprs.Clause.TheVariants as clause
-use Rattle.expr_rules.specs.XtSyntax.declared.exprs.Order.{Order}
-use Rattle.expr_rules.specs.XtSyntax.declared.exprs.Clause.TheViews.{roll-Flwor}
+use Rattle.xt_syntax.specs.declared.exprs.Expr.{Expr}
+use Rattle.xt_syntax.specs.declared.exprs.Expr.TheVariants as expr
+use Rattle.xt_syntax.specs.declared.exprs.Bind.{Bind}
+use Rattle.xt_syntax.specs.declared.exprs.Clause.{Clause}
+use Rattle.xt_syntax.specs.declared.exprs.Clause.TheVariants as clause
+use Rattle.xt_syntax.specs.declared.exprs.Order.{Order}
+use Rattle.xt_syntax.specs.declared.exprs.Clause.TheViews.{roll-Flwor}
 use Rattle.expr_terms.specs.declared.keys.Key.{Key}
 use Rattle.expr_terms.specs.declared.keys.Key.TheVariants.{DescendingWord as descending_word}
 use Rattle.expr_rules.specs.ExprMeant.declared.meant.Meant.{Meant}

@@ -1,9 +1,9 @@
 -- What lists, conditionals and quantifiers mean (XPath 2.0, 3.3.1, 3.6, 3.8 and 3.9).
 use Rattle.std.specs.Prelude.{List, [], ◌∷◌, Bool, true, false}
-use Rattle.expr_rules.specs.XtSyntax.declared.exprs.Expr.{Expr}
-use Rattle.expr_rules.specs.XtSyntax.declared.exprs.Expr.TheVariants as expr
-use Rattle.expr_rules.specs.XtSyntax.declared.exprs.Arm.{Arm}
-use Rattle.expr_rules.specs.XtSyntax.declared.exprs.Bind.{Bind}
+use Rattle.xt_syntax.specs.declared.exprs.Expr.{Expr}
+use Rattle.xt_syntax.specs.declared.exprs.Expr.TheVariants as expr
+use Rattle.xt_syntax.specs.declared.exprs.Arm.{Arm}
+use Rattle.xt_syntax.specs.declared.exprs.Bind.{Bind}
 use Rattle.expr_terms.specs.declared.keys.Key.{Key}
 use Rattle.expr_terms.specs.declared.keys.Key.TheVariants.{EveryWord as every_word}
 use Rattle.expr_rules.specs.ExprMeant.declared.meant.Meant.{Meant}

@@ -1,7 +1,7 @@
 -- What the productions of operators, lists, conditionals, bindings and types mean, from what their parts mean (XPath 2.0, 2.5.3 and 3.3 to 3.10; XQuery 1.0, 3.8).
 use Rattle.std.specs.Prelude.{List, true, false}
 use Rattle.xt_types.specs.declared.types.SeqType.TheVariants as sequence
-use Rattle.expr_rules.specs.XtSyntax.declared.prefixes.Prefixes.{Prefixes}
+use Rattle.xt_syntax.specs.declared.prefixes.Prefixes.{Prefixes}
 use Rattle.expr_terms.specs.declared.productions.Production.{Production}
 use Rattle.expr_terms.specs.declared.productions.Production.TheVariants as production
 use Rattle.expr_rules.specs.ExprMeant.declared.meant.Meant.{Meant}

@@ -7,9 +7,9 @@ use bound_prefixes::BoundPrefixes;
 use expr_rules::expr_meant::{Meant, expr_in};
 use expr_rules::expr_names::no_text;
 use expr_rules::name_of;
-use expr_rules::xt_syntax::{Bind, Clause};
 use std::alloc::{AllocError, Global};
 use xt_names::ExprName;
+use xt_syntax::{Bind, Clause};
 use xt_types::SeqType;
 
 #[tactic(auto, unfolding(crate::specs::Bindings::kind_or))]

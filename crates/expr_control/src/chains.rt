@@ -1,6 +1,6 @@
 // Operators that follow one another.
 ghost use Rattle.std.specs.Prelude.{◌≡◌, [], IfOk};
-ghost use Rattle.expr_rules.specs.XtSyntax.declared.exprs.Expr.TheVariants.{Comma, Or, And};
+ghost use Rattle.xt_syntax.specs.declared.exprs.Expr.TheVariants.{Comma, Or, And};
 ghost use Rattle.expr_rules.specs.ExprMeant.Parts.{exprs_of};
 ghost use Rattle.expr_rules.specs.ExprMeant.declared.meant.Meant.TheVariants.{Expr as as_expr};
 ghost use Rattle.expr_control.specs.Operators.{operated_by, of_type, joined, chain_from, left_chain, chained, tail, single_of, single_in, operated, signed};
@@ -9,10 +9,10 @@ use crate::operators::{of_single, of_type, operated_by, signed_by};
 use crate::types::typed;
 use bound_prefixes::BoundPrefixes;
 use expr_rules::expr_meant::{Meant, as_part, expr_in, expr_of, exprs_of, key_of, no_items};
-use expr_rules::xt_syntax::Expr;
 use expr_terms::{Key, Level};
 use std::alloc::{AllocError, Global};
 use xt_names::Shared;
+use xt_syntax::Expr;
 use xt_types::SeqType;
 
 fn with_operand(

@@ -5,9 +5,9 @@ ghost use Rattle.expr_control.specs.Bindings.{clause_and, clauses_in, clauses_an
 
 use crate::orders::{all_orders, is_stable};
 use expr_rules::expr_meant::{Meant, as_part, expr_in};
-use expr_rules::xt_syntax::{Clause, Expr, Flwor};
 use std::alloc::{AllocError, Global};
 use xt_names::{List, Shared};
+use xt_syntax::{Clause, Expr, Flwor};
 
 #[tactic(auto, unfolding(crate::specs::Bindings::clause_and))]
 fn push_clause(clauses: Vec<Clause>, part: &Meant) -> Result<Vec<Clause>, AllocError>

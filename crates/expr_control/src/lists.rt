@@ -4,10 +4,10 @@ ghost use Rattle.expr_rules.specs.ExprMeant.declared.meant.Meant.TheVariants.{Ex
 ghost use Rattle.expr_control.specs.Lists.{listed, arm, arms_of, other_of, conditional, is_every, is_every_first, bind_and, binds_of, quantified};
 
 use expr_rules::expr_meant::{Meant, as_part, expr_in, expr_of, exprs_of, key_of, no_items};
-use expr_rules::xt_syntax::{Arm, Bind, Expr};
 use expr_terms::Key;
 use std::alloc::{AllocError, Global};
 use xt_names::{List, Shared};
+use xt_syntax::{Arm, Bind, Expr};
 
 /// `a, b, ..`.
 pub fn listed(alloc: Global, parts: &[Meant]) -> Result<Meant, AllocError>

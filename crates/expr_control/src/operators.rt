@@ -2,9 +2,9 @@
 ghost use Rattle.std.specs.Prelude.{◌≡◌};
 ghost use Rattle.expr_control.specs.Operators.{compared, combined, operated_by, of_type, of_single, signed_by};
 
-use expr_rules::xt_syntax::Expr;
 use expr_terms::{Key, Level};
 use xt_names::{ArithOp, AtomType, CompareOp, Shared};
+use xt_syntax::Expr;
 use xt_types::SeqType;
 
 #[tactic(auto, unfolding(crate::specs::Operators::compared))]

@@ -3,10 +3,10 @@ ghost use Rattle.std.specs.Prelude.{◌≡◌, ◌++◌, ◌∷◌, [], IfOk};
 ghost use Rattle.expr_control.specs.Bindings.{order_and, orders_in, orders_or, all_orders, stable_or, is_stable, is_descending, descends, key_spec};
 
 use expr_rules::expr_meant::{Meant, expr_of, key_of};
-use expr_rules::xt_syntax::Order;
 use expr_terms::Key;
 use std::alloc::{AllocError, Global};
 use xt_names::{List, Shared};
+use xt_syntax::Order;
 
 #[tactic(auto, unfolding(crate::specs::Bindings::order_and))]
 fn push_order(orders: Vec<Order>, part: &Meant) -> Result<Vec<Order>, AllocError>

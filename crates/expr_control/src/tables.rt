@@ -14,9 +14,9 @@ use crate::orders::{key_spec, orders_in};
 use crate::types::{marked, single, typed};
 use bound_prefixes::BoundPrefixes;
 use expr_rules::expr_meant::{Meant, expr_in};
-use expr_rules::xt_syntax::Prefixes;
 use expr_terms::Production;
 use std::alloc::{AllocError, Global};
+use xt_syntax::Prefixes;
 use xt_types::SeqType;
 
 fn clauses(alloc: Global, parts: &[Meant]) -> Result<Meant, AllocError>

@@ -1,6 +1,6 @@
 -- What a part gives comes in front of what the others give.
 use Rattle.std.proofs.Common.{◌≡◌, ℕ, List, [], ◌∷◌, ◌++◌, ◌+◌, ◌<◌, suc, length, drop, get_or, drop-cons, add-one, append_assoc, refl, ap, sym, ◌∙◌}
-use Rattle.expr_rules.specs.XtSyntax.declared.exprs.DirectAttr.{DirectAttr}
+use Rattle.xt_syntax.specs.declared.exprs.DirectAttr.{DirectAttr}
 use Rattle.expr_rules.specs.ExprMeant.declared.meant.Meant.{Meant}
 use Rattle.expr_rules.specs.ExprMeant.declared.meant.Meant.TheVariants as meant
 use Rattle.expr_elements.specs.Direct.{attr_and}

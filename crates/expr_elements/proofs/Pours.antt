@@ -2,7 +2,7 @@
 use Rattle.std.specs.Prelude.{Bool, true}
 use Rattle.std.proofs.Common.{◌≡◌, ℕ, List, [], ◌∷◌, ◌+◌, ◌<◌, ◌≤◌, suc, length, map, drop, get_or, drop-cons, add-one, refl, ap, sym, ◌∙◌}
 use Rattle.std.proofs.lemmas.List.{drop_all}
-use Rattle.expr_rules.specs.XtSyntax.declared.exprs.Part.{Part}
+use Rattle.xt_syntax.specs.declared.exprs.Part.{Part}
 use Rattle.expr_rules.specs.ExprMeant.declared.meant.Meant.{Meant}
 use Rattle.expr_elements.specs.declared.space.Piece.{Piece}
 use Rattle.expr_elements.specs.declared.space.Joined.{Joined}

@@ -2,10 +2,10 @@
 use Rattle.std.specs.Prelude.{ℕ, List, [], ◌∷◌}
 use Rattle.xt_names.specs.declared.names.Binding.{Binding}
 use Rattle.xt_names.specs.declared.names.Name.{Name}
-use Rattle.expr_rules.specs.XtSyntax.declared.exprs.Expr.{Expr}
-use Rattle.expr_rules.specs.XtSyntax.declared.exprs.Expr.TheVariants as expr
-use Rattle.expr_rules.specs.XtSyntax.declared.exprs.NameSource.{NameSource}
-use Rattle.expr_rules.specs.XtSyntax.declared.exprs.NameSource.TheVariants as source
+use Rattle.xt_syntax.specs.declared.exprs.Expr.{Expr}
+use Rattle.xt_syntax.specs.declared.exprs.Expr.TheVariants as expr
+use Rattle.xt_syntax.specs.declared.exprs.NameSource.{NameSource}
+use Rattle.xt_syntax.specs.declared.exprs.NameSource.TheVariants as source
 use Rattle.expr_terms.specs.declared.keys.Key.{Key}
 use Rattle.expr_terms.specs.declared.keys.Key.TheVariants as key
 use Rattle.expr_rules.specs.ExprMeant.declared.meant.Meant.{Meant}

@@ -1,11 +1,11 @@
 -- What direct elements mean (XQuery 1.0, 3.7.1).
 use Rattle.std.specs.Prelude.{ℕ, List, [], ◌∷◌, false}
 use Rattle.xt_names.specs.declared.names.Binding.{Binding}
-use Rattle.expr_rules.specs.XtSyntax.declared.exprs.Expr.{Expr}
-use Rattle.expr_rules.specs.XtSyntax.declared.exprs.Expr.TheVariants as expr
-use Rattle.expr_rules.specs.XtSyntax.declared.exprs.DirectAttr.{DirectAttr}
-use Rattle.expr_rules.specs.XtSyntax.declared.exprs.Part.{Part}
-use Rattle.expr_rules.specs.XtSyntax.declared.exprs.Part.TheVariants as part
+use Rattle.xt_syntax.specs.declared.exprs.Expr.{Expr}
+use Rattle.xt_syntax.specs.declared.exprs.Expr.TheVariants as expr
+use Rattle.xt_syntax.specs.declared.exprs.DirectAttr.{DirectAttr}
+use Rattle.xt_syntax.specs.declared.exprs.Part.{Part}
+use Rattle.xt_syntax.specs.declared.exprs.Part.TheVariants as part
 use Rattle.expr_rules.specs.ExprMeant.declared.meant.Meant.{Meant}
 use Rattle.expr_rules.specs.ExprMeant.declared.meant.Meant.TheVariants as meant
 use Rattle.expr_rules.specs.ExprMeant.Parts.{expr_in}

@@ -5,4 +5,3 @@ pub mod Table
 pub use Rattle.expr_rules.specs.ExprMeant
 pub use Rattle.expr_rules.specs.ExprNames
 pub use Rattle.expr_rules.specs as ExprRules
-pub use Rattle.expr_rules.specs.XtSyntax

@@ -3,8 +3,8 @@ use Rattle.std.specs.Prelude.{ℕ, List, [], ◌∷◌, ◌++◌, Bool, true, �
 use Rattle.std.specs.List.{list_all}
 use Rattle.xt_names.specs.Allowed.{is_empty_text}
 use Rattle.xt_names.specs.Marks.{is_white}
-use Rattle.expr_rules.specs.XtSyntax.declared.exprs.Part.{Part}
-use Rattle.expr_rules.specs.XtSyntax.declared.exprs.Part.TheVariants as part
+use Rattle.xt_syntax.specs.declared.exprs.Part.{Part}
+use Rattle.xt_syntax.specs.declared.exprs.Part.TheVariants as part
 use Rattle.expr_terms.specs.declared.tokens.Token.{Token}
 use Rattle.expr_terms.specs.declared.tokens.Token.TheVariants as token
 use Rattle.expr_rules.specs.ExprMeant.declared.meant.Meant.{Meant}

@@ -1,6 +1,6 @@
 -- What the productions of constructors mean, from what their parts mean (XQuery 1.0, 3.7).
 use Rattle.std.specs.Prelude.{List, [], Bool}
-use Rattle.expr_rules.specs.XtSyntax.declared.prefixes.Prefixes.{Prefixes}
+use Rattle.xt_syntax.specs.declared.prefixes.Prefixes.{Prefixes}
 use Rattle.expr_terms.specs.declared.productions.Production.{Production}
 use Rattle.expr_terms.specs.declared.productions.Production.TheVariants as production
 use Rattle.expr_rules.specs.ExprMeant.declared.meant.Meant.{Meant}

@@ -1,7 +1,7 @@
 // Direct elements.
 ghost use Rattle.std.specs.Prelude.{◌≡◌, ◌++◌, ◌∷◌, [], IfOk};
 ghost use Rattle.expr_rules.specs.ExprMeant.declared.meant.Meant.TheVariants.{Content, Expr as as_expr};
-ghost use Rattle.expr_rules.specs.XtSyntax.declared.exprs.Expr.TheVariants.{Comma};
+ghost use Rattle.xt_syntax.specs.declared.exprs.Expr.TheVariants.{Comma};
 ghost use Rattle.expr_elements.specs.Space.{parts_of};
 ghost use Rattle.expr_elements.specs.Direct.{attr_and, attrs_in, content_or, content_in, element, child, attribute, enclosed};
 
@@ -10,9 +10,9 @@ use bound_prefixes::BoundPrefixes;
 use expr_rules::expr_meant::{Meant, expr_in, no_items};
 use expr_rules::expr_names::no_text;
 use expr_rules::node_name_of;
-use expr_rules::xt_syntax::{DirectAttr, Expr, Part};
 use std::alloc::{AllocError, Global};
 use xt_names::{List, Shared, Text};
+use xt_syntax::{DirectAttr, Expr, Part};
 
 #[tactic(auto, unfolding(crate::specs::Direct::attr_and))]
 fn push_attr(attrs: Vec<DirectAttr>, part: &Meant) -> Result<Vec<DirectAttr>, AllocError>

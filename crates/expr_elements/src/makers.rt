@@ -9,10 +9,10 @@ use bound_prefixes::BoundPrefixes;
 use expr_rules::expr_meant::{Meant, as_part, expr_in, expr_of, key_of};
 use expr_rules::expr_names::no_text;
 use expr_rules::node_name_of;
-use expr_rules::xt_syntax::{Expr, NameSource};
 use expr_terms::Key;
 use std::alloc::{AllocError, Global};
 use xt_names::{Name, Shared, Text};
+use xt_syntax::{Expr, NameSource};
 
 #[tactic(auto, unfolding(crate::specs::Computed::named_by))]
 fn named_by(key: Key, name: NameSource, content: Shared<Expr>) -> Expr

@@ -7,10 +7,10 @@ ghost use Rattle.expr_elements.specs.Space.{is_white_text, run_part, with_pieces
 
 use expr_rules::expr_meant::Meant;
 use expr_rules::expr_names::no_text;
-use expr_rules::xt_syntax::Part;
 use expr_terms::Token;
 use std::alloc::{AllocError, Global};
 use xt_names::{List, Shared, Text, TextBuilder};
+use xt_syntax::Part;
 
 /// Characters and whether they are literal, or a part that ends a run of them.
 #[derive(Drop)]

@@ -6,10 +6,10 @@ ghost use Rattle.expr_elements.specs.Table.{element_value};
 use crate::direct::{attribute, child, content, element, enclosed};
 use crate::makers::{computed, constructed, enclosing, pi_constructed};
 use expr_rules::expr_meant::Meant;
-use expr_rules::xt_syntax::Prefixes;
 use expr_terms::Production;
 use std::alloc::{AllocError, Global};
 use xt_names::{List, Shared};
+use xt_syntax::Prefixes;
 
 fn no_content(alloc: Global) -> Result<Meant, AllocError>
     ensures { IfOk result (λ made. made ≡ Content []) }

@@ -2,4 +2,3 @@ pub mod Parts
 pub mod Names
 pub use Rattle.expr_names.specs as ExprNames
 pub use Rattle.expr_terms.specs as ExprTerms
-pub use Rattle.xt_syntax.specs as XtSyntax

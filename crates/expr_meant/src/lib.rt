@@ -16,4 +16,3 @@ pub use expr_terms;
 pub use meant::Meant;
 pub use names::{target_in, written_in, written_of, written_test_in};
 pub use parts::{as_part, expr_in, expr_of, exprs_of, has_parts, key_of, no_items};
-pub use xt_syntax;

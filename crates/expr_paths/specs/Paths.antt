@@ -2,8 +2,8 @@
 use Rattle.std.specs.Prelude.{List, [], ◌∷◌}
 use Rattle.xt_types.specs.declared.axes.Axis.TheVariants as axis
 use Rattle.xt_types.specs.declared.node_tests.Test.TheVariants as test
-use Rattle.expr_rules.specs.XtSyntax.declared.exprs.Expr.{Expr}
-use Rattle.expr_rules.specs.XtSyntax.declared.exprs.Expr.TheVariants as expr
+use Rattle.xt_syntax.specs.declared.exprs.Expr.{Expr}
+use Rattle.xt_syntax.specs.declared.exprs.Expr.TheVariants as expr
 use Rattle.expr_rules.specs.ExprMeant.declared.meant.Meant.{Meant}
 use Rattle.expr_rules.specs.ExprMeant.declared.meant.Meant.TheVariants as meant
 use Rattle.expr_rules.specs.ExprMeant.Parts.{expr_of, exprs_of}

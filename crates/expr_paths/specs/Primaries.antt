@@ -3,8 +3,8 @@ use Rattle.std.specs.Prelude.{ℕ, List, [], ◌∷◌, Option, Some, None, true
 use Rattle.xt_names.specs.declared.names.Binding.{Binding}
 use Rattle.xt_names.specs.declared.names.ExprName.{ExprName}
 use Rattle.xt_names.specs.declared.kinds.AtomType.{AtomType}
-use Rattle.expr_rules.specs.XtSyntax.declared.exprs.Expr.{Expr}
-use Rattle.expr_rules.specs.XtSyntax.declared.exprs.Expr.TheVariants as expr
+use Rattle.xt_syntax.specs.declared.exprs.Expr.{Expr}
+use Rattle.xt_syntax.specs.declared.exprs.Expr.TheVariants as expr
 use Rattle.expr_rules.specs.ExprNames.Types.{type_named, call_type}
 use Rattle.expr_terms.specs.declared.tokens.Token.{Token}
 use Rattle.expr_terms.specs.declared.tokens.Token.TheVariants as token

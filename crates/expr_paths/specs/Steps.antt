@@ -7,8 +7,8 @@ use Rattle.xt_types.specs.declared.node_tests.Test.{Test}
 use Rattle.xt_types.specs.declared.node_tests.Test.TheVariants as test
 use Rattle.xt_types.specs.declared.node_tests.NameTest.{NameTest}
 use Rattle.xt_types.specs.declared.node_tests.NameTest.TheVariants as name
-use Rattle.expr_rules.specs.XtSyntax.declared.exprs.Expr.{Expr}
-use Rattle.expr_rules.specs.XtSyntax.declared.exprs.Expr.TheVariants as expr
+use Rattle.xt_syntax.specs.declared.exprs.Expr.{Expr}
+use Rattle.xt_syntax.specs.declared.exprs.Expr.TheVariants as expr
 use Rattle.expr_rules.specs.ExprNames.Names.{default_in}
 use Rattle.expr_terms.specs.declared.keys.Key.{Key}
 use Rattle.expr_terms.specs.declared.keys.Key.TheVariants as key

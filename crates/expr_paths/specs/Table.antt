@@ -1,7 +1,7 @@
 -- What the productions of paths and primary expressions mean, from what their parts mean (XPath 2.0, 3.1 and 3.2).
 use Rattle.std.specs.Prelude.{List}
-use Rattle.expr_rules.specs.XtSyntax.declared.prefixes.Prefixes.{Prefixes}
-use Rattle.expr_rules.specs.XtSyntax.declared.exprs.Expr.TheVariants as expr
+use Rattle.xt_syntax.specs.declared.prefixes.Prefixes.{Prefixes}
+use Rattle.xt_syntax.specs.declared.exprs.Expr.TheVariants as expr
 use Rattle.expr_terms.specs.declared.productions.Production.{Production}
 use Rattle.expr_terms.specs.declared.productions.Production.TheVariants as production
 use Rattle.expr_rules.specs.ExprMeant.declared.meant.Meant.{Meant}

@@ -1,6 +1,6 @@
 // Paths and filters.
 ghost use Rattle.std.specs.Prelude.{◌≡◌, [], IfOk};
-ghost use Rattle.expr_rules.specs.XtSyntax.declared.exprs.Expr.TheVariants.{Slash, Step};
+ghost use Rattle.xt_syntax.specs.declared.exprs.Expr.TheVariants.{Slash, Step};
 ghost use Rattle.xt_types.specs.declared.axes.Axis.TheVariants.{DescendantOrSelf};
 ghost use Rattle.xt_types.specs.declared.node_tests.Test.TheVariants.{Node};
 ghost use Rattle.expr_rules.specs.ExprMeant.declared.meant.Meant.TheVariants.{Expr as as_expr};
@@ -9,9 +9,9 @@ ghost use Rattle.expr_paths.specs.Paths.{deep, stepped, path_from, steps, root_s
 
 use crate::primaries::nothing;
 use expr_rules::expr_meant::{Meant, as_part, expr_of, exprs_of};
-use expr_rules::xt_syntax::Expr;
 use std::alloc::{AllocError, Global};
 use xt_names::{List, Shared};
+use xt_syntax::Expr;
 use xt_types::{Axis, Test};
 
 fn slash(alloc: Global, a: Shared<Expr>, b: Shared<Expr>) -> Result<Shared<Expr>, AllocError>

@@ -1,6 +1,6 @@
 // Literals, variables and calls.
 ghost use Rattle.std.specs.Prelude.{◌≡◌, [], IfOk};
-ghost use Rattle.expr_rules.specs.XtSyntax.declared.exprs.Expr.TheVariants.{Comma};
+ghost use Rattle.xt_syntax.specs.declared.exprs.Expr.TheVariants.{Comma};
 ghost use Rattle.expr_rules.specs.ExprMeant.declared.meant.Meant.TheVariants.{Expr as as_expr};
 ghost use Rattle.expr_rules.specs.ExprMeant.Parts.{expr_in};
 ghost use Rattle.expr_paths.specs.Primaries.{literal_in, literal_of, literal, variable, only_arg, called, call};
@@ -8,11 +8,11 @@ ghost use Rattle.expr_paths.specs.Primaries.{literal_in, literal_of, literal, va
 use bound_prefixes::BoundPrefixes;
 use expr_rules::expr_meant::{Meant, as_part, expr_in, no_items};
 use expr_rules::expr_names::{call_type, no_text};
-use expr_rules::xt_syntax::Expr;
 use expr_rules::{args_of, name_of};
 use expr_terms::Token;
 use std::alloc::{AllocError, Global};
 use xt_names::{AtomType, ExprName, List, Shared, Text};
+use xt_syntax::Expr;
 
 /// `()`, where a part is missing.
 pub(crate) fn nothing(alloc: Global) -> Result<Meant, AllocError>

@@ -11,10 +11,10 @@ use crate::primaries::{call, literal, only_expr, variable};
 use crate::walks::{attribute_step, axis_step, parent_step, test_step};
 use bound_prefixes::BoundPrefixes;
 use expr_rules::expr_meant::{Meant, as_part, expr_in, exprs_of};
-use expr_rules::xt_syntax::{Expr, Prefixes};
 use expr_terms::Production;
 use std::alloc::{AllocError, Global};
 use xt_names::{Shared, Text};
+use xt_syntax::{Expr, Prefixes};
 
 fn deep_after(alloc: Global, parts: &[Meant]) -> Result<Meant, AllocError>
     ensures { IfOk result (λ made. made ≡ Deep (expr_in parts.now)) }

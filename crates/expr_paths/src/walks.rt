@@ -1,6 +1,6 @@
 // Steps along an axis.
 ghost use Rattle.std.specs.Prelude.{◌≡◌, IfOk};
-ghost use Rattle.expr_rules.specs.XtSyntax.declared.exprs.Expr.TheVariants.{Step};
+ghost use Rattle.xt_syntax.specs.declared.exprs.Expr.TheVariants.{Step};
 ghost use Rattle.expr_rules.specs.ExprMeant.declared.meant.Meant.TheVariants.{Expr as as_expr};
 ghost use Rattle.expr_rules.specs.ExprMeant.Parts.{exprs_of};
 ghost use Rattle.expr_paths.specs.Steps.{axis_of, defaulted, test_on, axis_for_test, axis_for, step_on, axis_step, attribute_step, test_step, parent_step};
@@ -9,10 +9,10 @@ use bound_prefixes::BoundPrefixes;
 use expr_rules::expr_meant::{Meant, as_part, exprs_of, key_of};
 use expr_rules::expr_names::{default_in, no_text};
 use expr_rules::name_test_of;
-use expr_rules::xt_syntax::Expr;
 use expr_terms::Key;
 use std::alloc::{AllocError, Global};
 use xt_names::{Shared, Text};
+use xt_syntax::Expr;
 use xt_types::{Axis, NameTest, Test};
 
 #[tactic(auto, unfolding(crate::specs::Steps::axis_of))]

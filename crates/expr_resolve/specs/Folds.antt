@@ -8,7 +8,7 @@ use Rattle.expr_terms.specs.declared.raws.Raw.TheOpen.{Raw-F, Leaf, Node}
 use Rattle.expr_elements.specs.ExprMeant.declared.meant.Meant.{Meant}
 use Rattle.expr_elements.specs.ExprMeant.declared.meant.Meant.TheVariants as meant
 use Rattle.expr_control.specs.XtTypes.declared.types.SeqType.{SeqType}
-use Rattle.expr_elements.specs.XtSyntax.declared.exprs.Expr.{Expr}
+use Rattle.xt_syntax.specs.declared.exprs.Expr.{Expr}
 use Rattle.expr_elements.specs.ExprMeant.Parts.{expr_of}
 use Rattle.expr_elements.specs.ExprRules.Rules.{type_broken_of}
 use Rattle.expr_control.specs.Types.{sequence_of}

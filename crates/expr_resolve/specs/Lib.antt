@@ -6,4 +6,3 @@ pub use Rattle.expr_elements.specs.ExprMeant
 pub use Rattle.expr_elements.specs.ExprNames
 pub use Rattle.expr_paths.specs as ExprPaths
 pub use Rattle.expr_elements.specs.ExprRules
-pub use Rattle.expr_elements.specs.XtSyntax

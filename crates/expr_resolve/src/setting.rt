@@ -1,4 +1,4 @@
-use expr_elements::xt_syntax::Prefixes;
+use xt_syntax::Prefixes;
 
 /// What is known where an expression stands.
 #[derive(Drop)]

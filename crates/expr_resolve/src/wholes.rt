@@ -15,10 +15,10 @@ use expr_control::sequence_of;
 use expr_elements::expr_meant::{Meant, expr_of};
 use expr_elements::expr_names::ResolveFault;
 use expr_elements::expr_rules::type_rule;
-use expr_elements::xt_syntax::{Expr, SeqType};
 use expr_terms::Raw;
 use std::alloc::Global;
 use xt_names::Shared;
+use xt_syntax::{Expr, SeqType};
 
 fn copied(e: Shared<Expr>) -> Result<Expr, ResolveFault>
     ensures { Answers result [] e }

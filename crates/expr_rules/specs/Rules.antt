@@ -8,7 +8,7 @@ use Rattle.xt_names.specs.declared.names.Name.{Name}
 use Rattle.xt_names.specs.declared.codes.Code.{Code}
 use Rattle.xt_names.specs.declared.codes.Code.TheVariants.{QueryStatic}
 use Rattle.xt_names.specs.declared.codes.QueryStaticCode.TheVariants.{XPST0010, XQST0040, XQST0089}
-use Rattle.expr_meant.specs.XtSyntax.declared.exprs.Expr.{Expr}
+use Rattle.xt_syntax.specs.declared.exprs.Expr.{Expr}
 use Rattle.expr_names.specs.Names.{undeclared_in, test_broken}
 use Rattle.expr_names.specs.Types.{type_named, call_type, known_broken, cast_broken, arity_broken}
 use Rattle.expr_names.specs.Doubles.{names_differ}

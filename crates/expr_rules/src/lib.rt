@@ -14,7 +14,6 @@ mod tables;
 mod whole;
 
 pub use expr_meant;
-pub use expr_meant::xt_syntax;
 pub use expr_names;
 pub use known::{name_of, name_test_of, node_name_of, type_of};
 pub use rules::{axis_rule, cast_rule, name_rule, test_rule, type_rule};

@@ -1,7 +1,7 @@
 // The rules on all parts of a production.
 ghost use Rattle.std.specs.Prelude.{◌≡◌, ◌++◌, ◌∷◌, [], IfOk};
 ghost use Rattle.xt_names.specs.declared.kinds.AtomType.{AtomType};
-ghost use Rattle.expr_meant.specs.XtSyntax.declared.exprs.Expr.{Expr};
+ghost use Rattle.xt_syntax.specs.declared.exprs.Expr.{Expr};
 ghost use Rattle.expr_names.specs.Answers.{Answers};
 ghost use Rattle.expr_names.specs.Types.{call_type, type_named, arity_broken};
 ghost use Rattle.expr_rules.specs.Rules.{args_in, args_of, call_broken, end_broken, name_and, attr_names, doubles_broken, is_place_of, bind_broken};
@@ -11,10 +11,10 @@ use crate::known::name_of;
 use bound_prefixes::BoundPrefixes;
 use expr_meant::Meant;
 use expr_meant::expr_terms::Production;
-use expr_meant::xt_syntax::Expr;
 use expr_names::{ResolveFault, call_type, names_differ, no_text, static_fault};
 use std::alloc::{AllocError, Global};
 use xt_names::{AtomType, ExprName, List, Name, QueryStaticCode, Shared, Text};
+use xt_syntax::Expr;
 
 #[tactic(auto, unfolding(crate::specs::Rules::args_in))]
 fn args_in(alloc: Global, part: &Meant) -> Result<Shared<List<Expr>>, AllocError>

@@ -13,8 +13,8 @@ use Rattle.xt_types.specs.declared.node_tests.NameTest.{NameTest}
 use Rattle.xt_types.specs.declared.node_tests.NameTest.TheVariants as name
 use Rattle.xt_types.specs.declared.node_tests.Test.{Test}
 use Rattle.xt_types.specs.declared.node_tests.Test.TheVariants as test
-use Rattle.expr_resolve.specs.XtSyntax.declared.exprs.Expr.{Expr}
-use Rattle.expr_resolve.specs.XtSyntax.declared.exprs.Expr.TheVariants as expr
+use Rattle.xt_syntax.specs.declared.exprs.Expr.{Expr}
+use Rattle.xt_syntax.specs.declared.exprs.Expr.TheVariants as expr
 use Rattle.path_raws.specs.Names.{no_codes}
 use Rattle.expr_resolve.specs.ExprNames.Names.{uri_in, name_test, undeclared_in, test_broken}
 use Rattle.expr_terms.specs.declared.keys.Key.{Key}

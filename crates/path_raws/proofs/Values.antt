@@ -2,7 +2,7 @@
 use Rattle.std.proofs.Common.{◌≡◌, ℕ, nat_le, List, [], ◌∷◌, ◌++◌, map, reverse, Bool, true, false}
 use Rattle.std.proofs.Common.{cond, refl, sym, ◌∙◌, ap, ap₂}
 use Rattle.std.proofs.lemmas.Bool.{and_parts}
-use Rattle.expr_resolve.specs.XtSyntax.declared.exprs.Expr.{Expr}
+use Rattle.xt_syntax.specs.declared.exprs.Expr.{Expr}
 use Rattle.expr_terms.specs.declared.tokens.Token.{Token}
 use Rattle.expr_terms.specs.declared.productions.Production.{Production}
 use Rattle.expr_terms.specs.declared.productions.Production.TheVariants as production

@@ -6,7 +6,7 @@ use Rattle.xt_types.specs.declared.axes.Axis.{Axis}
 use Rattle.xt_types.specs.declared.axes.Axis.TheVariants as axis
 use Rattle.xt_types.specs.declared.node_tests.Test.{Test}
 use Rattle.xt_types.specs.declared.node_tests.Test.TheVariants as test
-use Rattle.expr_resolve.specs.XtSyntax.declared.prefixes.Prefixes.{Prefixes}
+use Rattle.xt_syntax.specs.declared.prefixes.Prefixes.{Prefixes}
 use Rattle.expr_resolve.specs.ExprNames.Types.{type_named, call_type}
 use Rattle.expr_terms.specs.declared.keys.Key.{Key}
 use Rattle.expr_terms.specs.declared.keys.Key.TheVariants as key

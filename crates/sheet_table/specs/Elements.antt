@@ -12,41 +12,41 @@ use Rattle.sheet_table.specs.Texts.{Named, named, is_one_of}
 -- the elements that the product reads
 abbrev pub elements : List Named
 elements =
-    named (codes "stylesheet") element.Stylesheet
-    ∷ named (codes "transform") element.Stylesheet
-    ∷ named (codes "import") element.Import
-    ∷ named (codes "include") element.Include
-    ∷ named (codes "template") element.Template
-    ∷ named (codes "function") element.Function
-    ∷ named (codes "key") element.Key
-    ∷ named (codes "strip-space") element.StripSpace
-    ∷ named (codes "preserve-space") element.PreserveSpace
-    ∷ named (codes "output") element.Output
-    ∷ named (codes "param") element.Param
-    ∷ named (codes "variable") element.Variable
-    ∷ named (codes "with-param") element.WithParam
+    named (codes "template") element.Template
+    ∷ named (codes "value-of") element.ValueOf
     ∷ named (codes "apply-templates") element.ApplyTemplates
-    ∷ named (codes "apply-imports") element.ApplyImports
-    ∷ named (codes "next-match") element.NextMatch
-    ∷ named (codes "call-template") element.CallTemplate
-    ∷ named (codes "for-each") element.ForEach
-    ∷ named (codes "for-each-group") element.ForEachGroup
-    ∷ named (codes "perform-sort") element.PerformSort
-    ∷ named (codes "sort") element.Sort
     ∷ named (codes "if") element.If
+    ∷ named (codes "for-each") element.ForEach
     ∷ named (codes "choose") element.Choose
     ∷ named (codes "when") element.When
     ∷ named (codes "otherwise") element.Otherwise
-    ∷ named (codes "value-of") element.ValueOf
+    ∷ named (codes "variable") element.Variable
+    ∷ named (codes "with-param") element.WithParam
+    ∷ named (codes "call-template") element.CallTemplate
+    ∷ named (codes "param") element.Param
     ∷ named (codes "text") element.Text
-    ∷ named (codes "element") element.Element
     ∷ named (codes "attribute") element.Attribute
+    ∷ named (codes "element") element.Element
+    ∷ named (codes "copy-of") element.CopyOf
+    ∷ named (codes "copy") element.Copy
+    ∷ named (codes "sequence") element.Sequence
+    ∷ named (codes "sort") element.Sort
+    ∷ named (codes "key") element.Key
+    ∷ named (codes "function") element.Function
+    ∷ named (codes "for-each-group") element.ForEachGroup
+    ∷ named (codes "stylesheet") element.Stylesheet
+    ∷ named (codes "transform") element.Stylesheet
+    ∷ named (codes "import") element.Import
+    ∷ named (codes "include") element.Include
+    ∷ named (codes "output") element.Output
+    ∷ named (codes "strip-space") element.StripSpace
+    ∷ named (codes "preserve-space") element.PreserveSpace
+    ∷ named (codes "apply-imports") element.ApplyImports
+    ∷ named (codes "next-match") element.NextMatch
+    ∷ named (codes "perform-sort") element.PerformSort
     ∷ named (codes "comment") element.Comment
     ∷ named (codes "processing-instruction") element.ProcessingInstruction
     ∷ named (codes "document") element.Document
-    ∷ named (codes "copy") element.Copy
-    ∷ named (codes "copy-of") element.CopyOf
-    ∷ named (codes "sequence") element.Sequence
     ∷ []
 
 abbrev pub element_in : List Named → List ℕ → Option XslElement
