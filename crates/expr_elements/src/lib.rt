@@ -15,7 +15,7 @@ mod tables;
 
 pub use direct::{attribute, child, content, element, enclosed};
 pub use expr_rules;
-pub use expr_rules::{expr_meant, expr_names, xt_syntax};
+pub use expr_rules::{expr_meant, expr_names};
 pub use makers::{computed, constructed, enclosing, pi_constructed};
 pub use space::{Joined, Piece};
 pub use tables::element_value;
