@@ -1,2 +1,3 @@
 pub mod Cleaned
 pub mod Parts
+pub mod Pending

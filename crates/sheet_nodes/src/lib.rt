@@ -11,6 +11,7 @@
 
 mod nodes;
 mod parts;
+mod pending;
 
 pub use nodes::{Node, clean};
 pub use parts::{

@@ -1,11 +1,12 @@
 ghost use Rattle.std.specs.Prelude.{◌≡◌, ◌++◌, ◌+◌, ◌≤◌, [], drop, length, IfOk, OnOk};
 ghost use Rattle.xt_tree.specs.TreeView.{forest_of};
-ghost use Rattle.sheet_nodes.specs.Cleaned.{cleaned, flushed, elements_in, is_text, goes, element_node};
+ghost use Rattle.sheet_nodes.specs.Cleaned.{cleaned, elements_in, is_text, element_node};
 
+use crate::pending::Pending;
 use sheet_table::{XslElement, xsl_element};
 use std::alloc::{AllocError, Global};
-use xt_names::{Binding, List, Name, Shared, Text, TextBuilder, copy_binding_list};
-use xt_tree::{Attrs, Tree, is_white};
+use xt_names::{Binding, List, Name, Shared, Text, copy_binding_list};
+use xt_tree::{Attrs, Tree};
 
 /// A part of a stylesheet (XSLT 2.0, 4.2).
 #[derive(Drop)]
@@ -34,13 +35,13 @@ pub fn clean(
     ensures next { IfOk result (λ r. r.1 ≡ from + elements_in (forest_of trees.now)) }
 {
     let mut out = List::new(alloc);
-    let mut pending = TextBuilder::new(alloc);
+    let mut pending = Pending::Nothing;
     let mut next = from;
     for tree in trees {
         match tree {
             Tree::Elem(name, attributes, kids) => {
-                flush(keep, pending, &mut out)?;
-                pending = TextBuilder::new(alloc);
+                pending.flush(keep, &mut out)?;
+                pending = Pending::Nothing;
                 let (node, behind) = clean_element(
                     alloc,
                     declared,
@@ -52,11 +53,11 @@ pub fn clean(
                 out.push(node)?;
                 next = behind;
             }
-            Tree::Text(text) => pending.push_text(text)?,
+            Tree::Text(text) => pending = pending.with(alloc, text)?,
             Tree::Doc(_) | Tree::Comment(_) | Tree::Pi(_, _) | Tree::Attr(_, _) => {}
         }
     }
-    flush(keep, pending, &mut out)?;
+    pending.flush(keep, &mut out)?;
     Ok((out, next))
 }
 
@@ -80,28 +81,6 @@ fn clean_element(
         Node::Elem(own, name.copy()?, attributes.copy()?, nodes),
         next,
     ))
-}
-
-/// Puts the text that came before at the end, if it stays.
-#[tactic(auto, unfolding(crate::specs::Cleaned::flushed))]
-fn flush(keep: bool, pending: TextBuilder, out: &mut List<Node>) -> Result<(), AllocError>
-    ensures { OnOk result (out.new ≡ out.old ++ flushed keep pending) }
-{
-    let text = pending.finish()?;
-    if goes(keep, &text) {
-        return Ok(());
-    }
-    out.push(Node::Chars(text))
-}
-
-fn goes(keep: bool, text: &Text) -> bool
-    ensures { result ≡ goes keep text.now }
-{
-    if keep {
-        text.is_empty()
-    } else {
-        is_white(text)
-    }
 }
 
 #[tactic(auto, unfolding(crate::specs::Cleaned::is_text))]
