@@ -61,7 +61,8 @@ def kit():
 
     module.rtlib.Crate.below = module.Crate.below = below
     module.Crate.allowed = module.handles_of(TOP)
-    module.STAMPS.seen = {}
+    if hasattr(module, "STAMPS"):
+        module.STAMPS.seen = {}
     return module
 
 
@@ -281,6 +282,19 @@ def take_kept(kept, crate, key):
     return True
 
 
+class NothingKept:
+    """What a kit keeps whose `rt ci` keeps nothing."""
+
+    def key(self, crate):
+        return crate.stamp()
+
+    def place(self, crate, tests, key):
+        return ""
+
+    def is_built(self, crate):
+        pass
+
+
 def make_stand(kept, crate, proved):
     """Makes the library stand, and tells whether it does; `proved` are the names of those that are no stubs."""
     stub = text_in(f"{crate.folder}/out/rlib/stub")
@@ -312,7 +326,7 @@ def main(names):
     rt = kit()
     crates = rt.crates_of(TOP)
     by_name, proved = {it.name: it for it in crates}, set()
-    kept = rt.Kept(crates)
+    kept = rt.Kept(crates) if hasattr(rt, "Kept") else NothingKept()
     needed = {it.name: it for name in names for it in by_name[name].below()}
     runs = {}
 
