@@ -65,7 +65,9 @@ def take(crate):
     kept, out = place(crate, "rlib"), f"{crate.folder}/out/rlib"
     if not os.path.isdir(kept):
         return False
-    if not crate.is_built():
+    # (libraries fit together only as they were proved over each other, so one that was built here apart goes)
+    stands = os.path.exists(f"{crate.rlib}/format") and os.path.samefile(f"{kept}/format", f"{crate.rlib}/format")
+    if not stands or not crate.is_built():
         shutil.rmtree(out, ignore_errors=True)
         os.makedirs(out)
         shutil.copytree(kept, crate.rlib, copy_function=os.link)
