@@ -8,8 +8,6 @@ temporary files, by a sum of a crate's text and of all below it, for every check
 out/ too, so that `rt check` finds them. No edits are tried and no program is run: only `rt ci` has the last word.
 """
 import hashlib
-import importlib.machinery
-import importlib.util
 import os
 import shutil
 import sys
@@ -17,37 +15,24 @@ import tempfile
 import threading
 import time
 
-KIT = "/opt/rattle"
+import kit
+
 STORE = f"{tempfile.gettempdir()}/proved-crates"
 TOP = os.path.dirname(os.path.dirname(os.path.abspath(__file__)))
 
 
-def kit():
-    """The kit's rt as a module, which remembers what stands below each crate and the sums of their texts."""
-    sys.path.insert(0, f"{KIT}/bin")
-    loader = importlib.machinery.SourceFileLoader("rt", f"{KIT}/bin/rt")
-    module = importlib.util.module_from_spec(importlib.util.spec_from_loader("rt", loader))
-    sys.modules["rt"] = module
-    loader.exec_module(module)
+def load():
+    """The kit's rt, which remembers the sums of the crates' texts too, and proves as `rt ci` does."""
+    module = kit.load(TOP)
     anew = module.rtlib.Crate.stamp
-
-    def below(crate):
-        if "all_below" not in crate.__dict__:
-            found = {}
-            for dep in crate.deps:
-                found.update({it.name: it for it in [*dep.below(), dep]})
-            crate.all_below = list(found.values())
-        return list(crate.all_below)
 
     def stamp(crate):
         if "own_stamp" not in crate.__dict__:
             crate.own_stamp = anew(crate)
         return crate.own_stamp
 
-    module.rtlib.Crate.below = module.Crate.below = below
     module.rtlib.Crate.stamp = module.Crate.stamp = stamp
     module.rtlib.Crate = module.Crate
-    module.Crate.allowed = module.handles_of(TOP)
     module.Crate.cuts_libraries = True
     return module
 
@@ -116,7 +101,7 @@ def prove(rt, crate, tests, jobs, log):
 
 def main(names):
     os.chdir(TOP)
-    rt = kit()
+    rt = load()
     rt.rtlib.guarded()
     crates = {it.name: it for it in rt.rtlib.crates_below(TOP)}
     wanted = {below.name: below for name in names or crates for below in [*crates[name].below(), crates[name]]}

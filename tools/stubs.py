@@ -12,8 +12,6 @@ none of them, and only its word counts. The checkouts on a machine share their s
 """
 import fcntl
 import hashlib
-import importlib.machinery
-import importlib.util
 import os
 import re
 import shutil
@@ -23,7 +21,9 @@ import tempfile
 import time
 from concurrent.futures import ThreadPoolExecutor
 
-KIT = "/opt/rattle"
+import kit
+from kit import KIT
+
 STORE = f"{tempfile.gettempdir()}/stubs-of-libraries"
 TOP = os.path.dirname(os.path.dirname(os.path.abspath(__file__)))
 CALL = "{\n    crate::unreached::unreached();\n    unreachable!()\n}"
@@ -43,24 +43,9 @@ TACTIC = r"\[tactic\((?:[^()]|\((?:[^()]|\([^()]*\))*\))*\)\]"
 CYCLE = r"#\[cycle\(\w+\)\]\n(?=\s*(///[^\n]*\n\s*)*(#\[[^\n]*\n\s*)*(pub(\([a-z]+\))? )?(unsafe )?fn )"
 
 
-def kit():
-    """The kit's rt as a module, which remembers what stands below each crate."""
-    sys.path.insert(0, f"{KIT}/bin")
-    loader = importlib.machinery.SourceFileLoader("rt", f"{KIT}/bin/rt")
-    module = importlib.util.module_from_spec(importlib.util.spec_from_loader("rt", loader))
-    sys.modules["rt"] = module
-    loader.exec_module(module)
-
-    def below(crate):
-        if "all_below" not in crate.__dict__:
-            found = {}
-            for dep in crate.deps:
-                found.update({it.name: it for it in [*dep.below(), dep]})
-            crate.all_below = list(found.values())
-        return list(crate.all_below)
-
-    module.rtlib.Crate.below = module.Crate.below = below
-    module.Crate.allowed = module.handles_of(TOP)
+def load():
+    """The kit's rt, which sums up the crates' texts once."""
+    module = kit.load(TOP)
     if hasattr(module, "STAMPS"):
         module.STAMPS.seen = {}
     return module
@@ -323,7 +308,7 @@ def main(names):
         print(__doc__.split("\n\n")[1])
         return 2
     os.chdir(TOP)
-    rt = kit()
+    rt = load()
     crates = rt.crates_of(TOP)
     by_name, proved = {it.name: it for it in crates}, set()
     kept = rt.Kept(crates) if hasattr(rt, "Kept") else NothingKept()
