@@ -309,7 +309,7 @@ def main(names):
         return 2
     os.chdir(TOP)
     rt = load()
-    crates = rt.crates_of(TOP)
+    crates = rt.crates_of(TOP) if hasattr(rt, "Kept") else rt.rtlib.crates_below(TOP)
     by_name, proved = {it.name: it for it in crates}, set()
     kept = rt.Kept(crates) if hasattr(rt, "Kept") else NothingKept()
     needed = {it.name: it for name in names for it in by_name[name].below()}
