@@ -12,9 +12,10 @@ use Rattle.expr_names.specs.declared.fault.ResolveFault.{ResolveFault}
 use Rattle.sheet_texts.specs.Readings.{Reading}
 use Rattle.sheet_modules.specs.declared.modules.Part.{Part}
 use Rattle.module_loading.specs.declared.loaded.LoadedModule.{LoadedModule}
-use Rattle.module_reader.specs.Modules.{parts_faults, parts_value}
+use Rattle.module_reader.specs.Modules.{nodes_faults, nodes_value}
+use Rattle.sheet_nodes.specs.declared.nodes.Node.{Node}
 use Rattle.loaded_parts.specs.Names.{AllCanBeRead}
-use Rattle.loaded_parts.specs.Parts.{modules_faults, modules_value}
+use Rattle.loaded_parts.specs.Parts.{all_faults, all_values}
 use Rattle.loaded_parts.specs.declared.names.SheetNames.{SheetNames}
 
 is_within : (i n : ℕ) → true ≡ nat_lt i n → i < n
@@ -23,7 +24,7 @@ is_within i n e = elim (cases_lt i n) [
   | inr over ↦ absurd (let no : true ≡ false = e ∙ le-ltb i n over in cc)
 ]
 
-pub found : (ms : List LoadedModule) (i : ℕ) (m : LoadedModule) → true ≡ nat_lt i (length ms)
+pub found : {A : Type 0} (ms : List A) (i : ℕ) (m : A) → true ≡ nat_lt i (length ms)
     → m ≡ get_or ms i m → slice_get ms i ≡ Some m
 found ms i m less is = slice_get_read ms (length ms) i m refl (is_within i (length ms) less) is
 
@@ -48,36 +49,32 @@ rest_readable left m some is all =
     subst AllCanBeRead (first_of left m some is) all in both.1
 
 module _ {E P : Type 0} (r : Reading E P) (modes called : List ExprName) where
-  abbrev faults_in : LoadedModule → List Code
-  faults_in m = parts_faults r modes called m.scoped.tree m.scoped.declared
-
-  abbrev value_in : LoadedModule → List (Part E P)
-  value_in m = parts_value r modes called m.scoped.tree m.scoped.declared
-
-  pub turn_faults : (m : LoadedModule) (left : List LoadedModule) (all : List Code)
+  pub turn_faults : (m : List Node) (left : List (List Node)) (all : List Code)
       (one : Result (List (Part E P)) ResolveFault) (made new : List (List (Part E P)))
-      → 1 ≤ length left → m ≡ get_or left 0 m → Answers one (faults_in m) (value_in m)
+      → 1 ≤ length left → m ≡ get_or left 0 m
+      → Answers one (nodes_faults r modes called m) (nodes_value r modes called m)
       → ((faults : List Code) (a : List (Part E P)) → Answers one faults a
       → Answers (Ok new) faults (made ++ a ∷ []))
-      → modules_faults r modes called left ≡ all
-      → modules_faults r modes called (take (length left - 1) (drop 1 left)) ≡ all
+      → all_faults r modes called left ≡ all
+      → all_faults r modes called (take (length left - 1) (drop 1 left)) ≡ all
   turn_faults m left all one made new some is answers more h =
-      let rest : List LoadedModule = take (length left - 1) (drop 1 left) in
-      let none = (more (faults_in m) (value_in m) answers).0 in
-      ap (λ (cs : List Code). cs ++ modules_faults r modes called rest) (sym none)
-      ∙ (ap (modules_faults r modes called) (sym (first_of left m some is)) ∙ h)
+      let rest : List (List Node) = take (length left - 1) (drop 1 left) in
+      let none = (more (nodes_faults r modes called m) (nodes_value r modes called m) answers).0 in
+      ap (λ (cs : List Code). cs ++ all_faults r modes called rest) (sym none)
+      ∙ (ap (all_faults r modes called) (sym (first_of left m some is)) ∙ h)
 
-  pub turn_value : (m : LoadedModule) (left : List LoadedModule) (all : List (List (Part E P)))
+  pub turn_value : (m : List Node) (left : List (List Node)) (all : List (List (Part E P)))
       (one : Result (List (Part E P)) ResolveFault) (made new : List (List (Part E P)))
-      → 1 ≤ length left → m ≡ get_or left 0 m → Answers one (faults_in m) (value_in m)
+      → 1 ≤ length left → m ≡ get_or left 0 m
+      → Answers one (nodes_faults r modes called m) (nodes_value r modes called m)
       → ((faults : List Code) (a : List (Part E P)) → Answers one faults a
       → Answers (Ok new) faults (made ++ a ∷ []))
-      → made ++ modules_value r modes called left ≡ all
-      → new ++ modules_value r modes called (take (length left - 1) (drop 1 left)) ≡ all
+      → made ++ all_values r modes called left ≡ all
+      → new ++ all_values r modes called (take (length left - 1) (drop 1 left)) ≡ all
   turn_value m left all one made new some is answers more h =
-      let rest : List LoadedModule = take (length left - 1) (drop 1 left) in
-      let same = (more (faults_in m) (value_in m) answers).1 in
-      ap (λ (xs : List (List (Part E P))). xs ++ modules_value r modes called rest) same
-      ∙ (append_assoc made (value_in m ∷ []) (modules_value r modes called rest)
-      ∙ (ap (λ (ms : List LoadedModule). made ++ modules_value r modes called ms)
+      let rest : List (List Node) = take (length left - 1) (drop 1 left) in
+      let same = (more (nodes_faults r modes called m) (nodes_value r modes called m) answers).1 in
+      ap (λ (xs : List (List (Part E P))). xs ++ all_values r modes called rest) same
+      ∙ (append_assoc made (nodes_value r modes called m ∷ []) (all_values r modes called rest)
+      ∙ (ap (λ (ms : List (List Node)). made ++ all_values r modes called ms)
       (sym (first_of left m some is)) ∙ h))

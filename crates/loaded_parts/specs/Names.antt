@@ -1,11 +1,13 @@
 -- Numbers of modes and of templates that are called (XSLT 2.0, 6.5 and 10.1).
-use Rattle.std.specs.Prelude.{List, [], ◌∷◌, ⊤, slice_get, ◌==◌, Option, Some, None}
+use Rattle.std.specs.Prelude.{List, [], ◌∷◌, ⊤, map, slice_get, ◌==◌, Option, Some, None}
 use Rattle.std.specs.Prelude.{if◌then◌else◌}
 use Rattle.sheet_values.specs.Modes.{default_mode}
 use Rattle.sheet_levels.specs.declared.levels.Span.{Span}
 use Rattle.sheet_levels.specs.declared.levels.SheetLevel.{SheetLevel}
 use Rattle.module_loading.specs.declared.loaded.LoadedModule.{LoadedModule}
-use Rattle.module_reader.specs.Modules.{CanBeRead, with_modes, with_called}
+use Rattle.module_reader.specs.Modules.{CanBeRead, with_modes, with_called, module_nodes, nodes_names}
+use Rattle.module_reader.specs.declared.mentions.Mention.TheVariants as mention
+use Rattle.sheet_nodes.specs.declared.nodes.Node.{Node}
 use Rattle.loaded_parts.specs.declared.names.SheetNames.{SheetNames}
 
 abbrev pub ModuleCanBeRead : LoadedModule → Type 0
@@ -18,7 +20,35 @@ AllCanBeRead (m ∷ ms) = ModuleCanBeRead m × AllCanBeRead ms
 abbrev pub names_alone : SheetNames
 names_alone = record { modes = default_mode ∷ []; called = [] }
 
--- .. and those of a module
+-- the nodes of each module
+abbrev pub nodes_of_module : LoadedModule → List Node
+nodes_of_module m = module_nodes m.scoped.tree m.scoped.declared
+
+abbrev pub nodes_in : List LoadedModule → List (List Node)
+nodes_in ms = map nodes_of_module ms
+
+-- .. and those of a module of these nodes
+abbrev pub with_nodes : Option (List Node) → SheetNames → SheetNames
+with_nodes None names = names
+with_nodes (Some nodes) names = record {
+  modes = nodes_names mention.Modes nodes names.modes;
+  called = nodes_names mention.Called nodes names.called;
+}
+
+-- .. where its first piece stands
+abbrev pub with_span_of : List (List Node) → Span → SheetNames → SheetNames
+with_span_of modules s names =
+    if s.from == 0 then with_nodes (slice_get modules s.place) names else names
+
+abbrev pub with_spans_of : List (List Node) → List Span → SheetNames → SheetNames
+with_spans_of modules [] names = names
+with_spans_of modules (s ∷ ss) names = with_spans_of modules ss (with_span_of modules s names)
+
+abbrev pub with_levels_of : List (List Node) → List SheetLevel → SheetNames → SheetNames
+with_levels_of modules [] names = names
+with_levels_of modules (l ∷ ls) names = with_levels_of modules ls (with_spans_of modules l.spans names)
+
+-- The same of modules that are loaded: those of a module
 abbrev pub with_module : Option LoadedModule → SheetNames → SheetNames
 with_module None names = names
 with_module (Some m) names = record {

@@ -5,10 +5,20 @@ use Rattle.xt_names.specs.declared.codes.Code.{Code}
 use Rattle.sheet_texts.specs.Readings.{Reading}
 use Rattle.sheet_modules.specs.declared.modules.Part.{Part}
 use Rattle.module_loading.specs.declared.loaded.LoadedModule.{LoadedModule}
-use Rattle.module_reader.specs.Modules.{parts_faults, parts_value}
+use Rattle.module_reader.specs.Modules.{parts_faults, parts_value, nodes_faults, nodes_value}
+use Rattle.sheet_nodes.specs.declared.nodes.Node.{Node}
 
 module _ {E P : Type 0} (r : Reading E P) (modes called : List ExprName) where
-  -- all rules that the modules break by themselves, module by module
+  -- all rules that modules of these nodes break by themselves, module by module, and what they
+  -- declare
+  abbrev pub all_faults : List (List Node) → List Code
+  all_faults [] = []
+  all_faults (nodes ∷ rest) = nodes_faults r modes called nodes ++ all_faults rest
+
+  abbrev pub all_values : List (List Node) → List (List (Part E P))
+  all_values all = map (λ nodes. nodes_value r modes called nodes) all
+
+  -- the same of modules that are loaded
   abbrev pub modules_faults : List LoadedModule → List Code
   modules_faults [] = []
   modules_faults (m ∷ ms) =

@@ -1,14 +1,14 @@
 // Numbers of modes and of templates that are called.
 ghost use Rattle.std.specs.Prelude.{◌≡◌, slice_get, IfOk, OnOk};
-ghost use Rattle.loaded_parts.specs.Names.{AllCanBeRead, names_alone, with_module, with_spans};
-ghost use Rattle.loaded_parts.specs.Names.{with_levels};
+ghost use Rattle.loaded_parts.specs.Names.{names_alone, with_nodes, with_spans_of, with_levels_of};
 
-use module_loading::LoadedModule;
 use module_reader::collect_names;
 use sheet_levels::{SheetLevel, Span};
+use sheet_nodes::Node;
 use sheet_texts::NameTable;
 use sheet_values::default_mode;
 use std::alloc::{AllocError, Global};
+use xt_names::List;
 
 /// The names that have numbers in a stylesheet: their places from 0.
 #[derive(Drop)]
@@ -31,27 +31,25 @@ fn names_alone(alloc: Global) -> Result<SheetNames, AllocError>
 
 fn add_module(
     alloc: Global,
-    modules: &[LoadedModule],
+    modules: &[List<Node>],
     place: usize,
     names: &mut SheetNames,
 ) -> Result<(), AllocError>
-    requires { AllCanBeRead modules.now }
-    ensures { OnOk result (names.new ≡ with_module (slice_get modules.now place) names.old) }
+    ensures { OnOk result (names.new ≡ with_nodes (slice_get modules.now place) names.old) }
 {
     match modules.get(place) {
-        Some(module) => collect_names(alloc, &module.scoped, &mut names.modes, &mut names.called),
+        Some(nodes) => collect_names(alloc, nodes.as_slice(), &mut names.modes, &mut names.called),
         None => Ok(()),
     }
 }
 
 fn add_spans(
     alloc: Global,
-    modules: &[LoadedModule],
+    modules: &[List<Node>],
     spans: &[Span],
     names: &mut SheetNames,
 ) -> Result<(), AllocError>
-    requires { AllCanBeRead modules.now }
-    ensures { OnOk result (names.new ≡ with_spans modules.now spans.now names.old) }
+    ensures { OnOk result (names.new ≡ with_spans_of modules.now spans.now names.old) }
 {
     for span in spans {
         // (the other pieces of a module have no names that its first one has not)
@@ -64,14 +62,13 @@ fn add_spans(
 
 /// The modes that the modules name, of which the default mode is the first, and the templates that
 /// they call: each where it first appears, module by module in the order of precedence (XSLT 2.0,
-/// 6.5 and 10.1).
+/// 6.5 and 10.1). The modules are given in the order of loading, each by its nodes.
 pub fn collect_all(
     alloc: Global,
     levels: &[SheetLevel],
-    modules: &[LoadedModule],
+    modules: &[List<Node>],
 ) -> Result<SheetNames, AllocError>
-    requires { AllCanBeRead modules.now }
-    ensures { IfOk result (λ names. names ≡ with_levels modules.now levels.now names_alone) }
+    ensures { IfOk result (λ names. names ≡ with_levels_of modules.now levels.now names_alone) }
 {
     let mut names = names_alone(alloc)?;
     for level in levels {

@@ -13,8 +13,8 @@ ghost use Rattle.module_reader.specs.Modules.{root_bound, root_place, root_names
 ghost use Rattle.module_reader.specs.Modules.{stylesheet_faults, root_layer_faults};
 ghost use Rattle.module_reader.specs.Modules.{root_layer_value};
 ghost use Rattle.module_reader.specs.Modules.{nodes_faults, nodes_value};
-ghost use Rattle.module_reader.specs.Modules.{CanBeRead, module_nodes, with_modes, with_called};
-ghost use Rattle.module_reader.specs.Modules.{parts_faults, parts_value};
+ghost use Rattle.module_reader.specs.Modules.{CanBeRead, module_nodes};
+ghost use Rattle.module_reader.specs.declared.mentions.Mention.TheVariants.{Modes, Called};
 ghost use Rattle.module_reader.specs.Modules.{module_faults, module_value};
 
 use crate::in_force::InForce;
@@ -63,12 +63,13 @@ fn placed_part<R: Reader>(
     place: &Place,
     late: bool,
     node: &Node,
-) -> Result<Part<R::Expr, R::Pattern>, ResolveFault>
+) -> Result<Shared<Part<R::Expr, R::Pattern>>, ResolveFault>
     ensures { Answers result (placed_faults (R.reads reader.now) place.now late node.now)
         (top_value (R.reads reader.now) place.now node.now) }
 {
     refuse_if(SheetStaticCode::XTSE0200, late && is_import(node))?;
-    part(alloc, reader, place, node)
+    let one = part(alloc, reader, place, node)?;
+    Ok(Shared::make(alloc, one)?)
 }
 
 /// Whether other elements than imports stand before what is behind the node.
@@ -87,7 +88,7 @@ fn tops<R: Reader>(
     reader: &R,
     place: &Place,
     nodes: &[Node],
-) -> Result<List<Part<R::Expr, R::Pattern>>, ResolveFault>
+) -> Result<List<Shared<Part<R::Expr, R::Pattern>>>, ResolveFault>
     ensures { Answers result (tops_faults (R.reads reader.now) place.now false nodes.now)
         (tops_value (R.reads reader.now) place.now nodes.now) }
 {
@@ -200,7 +201,7 @@ fn read_root<R: Reader>(
     name: &Name,
     attributes: &[Attribute],
     kids: &[Node],
-) -> Result<List<Part<R::Expr, R::Pattern>>, ResolveFault>
+) -> Result<List<Shared<Part<R::Expr, R::Pattern>>>, ResolveFault>
     ensures { Answers result
         (stylesheet_faults (R.reads reader.now) place.now name.now attributes.now kids.now)
         (tops_value (R.reads reader.now) place.now kids.now) }
@@ -216,7 +217,7 @@ fn read_root_node<R: Reader>(
     modes: &Shared<NameTable>,
     called: &Shared<NameTable>,
     node: &Node,
-) -> Result<List<Part<R::Expr, R::Pattern>>, ResolveFault>
+) -> Result<List<Shared<Part<R::Expr, R::Pattern>>>, ResolveFault>
     ensures { Answers result
         (root_layer_faults (R.reads reader.now) modes.now called.now (out-Node node.now))
         (root_layer_value (R.reads reader.now) modes.now called.now (out-Node node.now)) }
@@ -237,24 +238,8 @@ fn read_root_node<R: Reader>(
     }
 }
 
-fn read_nodes<R: Reader>(
-    alloc: Global,
-    reader: &R,
-    modes: &Shared<NameTable>,
-    called: &Shared<NameTable>,
-    nodes: &[Node],
-) -> Result<List<Part<R::Expr, R::Pattern>>, ResolveFault>
-    ensures { Answers result
-        (nodes_faults (R.reads reader.now) modes.now called.now nodes.now)
-        (nodes_value (R.reads reader.now) modes.now called.now nodes.now) }
-{
-    match nodes {
-        [root] => read_root_node(alloc, reader, modes, called, root),
-        _ => Err(sheet_fault(SheetStaticCode::XTUN0001)),
-    }
-}
-
-fn nodes_of(alloc: Global, document: &Scoped) -> Result<List<Node>, AllocError>
+/// The nodes of the module: its root, and what stands beside it (XSLT 2.0, 3.6 and 4.2).
+pub fn module_nodes(alloc: Global, document: &Scoped) -> Result<List<Node>, AllocError>
     requires { CanBeRead document.now.tree document.now.declared }
     ensures { IfOk result (λ nodes. nodes ≡ module_nodes document.now.tree document.now.declared) }
 {
@@ -263,48 +248,42 @@ fn nodes_of(alloc: Global, document: &Scoped) -> Result<List<Node>, AllocError>
     Ok(nodes)
 }
 
-/// Puts the modes that the module names at the end of names, and the templates that it calls at the
-/// end of others, each where it first appears, unless it is there (XSLT 2.0, 6.5 and 10.1). The
-/// default mode is the name of no characters.
-#[tactic(auto, unfolding(crate::specs::Modules::with_modes, crate::specs::Modules::with_called))]
+/// Puts the modes that a module of these nodes names at the end of names, and the templates that it
+/// calls at the end of others, each where it first appears, unless it is there (XSLT 2.0, 6.5 and
+/// 10.1). The default mode is the name of no characters.
 pub fn collect_names(
     alloc: Global,
-    document: &Scoped,
+    nodes: &[Node],
     modes: &mut NameTable,
     called: &mut NameTable,
 ) -> Result<(), AllocError>
-    requires { CanBeRead document.now.tree document.now.declared }
-    ensures modes { OnOk result (modes.new
-        ≡ with_modes document.now.tree document.now.declared modes.old) }
-    ensures called { OnOk result (called.new
-        ≡ with_called document.now.tree document.now.declared called.old) }
+    ensures modes { OnOk result (modes.new ≡ nodes_names Modes nodes.now modes.old) }
+    ensures called { OnOk result (called.new ≡ nodes_names Called nodes.now called.old) }
 {
-    let nodes = nodes_of(alloc, document)?;
-    add_nodes(alloc, Mention::Modes, nodes.as_slice(), modes)?;
-    add_nodes(alloc, Mention::Called, nodes.as_slice(), called)
+    add_nodes(alloc, Mention::Modes, nodes, modes)?;
+    add_nodes(alloc, Mention::Called, nodes, called)
 }
 
-/// What the module declares, child by child of its root, by the numbers that its modes and the
-/// templates that it calls have in these tables (XSLT 2.0, 3.6). XTUN0001 comes where its root is
-/// neither `xsl:stylesheet` nor `xsl:transform`, and XTSE0200 of an `xsl:import` behind another
-/// element; else the code is that of the first rule that one of its children breaks by itself.
-#[tactic(auto, unfolding(crate::specs::Modules::parts_faults, crate::specs::Modules::parts_value))]
+/// What a module of these nodes declares, child by child of its root, by the numbers that its modes
+/// and the templates that it calls have in these tables (XSLT 2.0, 3.6). XTUN0001 comes where its
+/// root is neither `xsl:stylesheet` nor `xsl:transform`, and XTSE0200 of an `xsl:import` behind
+/// another element; else the code is that of the first rule that one of its children breaks by
+/// itself.
 pub fn read_parts<R: Reader>(
     alloc: Global,
     reader: &R,
     modes: &Shared<NameTable>,
     called: &Shared<NameTable>,
-    document: &Scoped,
-) -> Result<List<Part<R::Expr, R::Pattern>>, ResolveFault>
-    requires { CanBeRead document.now.tree document.now.declared }
+    nodes: &[Node],
+) -> Result<List<Shared<Part<R::Expr, R::Pattern>>>, ResolveFault>
     ensures { Answers result
-        (parts_faults (R.reads reader.now) modes.now called.now document.now.tree
-        document.now.declared)
-        (parts_value (R.reads reader.now) modes.now called.now document.now.tree
-        document.now.declared) }
+        (nodes_faults (R.reads reader.now) modes.now called.now nodes.now)
+        (nodes_value (R.reads reader.now) modes.now called.now nodes.now) }
 {
-    let nodes = nodes_of(alloc, document)?;
-    read_nodes(alloc, reader, modes, called, nodes.as_slice())
+    match nodes {
+        [root] => read_root_node(alloc, reader, modes, called, root),
+        _ => Err(sheet_fault(SheetStaticCode::XTUN0001)),
+    }
 }
 
 fn default_alone(alloc: Global) -> Result<NameTable, AllocError>
@@ -318,6 +297,7 @@ fn default_alone(alloc: Global) -> Result<NameTable, AllocError>
 
 /// What the module declares, with the names of its modes, of which the default mode is the first,
 /// and of the templates that it calls (XSLT 2.0, 3.6). It refuses what `read_parts` refuses.
+#[tactic(auto, unfolding(crate::specs::Modules::with_modes, crate::specs::Modules::with_called, crate::specs::Modules::parts_faults, crate::specs::Modules::parts_value))]
 pub fn read_module<R: Reader>(
     alloc: Global,
     reader: &R,
@@ -330,14 +310,16 @@ pub fn read_module<R: Reader>(
 {
     let mut modes = default_alone(alloc)?;
     let mut called = NameTable::new(alloc);
-    collect_names(alloc, document, &mut modes, &mut called)?;
+    let nodes = module_nodes(alloc, document)?;
+    collect_names(alloc, nodes.as_slice(), &mut modes, &mut called)?;
     let mode_names = names_of(alloc, modes.as_slice())?;
     let called_names = names_of(alloc, called.as_slice())?;
     let modes = Shared::make(alloc, modes)?;
     let called = Shared::make(alloc, called)?;
-    let parts = read_parts(alloc, reader, &modes, &called, document)?;
+    let parts = read_parts(alloc, reader, &modes, &called, nodes.as_slice());
+    drop(nodes);
     Ok(Module {
-        parts,
+        parts: parts?,
         modes: mode_names,
         called: called_names,
     })

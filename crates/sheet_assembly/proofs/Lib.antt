@@ -1,3 +1,4 @@
 pub mod Levels
 pub mod Places
 pub mod Whole
+pub mod Standing

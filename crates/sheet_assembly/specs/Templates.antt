@@ -42,23 +42,44 @@ abbrev pub number_in : List ExprName → Option ExprName → ℕ
 number_in called None = small (length called)
 number_in called (Some name) = number_of called name
 
-abbrev pub standing_template : List ExprName → Bool → ℕ → TemplatePart Expr Pattern → List (RulePart Pattern)
-    → Standing
-standing_template called counts level t rules = record {
-  level = level;
-  number = number_in called (name_if counts t.name);
-  template = template_of counts t;
-  rules = rules;
-}
+-- a template without name and content, in the place of one that nothing declares
+abbrev pub no_template : Template
+no_template = record { name = None; params = []; kind = None; body = []; has_match = false }
+
+-- the template that is declared, and its rules
+abbrev pub chosen_template : Bool → Part Expr Pattern → Template
+chosen_template counts (part.Template t rules) = template_of counts t
+chosen_template counts p = no_template
+
+abbrev pub chosen_rules : Part Expr Pattern → List (RulePart Pattern)
+chosen_rules (part.Template t rules) = rules
+chosen_rules p = []
+
+-- the number of the template that is declared, if it stands
+abbrev pub standing_number : List ExprName → Bool → Part Expr Pattern → Option ℕ
+standing_number called counts (part.Template t rules) =
+    if counts || t.has_match then Some (number_in called (name_if counts t.name)) else None
+standing_number called counts p = None
 
 -- a template that is replaced stands for its rules alone, without its name
 abbrev pub standing_in : List ExprName → Bool → ℕ → Part Expr Pattern → List Standing
 standing_in called counts level (part.Template t rules) =
-    if counts || t.has_match then standing_template called counts level t rules ∷ [] else []
+    if counts || t.has_match then record {
+      level = level;
+      number = number_in called (name_if counts t.name);
+      counts = counts;
+      part = part.Template t rules;
+    } ∷ [] else []
 standing_in called counts level p = []
 
 abbrev pub standing_if : List ExprName → Bool → Declaration Expr Pattern → List Standing
 standing_if called counts d = standing_in called counts d.level d.part
+
+abbrev pub template_in : Standing → Template
+template_in t = chosen_template t.counts t.part
+
+abbrev pub rules_in : Standing → List (RulePart Pattern)
+rules_in t = chosen_rules t.part
 
 -- the first place from this one on of a template with the number
 abbrev pub first_at : ℕ → ℕ → List Standing → Option ℕ
@@ -75,13 +96,9 @@ abbrev pub with_place : List (Option ℕ) → ℕ → ℕ → List (Option ℕ)
 with_place places number place =
     if nat_lt number (length places) then set places number (Some place) else places
 
--- a template without name and content, in the place of one that nothing declares
-abbrev pub no_template : Template
-no_template = record { name = None; params = []; kind = None; body = []; has_match = false }
-
 abbrev pub or_none : Option Standing → Template
 or_none None = no_template
-or_none (Some t) = t.template
+or_none (Some t) = template_in t
 
 abbrev pub template_at : List Standing → Option ℕ → Template
 template_at ts None = no_template
@@ -89,7 +106,7 @@ template_at ts (Some place) = or_none (slice_get ts place)
 
 -- the template, if it is not called, where so many are
 abbrev pub other_of : ℕ → Standing → List Template
-other_of count t = if nat_lt t.number count then [] else t.template ∷ []
+other_of count t = if nat_lt t.number count then [] else template_in t ∷ []
 
 -- the templates: those that are called, by their numbers, and then the others
 abbrev pub templates_of : ℕ → List Standing → List Template
@@ -120,5 +137,5 @@ rule_of modes place level r = record {
 abbrev pub rules_of : ℕ → ℕ → ℕ → List Standing → List Rule
 rules_of modes count before [] = []
 rules_of modes count before (t ∷ ts) =
-    map (rule_of modes (place_of count t.number before) t.level) t.rules
+    map (rule_of modes (place_of count t.number before) t.level) (rules_in t)
     ++ rules_of modes count (one_more count t.number before) ts

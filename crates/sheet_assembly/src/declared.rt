@@ -45,7 +45,7 @@ pub(crate) fn globals(
     let mut marks = marks;
     let mut left = declarations;
     while let [declaration, rest @ ..] = left {
-        push_global(&mut made, is_marked(marks), &declaration.part)?;
+        push_global(&mut made, is_marked(marks), declaration.part.get())?;
         marks = behind(marks);
         left = rest;
     }
@@ -115,7 +115,7 @@ pub(crate) fn functions(
     let mut marks = marks;
     let mut left = declarations;
     while let [declaration, rest @ ..] = left {
-        push_function(&mut made, is_marked(marks), &declaration.part)?;
+        push_function(&mut made, is_marked(marks), declaration.part.get())?;
         marks = behind(marks);
         left = rest;
     }
@@ -159,7 +159,7 @@ pub(crate) fn keys(
     let mut made = List::new(alloc);
     let mut left = declarations;
     while let [declaration, rest @ ..] = left {
-        push_keys_in(&mut made, &declaration.part)?;
+        push_keys_in(&mut made, declaration.part.get())?;
         left = rest;
     }
     Ok(made)

@@ -64,7 +64,7 @@ fn leveled_rules(
     let mut made = List::new(alloc);
     let mut left = declarations;
     while let [declaration, rest @ ..] = left {
-        push_space(&mut made, declaration.level, &declaration.part)?;
+        push_space(&mut made, declaration.level, declaration.part.get())?;
         left = rest;
     }
     let mut rules = made.into_vec();
@@ -139,7 +139,7 @@ pub(crate) fn omit(declarations: &[Declaration<Expr, Pattern>]) -> bool
     let mut omit = false;
     let mut left = declarations;
     while let [declaration, rest @ ..] = left {
-        omit = omit_by(omit, &declaration.part);
+        omit = omit_by(omit, declaration.part.get());
         left = rest;
     }
     omit

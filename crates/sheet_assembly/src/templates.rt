@@ -3,30 +3,70 @@ ghost use Rattle.std.specs.Prelude.{◌≡◌, ◌++◌, map, replicate, None, I
 ghost use Rattle.std.specs.List.{range_with_len};
 ghost use Rattle.sheet_assembly.specs.Named.{each_by, each};
 ghost use Rattle.sheet_assembly.specs.Templates.{name_if, template_of, number_in};
-ghost use Rattle.sheet_assembly.specs.Templates.{standing_template, standing_in, standing_if};
+ghost use Rattle.sheet_assembly.specs.Templates.{chosen_template, chosen_rules, standing_number};
+ghost use Rattle.sheet_assembly.specs.Templates.{standing_in, standing_if, template_in, rules_in};
 ghost use Rattle.sheet_assembly.specs.Templates.{places_of, with_place, no_template};
 ghost use Rattle.sheet_assembly.specs.Templates.{template_at, other_of, templates_of};
 ghost use Rattle.sheet_assembly.specs.Templates.{place_of, one_more, modes_of, rule_of, rules_of};
 
 use crate::declared::{behind, is_marked};
-use sheet_declarations::{Declaration, copy_rules};
+use sheet_declarations::Declaration;
 use sheet_modules::{ModeSet, Part, RulePart, TemplatePart};
 use sheet_texts::NameTable;
 use std::alloc::{AllocError, Global};
-use xt_names::{ExprName, List};
+use xt_names::{ExprName, List, Shared};
 use xt_sheets::{Rule, Template, copy_bound_list, copy_instr_list};
 use xt_syntax::{Expr, Pattern};
 use xt_types::copy_option;
 
-/// A template that stands in the stylesheet, with its rules.
+/// A template that stands in the stylesheet, with its rules: the declaration of both.
 #[derive(Drop)]
 pub(crate) struct Standing {
     /// The precedence of its level.
     pub(crate) level: u32,
     /// The number of its name among those that are called; how many are, where it is not called.
     pub(crate) number: u32,
-    pub(crate) template: Template,
-    pub(crate) rules: List<RulePart<Pattern>>,
+    /// Whether it counts; else it has no name.
+    pub(crate) counts: bool,
+    pub(crate) part: Shared<Part<Expr, Pattern>>,
+}
+
+impl Standing {
+    fn template(&self, alloc: Global) -> Result<Template, AllocError>
+        ensures { IfOk result (λ template. template ≡ template_in self.now) }
+    {
+        chosen_template(alloc, self.counts, self.part.get())
+    }
+
+    fn rules(&self) -> &[RulePart<Pattern>]
+        ensures { result.now ≡ rules_in self.now }
+    {
+        chosen_rules(self.part.get())
+    }
+}
+
+/// The template that is declared, with its name where it counts.
+fn chosen_template(
+    alloc: Global,
+    counts: bool,
+    part: &Part<Expr, Pattern>,
+) -> Result<Template, AllocError>
+    ensures { IfOk result (λ template. template ≡ chosen_template counts part.now) }
+{
+    match part {
+        Part::Template(template, _) => template_of(counts, template),
+        _ => Ok(no_template(alloc)),
+    }
+}
+
+/// The rules of the template that is declared.
+fn chosen_rules(part: &Part<Expr, Pattern>) -> &[RulePart<Pattern>]
+    ensures { result.now ≡ chosen_rules part.now }
+{
+    match part {
+        Part::Template(_, rules) => rules.as_slice(),
+        _ => &[],
+    }
 }
 
 /// The templates that stand, in declaration order: those that count, and those that are replaced
@@ -57,45 +97,40 @@ pub(crate) fn standing_templates(
     Ok(made)
 }
 
+#[tactic(auto, using(crate::proofs::Standing::stands, crate::proofs::Standing::falls))]
 fn push_standing(
     made: &mut List<Standing>,
     called: &NameTable,
     counts: bool,
     level: u32,
-    part: &Part<Expr, Pattern>,
+    part: &Shared<Part<Expr, Pattern>>,
 ) -> Result<(), AllocError>
     ensures { OnOk result (made.new ≡ made.old ++ standing_in called.now counts level part.now) }
 {
-    match part {
-        Part::Template(template, rules) => {
-            if counts || template.has_match {
-                return made.push(standing_of(called, counts, level, template, rules)?);
-            }
-            Ok(())
-        }
-        _ => Ok(()),
+    match standing_number(called, counts, part.get()) {
+        Some(number) => made.push(Standing {
+            level,
+            number,
+            counts,
+            part: part.copy()?,
+        }),
+        None => Ok(()),
     }
 }
 
-fn standing_of(
-    called: &NameTable,
-    counts: bool,
-    level: u32,
-    part: &TemplatePart<Expr, Pattern>,
-    rules: &List<RulePart<Pattern>>,
-) -> Result<Standing, AllocError>
-    ensures { IfOk result (λ one. one ≡ standing_template called.now counts level part.now
-        rules.now) }
+/// The number of the template that is declared, if it stands.
+fn standing_number(called: &NameTable, counts: bool, part: &Part<Expr, Pattern>) -> Option<u32>
+    ensures { result ≡ standing_number called.now counts part.now }
 {
-    let template = template_of(counts, part)?;
-    let number = number_in(called, &template.name);
-    let rules = copy_rules(rules)?;
-    Ok(Standing {
-        level,
-        number,
-        template,
-        rules,
-    })
+    match part {
+        Part::Template(template, _) => {
+            if counts || template.has_match {
+                return Some(number_if(called, counts, &template.name));
+            }
+            None
+        }
+        _ => None,
+    }
 }
 
 fn name_if(counts: bool, name: &Option<ExprName>) -> Result<Option<ExprName>, AllocError>
@@ -128,6 +163,16 @@ fn number_in(called: &NameTable, name: &Option<ExprName>) -> u32
         Some(name) => called.number(name),
         None => u32::try_from(called.as_slice().len()).unwrap_or(u32::MAX),
     }
+}
+
+/// The same of the name of a template, which it has where it counts.
+fn number_if(called: &NameTable, counts: bool, name: &Option<ExprName>) -> u32
+    ensures { result ≡ number_in called.now (name_if counts name.now) }
+{
+    if counts {
+        return number_in(called, name);
+    }
+    number_in(called, &None)
 }
 
 /// The templates of the stylesheet: those that are called, by their numbers, and then the others.
@@ -208,7 +253,7 @@ fn template_at(
     match place {
         None => Ok(no_template(alloc)),
         Some(place) => match standing.get(place) {
-            Some(one) => one.template.copy(),
+            Some(one) => one.template(alloc),
             None => Ok(no_template(alloc)),
         },
     }
@@ -248,7 +293,7 @@ fn push_other(made: &mut List<Template>, count: usize, one: &Standing) -> Result
     if (one.number as usize) < count {
         return Ok(());
     }
-    made.push(one.template.copy()?)
+    made.push(one.template(made.allocator())?)
 }
 
 /// The rules of the templates, in order. `modes` and `count` are how many modes there are, and how
@@ -266,7 +311,7 @@ pub(crate) fn rules(
     let mut left = standing;
     while let [one, rest @ ..] = left {
         let place = place_of(count, one.number, before);
-        push_rules(&mut made, modes, place, one.level, one.rules.as_slice())?;
+        push_rules(&mut made, modes, place, one.level, one.rules())?;
         before = one_more(count, one.number, before);
         left = rest;
     }

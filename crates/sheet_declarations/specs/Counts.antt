@@ -1,5 +1,5 @@
 -- Which declarations count: those that none further behind replaces (XSLT 2.0, 9.5, 10.1 and 10.3).
-use Rattle.std.specs.Prelude.{ℕ, List, [], ◌∷◌, length, Bool, true, false, not, Option, Some, None}
+use Rattle.std.specs.Prelude.{List, [], ◌∷◌, length, Bool, false, not, Option, Some, None}
 use Rattle.std.specs.List.{list_any}
 use Rattle.xt_names.specs.declared.names.ExprName.{ExprName}
 use Rattle.name_rules.specs.declared.functions.Signature.{Signature}

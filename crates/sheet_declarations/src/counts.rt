@@ -35,19 +35,19 @@ pub fn counted<E, P>(
     let mut left = declarations.len();
     while left > 0 {
         left -= 1;
-        let new = see(&mut seen, &declarations[left].part)?;
+        let new = see(&mut seen, &declarations[left])?;
         marks.push(new)?;
     }
     marks.reverse();
     Ok(marks)
 }
 
-/// Adds what the child declares, and tells whether it was not there.
-fn see<E, P>(seen: &mut Seen, part: &Part<E, P>) -> Result<bool, AllocError>
-    ensures new { IfOk result (λ new. new ≡ not (has_declared seen.old (declared_by part.now))) }
-    ensures seen { OnOk result (seen.new ≡ with_declared seen.old (declared_by part.now)) }
+/// Adds what is declared, and tells whether it was not there.
+fn see<E, P>(seen: &mut Seen, one: &Declaration<E, P>) -> Result<bool, AllocError>
+    ensures new { IfOk result (λ new. new ≡ not (has_declared seen.old (declared_by one.now.part))) }
+    ensures seen { OnOk result (seen.new ≡ with_declared seen.old (declared_by one.now.part)) }
 {
-    match part {
+    match one.part.get() {
         Part::Global(global) => seen.globals.declare(&global.bound.name, 0),
         Part::Function(function) => {
             let arity = function.params.len();

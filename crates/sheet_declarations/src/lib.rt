@@ -10,10 +10,8 @@
 //! `a.xsl` first, in level 1, and it does not count; that of `s.xsl` does.
 #![tactic(auto)]
 
-mod copies;
 mod counts;
 mod lists;
 
-pub use copies::{copy_part, copy_rules};
 pub use counts::counted;
 pub use lists::{Declaration, declarations};

@@ -3,28 +3,27 @@ ghost use Rattle.std.specs.Prelude.{◌≡◌, ◌<◌, ◌+◌, ◌++◌, ◌^�
 ghost use Rattle.sheet_declarations.specs.Declarations.{declared, before, piece, piece_in, pieces};
 ghost use Rattle.sheet_declarations.specs.Declarations.{declarations_from, declarations_of};
 
-use crate::copies::copy_part;
 use sheet_levels::{SheetLevel, Span};
 use sheet_modules::Part;
 use std::alloc::{AllocError, Global};
-use xt_names::{List, Share};
+use xt_names::{List, Shared};
 
 /// A declaration of a stylesheet.
 #[derive(Drop)]
 pub struct Declaration<E, P> {
     /// The import precedence of its level, from 1.
     pub level: u32,
-    /// What is declared.
-    pub part: Part<E, P>,
+    /// What is declared, which it shares with its module.
+    pub part: Shared<Part<E, P>>,
 }
 
 /// The declarations of these levels, the one of the lowest precedence first, and within a level in
 /// declaration order (XSLT 2.0, 3.10.3). The modules are given in the order of loading, each by what
 /// the children of its root declare.
-pub fn declarations<E: Drop, P: Share>(
+pub fn declarations<E: Drop, P: Drop>(
     alloc: Global,
     levels: &[SheetLevel],
-    modules: &[List<Part<E, P>>],
+    modules: &[List<Shared<Part<E, P>>>],
 ) -> Result<List<Declaration<E, P>>, AllocError>
     requires { length levels.now + 1 < 2 ^ 32 }
     ensures { IfOk result (λ all. all ≡ declarations_of modules.now levels.now) }
@@ -41,10 +40,10 @@ pub fn declarations<E: Drop, P: Share>(
 }
 
 /// Puts the declarations in these pieces at the end.
-fn push_spans<E: Drop, P: Share>(
+fn push_spans<E: Drop, P: Drop>(
     all: &mut List<Declaration<E, P>>,
     level: u32,
-    modules: &[List<Part<E, P>>],
+    modules: &[List<Shared<Part<E, P>>>],
     spans: &[Span],
 ) -> Result<(), AllocError>
     ensures { OnOk result (all.new ≡ all.old ++ map (declared level) (pieces modules.now spans.now)) }
@@ -57,10 +56,10 @@ fn push_spans<E: Drop, P: Share>(
     Ok(())
 }
 
-fn push_span<E: Drop, P: Share>(
+fn push_span<E: Drop, P: Drop>(
     all: &mut List<Declaration<E, P>>,
     level: u32,
-    modules: &[List<Part<E, P>>],
+    modules: &[List<Shared<Part<E, P>>>],
     span: &Span,
 ) -> Result<(), AllocError>
     ensures { OnOk result (all.new ≡ all.old
@@ -73,7 +72,7 @@ fn push_span<E: Drop, P: Share>(
 }
 
 /// The children in the piece.
-fn piece<'a, E, P>(parts: &'a [Part<E, P>], span: &Span) -> &'a [Part<E, P>]
+fn piece<'a, E, P>(parts: &'a [Shared<Part<E, P>>], span: &Span) -> &'a [Shared<Part<E, P>>]
     ensures { result.now ≡ piece span.now parts.now }
 {
     behind(before(parts, span.to), span.from)
@@ -81,7 +80,7 @@ fn piece<'a, E, P>(parts: &'a [Part<E, P>], span: &Span) -> &'a [Part<E, P>]
 
 /// The children before this one, or all.
 #[tactic(auto, using(crate::proofs::Pieces::all_taken))]
-fn before<E, P>(parts: &[Part<E, P>], to: Option<u32>) -> &[Part<E, P>]
+fn before<E, P>(parts: &[Shared<Part<E, P>>], to: Option<u32>) -> &[Shared<Part<E, P>>]
     ensures { result.now ≡ before to parts.now }
 {
     match to {
@@ -99,7 +98,7 @@ fn before<E, P>(parts: &[Part<E, P>], to: Option<u32>) -> &[Part<E, P>]
 
 /// The children from this one on.
 #[tactic(auto, using(crate::proofs::Pieces::all_dropped))]
-fn behind<E, P>(parts: &[Part<E, P>], from: u32) -> &[Part<E, P>]
+fn behind<E, P>(parts: &[Shared<Part<E, P>>], from: u32) -> &[Shared<Part<E, P>>]
     ensures { result.now ≡ drop from parts.now }
 {
     let from = from as usize;
@@ -110,15 +109,15 @@ fn behind<E, P>(parts: &[Part<E, P>], from: u32) -> &[Part<E, P>]
     }
 }
 
-fn push_parts<E: Drop, P: Share>(
+fn push_parts<E: Drop, P: Drop>(
     all: &mut List<Declaration<E, P>>,
     level: u32,
-    parts: &[Part<E, P>],
+    parts: &[Shared<Part<E, P>>],
 ) -> Result<(), AllocError>
     ensures { OnOk result (all.new ≡ all.old ++ map (declared level) parts.now) }
 {
     for part in parts {
-        let part = copy_part(part)?;
+        let part = part.copy()?;
         all.push(Declaration { level, part })?;
     }
     Ok(())

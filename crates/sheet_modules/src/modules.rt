@@ -63,7 +63,7 @@ pub enum Part<E, P> {
 #[derive(Drop)]
 pub struct Module<E, P> {
     /// What the element children of the root declare, one by one.
-    pub parts: List<Part<E, P>>,
+    pub parts: List<Shared<Part<E, P>>>,
     /// The modes, whose numbers are their places from 0; the default mode comes first, and the
     /// others in the order in which they first appear. The name of the default mode has no characters.
     pub modes: List<ExprName>,

@@ -22,7 +22,7 @@ fn variables_of<E, P>(
 {
     let mut scope = Scope::new(alloc)?;
     for one in declarations {
-        if let Part::Global(global) = &one.part {
+        if let Part::Global(global) = one.part.get() {
             scope = scope.with(global.bound.name.copy()?)?;
         }
     }
@@ -37,7 +37,7 @@ fn templates_of<E, P>(
 {
     let mut scope = Scope::new(alloc)?;
     for one in declarations {
-        if let Part::Template(template, _) = &one.part
+        if let Part::Template(template, _) = one.part.get()
             && let Some(name) = &template.name
         {
             scope = scope.with(name.copy()?)?;
@@ -54,7 +54,7 @@ fn functions_of<E, P>(
 {
     let mut functions = Functions::new(alloc);
     for one in declarations {
-        if let Part::Function(function) = &one.part {
+        if let Part::Function(function) = one.part.get() {
             functions.declare(&function.name, function.params.len())?;
         }
     }
@@ -80,7 +80,7 @@ fn keys_of<E, P>(alloc: Global, declarations: &[Declaration<E, P>]) -> Result<Sc
 {
     let mut scope = Scope::new(alloc)?;
     for one in declarations {
-        if let Part::Key(keys) = &one.part {
+        if let Part::Key(keys) = one.part.get() {
             scope = with_all_keys(alloc, scope, keys.as_slice())?;
         }
     }

@@ -69,7 +69,7 @@ fn push_uses(
     ensures { OnOk result (found.new ≡ declared_uses declarations.now scope.now found.old) }
 {
     for one in declarations {
-        push_part_uses(&one.part, scope, found)?;
+        push_part_uses(one.part.get(), scope, found)?;
     }
     Ok(())
 }
@@ -118,7 +118,7 @@ fn push_key_uses(
     ensures { OnOk result (found.new ≡ declared_keys declarations.now scope.now found.old) }
 {
     for one in declarations {
-        push_part_keys(&one.part, scope, found)?;
+        push_part_keys(one.part.get(), scope, found)?;
     }
     Ok(())
 }

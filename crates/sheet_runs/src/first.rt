@@ -11,6 +11,7 @@ use import_tree::{LoadedSheet, ReadSheet, SheetFault, load_with_modules};
 use run_parts::Status;
 use sheet_reader::is_first_sheet;
 use std::alloc::Global;
+use std::mem::forget;
 use xt_io::Files;
 use xt_names::{Code, SheetStaticCode};
 use xt_tree::Tree;
@@ -51,7 +52,8 @@ pub(crate) fn load_first<F: Files>(
 {
     match load_with_modules(alloc, files, name) {
         Ok(ReadSheet { loaded, sheet }) => {
-            drop(sheet);
+            // (the run takes nothing of it, and node by node it would go slowly)
+            forget(sheet);
             first_form(loaded)
         }
         Err(fault) => Err(told(fault)),

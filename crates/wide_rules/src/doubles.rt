@@ -92,7 +92,7 @@ fn see<E, P>(
         ≡ with_declared seen.old (declared_by one.now.part) one.now.level) }
 {
     let level = one.level;
-    match &one.part {
+    match one.part.get() {
         Part::Global(global) => {
             let again = seen.globals.stood(level, &global.bound.name, 0)?;
             let globals = doubles.globals || again;

@@ -35,7 +35,7 @@ fn highest<E, P>(declarations: &[Declaration<E, P>]) -> u32
     while left > 0 {
         left -= 1;
         let one = &declarations[left];
-        if let Part::Output(Some(_)) = &one.part
+        if let Part::Output(Some(_)) = one.part.get()
             && level < one.level
         {
             level = one.level;
@@ -50,7 +50,7 @@ fn says_at<E, P>(declarations: &[Declaration<E, P>], level: u32, omit: bool) -> 
 {
     declarations
         .iter()
-        .any(|one| one.level == level && says(&one.part, omit))
+        .any(|one| one.level == level && says(one.part.get(), omit))
 }
 
 fn says<E, P>(part: &Part<E, P>, omit: bool) -> bool

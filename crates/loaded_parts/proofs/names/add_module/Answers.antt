@@ -1,21 +1,14 @@
 use Rattle.std.proofs.Common.{◌≡◌, Some, None, refl, slice_get}
 use Rattle.std.proofs.lemmas.Option.{slice_get_past}
-use Rattle.loaded_parts.proofs.Readable.{all_at}
 use Rattle.loaded_parts.proofs.Made.{found, both_made}
 use Rattle.loaded_parts.proofs.names.add_module.Goals as goal
 
-pub collect_names-requires : goal.collect_names-requires
-collect_names-requires c =
-    all_at c.args.modules.now c.args.place c.in-Some.module.now c.requires
-    (found c.args.modules.now c.args.place c.in-Some.module.now c.in-Some.ensures.lookup.0
-    c.in-Some.ensures.lookup.1)
-
 pub returns-in-Some : goal.returns-in-Some
 returns-in-Some c =
-    let there : slice_get c.args.modules.now c.args.place ≡ Some c.in-Some.module.now =
-    found c.args.modules.now c.args.place c.in-Some.module.now c.in-Some.ensures.lookup.0
+    let there : slice_get c.args.modules.now c.args.place ≡ Some c.in-Some.nodes.now =
+    found c.args.modules.now c.args.place c.in-Some.nodes.now c.in-Some.ensures.lookup.0
     c.in-Some.ensures.lookup.1 in
-    rw there (both_made c.collect_names.result _ _ _ _ c.collect_names.ensures.modes
+    rw (there, ← c.as_slice.ensures) (both_made c.collect_names.result _ _ _ _ c.collect_names.ensures.modes
     c.collect_names.ensures.called)
 
 pub returns-in-None : goal.returns-in-None
