@@ -20,6 +20,7 @@ use Rattle.sheet_declarations.specs.Counts.{counted_of}
 use Rattle.sheet_assembly.specs.Named.{each_by, each, is_marked, behind, global_in, global_if, at}
 use Rattle.sheet_assembly.specs.Named.{ordered, function_in, function_if, key_rule, key_rules, keys_in}
 use Rattle.sheet_assembly.specs.Sheets.{standing_of}
+use Rattle.sheet_assembly.specs.Templates.{template_in}
 use Rattle.sheet_assembly.specs.Templates.{template_of, standing_template, standing_in, standing_if}
 use Rattle.sheet_assembly.specs.Templates.{places_of, or_none, template_at, other_of, templates_of}
 use Rattle.sheet_assembly.specs.Templates.{place_of, one_more, rule_of, rules_of, number_in, name_if}
@@ -239,7 +240,7 @@ module _ (a : Asked) where
   others_all count [] h = refl
   others_all count (t ∷ ts) h =
       let k = and_parts (a.of_template (or_none (Some t))) _ h in
-      other a.of_template (nat_lt t.number count) t.template _ k.0 (others_all count ts k.1)
+      other a.of_template (nat_lt t.number count) (template_in t) _ k.0 (others_all count ts k.1)
 
   templates_all : (count : ℕ) (ts : _) → a.of_template no_template ≡ true
       → list_all (λ x. a.of_template (or_none (Some x))) ts ≡ true

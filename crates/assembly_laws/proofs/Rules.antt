@@ -13,6 +13,7 @@ use Rattle.xt_sheets.specs.declared.sheets.Rule.{Rule}
 use Rattle.sheet_modules.specs.declared.templates.RulePart.{RulePart}
 use Rattle.sheet_assembly.specs.Named.{each}
 use Rattle.sheet_assembly.specs.Sheets.{standing_of}
+use Rattle.sheet_assembly.specs.Templates.{template_in, rules_in}
 use Rattle.sheet_assembly.specs.Templates.{first_at, places_of, template_at, other_of}
 use Rattle.sheet_assembly.specs.Templates.{templates_of, place_of, one_more, rule_of, rules_of}
 use Rattle.assembly_laws.specs.Laws.{RulesHaveTemplates}
@@ -68,14 +69,14 @@ rules_below : (modes count before total : ℕ) (ts : _)
     → list_all (is_below (count + total)) (rules_of modes count before ts) ≡ true
 rules_below modes count before total [] h = refl
 rules_below modes count before total (t ∷ ts) h =
-    let c = counted (nat_lt t.number count) t.template (each (other_of count) ts) in
+    let c = counted (nat_lt t.number count) (template_in t) (each (other_of count) ts) in
     let k = turn count before total t.number (length (each (other_of count) ts))
     (subst (λ n. before + n ≤ total) c h) in
-    let own = map (rule_of modes (place_of count t.number before) t.level) t.rules in
+    let own = map (rule_of modes (place_of count t.number before) t.level) (rules_in t) in
     let next = rules_of modes count (one_more count t.number before) ts in
     list_all-append (is_below (count + total)) own next
     ∙ and_from (list_all (is_below (count + total)) own) _
-    (rules_at modes (place_of count t.number before) t.level (count + total) t.rules k.0)
+    (rules_at modes (place_of count t.number before) t.level (count + total) (rules_in t) k.0)
     (rules_below modes count (one_more count t.number before) total ts k.1)
 
 pub rules_have : RulesHaveTemplates

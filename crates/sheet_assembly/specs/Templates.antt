@@ -61,15 +61,19 @@ standing_number called counts (part.Template t rules) =
     if counts || t.has_match then Some (number_in called (name_if counts t.name)) else None
 standing_number called counts p = None
 
+abbrev pub standing_template : List ExprName → Bool → ℕ → TemplatePart Expr Pattern → List (RulePart Pattern)
+    → Standing
+standing_template called counts level t rules = record {
+  level = level;
+  number = number_in called (name_if counts t.name);
+  counts = counts;
+  part = part.Template t rules;
+}
+
 -- a template that is replaced stands for its rules alone, without its name
 abbrev pub standing_in : List ExprName → Bool → ℕ → Part Expr Pattern → List Standing
 standing_in called counts level (part.Template t rules) =
-    if counts || t.has_match then record {
-      level = level;
-      number = number_in called (name_if counts t.name);
-      counts = counts;
-      part = part.Template t rules;
-    } ∷ [] else []
+    if counts || t.has_match then standing_template called counts level t rules ∷ [] else []
 standing_in called counts level p = []
 
 abbrev pub standing_if : List ExprName → Bool → Declaration Expr Pattern → List Standing
