@@ -53,7 +53,6 @@ fn declared(
     modes: &Shared<NameTable>,
     called: &Shared<NameTable>,
 ) -> Result<List<Declaration<Expr, Pattern>>, ResolveFault>
-    requires readable { AllCanBeRead loaded.now.modules }
     requires levels { length loaded.now.levels + 1 < 2 ^ 32 }
     requires nodes { nodes ≡ nodes_in loaded.now.modules }
     requires modes { modes.now ≡ (names_in loaded.now).modes }

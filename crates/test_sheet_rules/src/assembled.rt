@@ -123,7 +123,7 @@ fn declarations(
     for (level, told) in all {
         let declaration = Declaration {
             level: *level,
-            part: part(rt, told),
+            part: Shared::make(rt.alloc(), part(rt, told)).expect(rt, "memory"),
         };
         made.push(declaration).expect(rt, "memory");
     }

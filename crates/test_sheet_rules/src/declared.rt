@@ -143,7 +143,7 @@ pub(crate) fn declarations(
     for (level, told) in all {
         let declaration = Declaration {
             level: *level,
-            part: part(rt, told),
+            part: Shared::make(rt.alloc(), part(rt, told)).expect(rt, "memory"),
         };
         declarations.push(declaration).expect(rt, "memory");
     }
