@@ -18,7 +18,7 @@ use Rattle.sheet_declarations.specs.declared.lists.Declaration.{Declaration}
 use Rattle.sheet_declarations.specs.Counts.{a_template, declared_by, replaces, template_of}
 use Rattle.sheet_assembly.specs.Named.{each, each_by, is_marked, behind}
 use Rattle.sheet_assembly.specs.Templates.{small, number_in, name_if, standing_template, standing_in}
-use Rattle.sheet_assembly.specs.Templates.{standing_if, first_at, or_none, template_at}
+use Rattle.sheet_assembly.specs.Templates.{standing_if, first_at, or_none, template_at, template_in}
 use Rattle.sheet_assembly.specs.Templates.{other_of, templates_of}
 use Rattle.assembly_laws.specs.SheetClosure.Declared.{is_named}
 use Rattle.declared_uses.proofs.Counts.{counts}
@@ -89,12 +89,12 @@ first_same number k [] = refl
 first_same number k (t ∷ ts) =
     ap (λ (o : Option ℕ). cond (nat_eq t.number number) (Some k) o) (first_same number (suc k) ts)
 
-or_same : (x : _) → is_some (or_none x).name ≡ if_there (λ t. is_some t.template.name) x
+or_same : (x : _) → is_some (or_none x).name ≡ if_there (λ t. is_some (template_in t).name) x
 or_same None = refl
 or_same (Some t) = refl
 
 at_same : (ts : _) (o : Option ℕ)
-    → is_some (template_at ts o).name ≡ there (λ t. is_some t.template.name) ts o
+    → is_some (template_at ts o).name ≡ there (λ t. is_some (template_in t).name) ts o
 at_same ts None = refl
 at_same ts (Some i) = or_same (slice_get ts i)
 
@@ -147,11 +147,11 @@ module _ (called : List ExprName) (number : ℕ) (less : number < length called)
   name_there (Some n) = or_right (not (nat_eq (number_of called n) number)) true refl
 
   one_named : (counted : Bool) (level : ℕ) (p : Part Expr Pattern)
-      → list_all (λ t. not (nat_eq t.number number) || is_some t.template.name)
+      → list_all (λ t. not (nat_eq t.number number) || is_some (template_in t).name)
       (standing_in called counted level p) ≡ true
   one_named counted level (part.Template t rules) = go (counted || t.has_match)
     where
-      go : (b : Bool) → list_all (λ t. not (nat_eq t.number number) || is_some t.template.name)
+      go : (b : Bool) → list_all (λ t. not (nat_eq t.number number) || is_some (template_in t).name)
           (cond b (standing_template called counted level t rules ∷ []) []) ≡ true
       go true = and_from _ true (name_there (name_if counted t.name)) refl
       go false = refl
@@ -164,11 +164,11 @@ module _ (called : List ExprName) (number : ℕ) (less : number < length called)
   one_named counted level part.Linked = refl
 
   all_named : (marks : List Bool) (ds : List (Declaration Expr Pattern))
-      → list_all (λ t. not (nat_eq t.number number) || is_some t.template.name)
+      → list_all (λ t. not (nat_eq t.number number) || is_some (template_in t).name)
       (each_by (standing_if called) marks ds) ≡ true
   all_named marks [] = refl
   all_named marks (d ∷ ds) =
-      list_all-append (λ t. not (nat_eq t.number number) || is_some t.template.name)
+      list_all-append (λ t. not (nat_eq t.number number) || is_some (template_in t).name)
       (standing_in called (is_marked marks) d.level d.part)
       (each_by (standing_if called) (behind marks) ds)
       ∙ and_from _ _ (one_named (is_marked marks) d.level d.part) (all_named (behind marks) ds)
@@ -200,7 +200,7 @@ called_named called n number e less low marks ds h =
     (length called) 0 number less)
     ∙ ap (λ (k : ℕ). is_some (template_at ts (first_at k 0 ts)).name) zero_more
     ∙ at_same ts (first_at number 0 ts)
-    ∙ ap (there (λ t. is_some t.template.name) ts) (first_same number 0 ts)
-    ∙ first_is (λ t. nat_eq t.number number) (λ t. is_some t.template.name) ts ts 0
+    ∙ ap (there (λ t. is_some (template_in t).name) ts) (first_same number 0 ts)
+    ∙ first_is (λ t. nat_eq t.number number) (λ t. is_some (template_in t).name) ts ts 0
     (λ j. ap (slice_get ts) (let e : 0 + j ≡ j = omega arith in e))
     (some_stands called n number e marks ds h) (all_named called number less low marks ds)
