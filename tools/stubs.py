@@ -163,6 +163,8 @@ def write_stub(crate, into):
         for it in os.scandir(f"{crate.folder}/proofs"):
             if it.is_file():
                 shutil.copy(it.path, f"{into}/proofs/{it.name}")
+            elif os.path.isfile(f"{it.path}.antt"):
+                shutil.copytree(it.path, f"{into}/proofs/{it.name}")
     for folder, _, files in os.walk(f"{crate.folder}/src"):
         to = into + "/src" + folder[len(f"{crate.folder}/src") :]
         os.makedirs(to, exist_ok=True)

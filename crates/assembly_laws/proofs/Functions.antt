@@ -12,20 +12,17 @@ use Rattle.xt_syntax.specs.declared.exprs.Expr.{Expr}
 use Rattle.xt_syntax.specs.declared.patterns.Pattern.{Pattern}
 use Rattle.xt_sheets.specs.declared.sheets.SheetFunction.{SheetFunction}
 use Rattle.name_rules.specs.declared.functions.Signature.{Signature}
-use Rattle.name_rules.specs.Scopes.{same_name, same_signature, signature, has_function, with_function}
+use Rattle.name_rules.specs.Scopes.{same_signature, signature, has_function, with_function}
 use Rattle.sheet_modules.specs.declared.modules.Part.{Part}
 use Rattle.sheet_modules.specs.declared.modules.Part.TheVariants as part
-use Rattle.sheet_declarations.specs.declared.lists.Declaration.{Declaration}
-use Rattle.sheet_declarations.specs.Counts.{a_function, declared_by, replaces, is_replaced}
-use Rattle.sheet_declarations.specs.Counts.{counted_of}
+use Rattle.sheet_rules.specs.declared.sheet_declarations.lists.Declaration.{Declaration}
+use Rattle.sheet_rules.specs.SheetDeclarations.Counts.{a_function, declared_by, replaces, is_replaced}
+use Rattle.sheet_rules.specs.SheetDeclarations.Counts.{counted_of}
 use Rattle.sheet_assembly.specs.Named.{each_by, is_marked, behind, function_in, function_if}
 use Rattle.sheet_closure.specs.Declared.{are_new_functions}
 use Rattle.assembly_laws.specs.Laws.{FunctionsDiffer}
-
-pub neither : (a b : Bool) → (a || b) ≡ false → (a ≡ false) × (b ≡ false)
-neither false false h = (refl, refl)
-neither false true h = absurd cc
-neither true b h = absurd cc
+use Rattle.xt_names.proofs.BoolLemmas.{neither}
+use Rattle.xt_names.specs.ExprNames.{same_name}
 
 -- names are the same either way
 text_sym : (x y : List ℕ) → bytes_eq x y ≡ bytes_eq y x
@@ -50,7 +47,7 @@ signature_sym a b =
     ap (λ (p : Bool). p && nat_eq a.arity b.arity) (name_sym a.name b.name)
     ∙ ap (λ (p : Bool). same_name b.name a.name && p) (number_sym a.arity b.arity)
 
-abbrev of : SheetFunction → Signature
+abbrev pub of : SheetFunction → Signature
 of f = signature f.name (length f.params)
 
 -- none of the functions is in the list
@@ -84,7 +81,7 @@ none_known : (fs : List SheetFunction) → NoneIn [] fs
 none_known [] = tt
 none_known (f ∷ fs) = (refl, none_known fs)
 
--- a function that none behind it replaces
+-- a function that none after it replaces
 apart : (s t : Signature) → same_signature s t ≡ false → (same_signature t s || false) ≡ false
 apart s t e = let f : same_signature t s ≡ false = signature_sym t s ∙ e in rw f refl
 

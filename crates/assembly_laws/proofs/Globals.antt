@@ -10,20 +10,22 @@ use Rattle.xt_names.specs.declared.names.ExprName.{ExprName}
 use Rattle.xt_syntax.specs.declared.exprs.Expr.{Expr}
 use Rattle.xt_syntax.specs.declared.patterns.Pattern.{Pattern}
 use Rattle.xt_sheets.specs.declared.sheets.Global.{Global}
-use Rattle.name_rules.specs.Scopes.{same_name, same_signature, signature, has_name, with_name}
+use Rattle.name_rules.specs.Scopes.{same_signature, signature, has_name, with_name}
 use Rattle.name_rules.specs.Scopes.{are_new}
 use Rattle.sheet_modules.specs.declared.modules.Part.{Part}
 use Rattle.sheet_modules.specs.declared.modules.Part.TheVariants as part
-use Rattle.sheet_declarations.specs.declared.lists.Declaration.{Declaration}
-use Rattle.sheet_declarations.specs.Counts.{a_global, declared_by, replaces, is_replaced}
-use Rattle.sheet_declarations.specs.Counts.{counted_of}
+use Rattle.sheet_rules.specs.declared.sheet_declarations.lists.Declaration.{Declaration}
+use Rattle.sheet_rules.specs.SheetDeclarations.Counts.{a_global, declared_by, replaces, is_replaced}
+use Rattle.sheet_rules.specs.SheetDeclarations.Counts.{counted_of}
 use Rattle.sheet_assembly.specs.Named.{each_by, is_marked, behind, global_in, global_if}
 use Rattle.sheet_assembly.specs.Named.{at, ordered}
 use Rattle.global_order.specs.Order.{Graph, is_in, is_ready, is_next, needs_of, InOrder}
 use Rattle.global_order.specs.Order as order
 use Rattle.sheet_closure.specs.Declared.{global_name}
 use Rattle.assembly_laws.specs.Laws.{GlobalsDiffer}
-use Rattle.assembly_laws.proofs.Functions.{neither, name_sym}
+use Rattle.assembly_laws.proofs.Functions.{name_sym}
+use Rattle.xt_names.specs.ExprNames.{same_name}
+use Rattle.xt_names.proofs.BoolLemmas.{neither}
 
 -- none of the names is known
 abbrev NoneOf : List ExprName → List ExprName → Type 0
@@ -52,7 +54,7 @@ none_known : (ns : List ExprName) → NoneOf [] ns
 none_known [] = tt
 none_known (n ∷ ns) = (refl, none_known ns)
 
--- a global that none behind it replaces
+-- a global that none after it replaces
 apart : (a b : ExprName) → same_signature (signature a 0) (signature b 0) ≡ false
     → (same_name b a || false) ≡ false
 apart a b e =

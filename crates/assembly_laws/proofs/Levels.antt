@@ -8,15 +8,15 @@ use Rattle.xt_names.specs.declared.names.ExprName.{ExprName}
 use Rattle.xt_syntax.specs.declared.exprs.Expr.{Expr}
 use Rattle.xt_syntax.specs.declared.patterns.Pattern.{Pattern}
 use Rattle.xt_sheets.specs.declared.sheets.Rule.{Rule}
-use Rattle.sheet_levels.specs.declared.levels.SheetLevel.{SheetLevel}
+use Rattle.sheet_modules.specs.declared.sheet_levels.levels.SheetLevel.{SheetLevel}
 use Rattle.sheet_modules.specs.declared.modules.Part.{Part}
 use Rattle.sheet_modules.specs.declared.modules.Part.TheVariants as part
 use Rattle.sheet_modules.specs.declared.templates.RulePart.{RulePart}
 use Rattle.sheet_modules.specs.declared.templates.TemplatePart.{TemplatePart}
-use Rattle.sheet_declarations.specs.declared.lists.Declaration.{Declaration}
-use Rattle.sheet_declarations.specs.Counts.{counted_of}
-use Rattle.sheet_declarations.specs.Declarations.{pieces, declared, declarations_from}
-use Rattle.sheet_declarations.specs.Declarations.{declarations_of}
+use Rattle.sheet_rules.specs.declared.sheet_declarations.lists.Declaration.{Declaration}
+use Rattle.sheet_rules.specs.SheetDeclarations.Counts.{counted_of}
+use Rattle.sheet_rules.specs.SheetDeclarations.Declarations.{pieces, declared, declarations_from}
+use Rattle.sheet_rules.specs.SheetDeclarations.Declarations.{declarations_of}
 use Rattle.sheet_assembly.specs.Named.{each_by, is_marked, behind}
 use Rattle.sheet_assembly.specs.Templates.{standing_template, standing_in, standing_if, place_of}
 use Rattle.sheet_assembly.specs.Templates.{one_more, rule_of, rules_of}
@@ -56,7 +56,7 @@ module _ (q : ℕ → Bool) where
   of_template modes place level (r ∷ rs) h =
       and_from (q level) _ h (of_template modes place level rs h)
 
-  -- a template that stands there or does not, before others
+  -- a template that is there or does not, before others
   with_template : (modes count : ℕ) (called : List ExprName) (counts : Bool) (level : ℕ)
       (t : TemplatePart Expr Pattern) (rs : List (RulePart Pattern)) (rest : _) → q level ≡ true
       → ((b : ℕ) → rules_all (rules_of modes count b rest) ≡ true) → (before : ℕ) (stands : Bool)

@@ -6,11 +6,11 @@ use Rattle.std.proofs.lemmas.List.Folds.{list_all-append, list_all-map}
 use Rattle.std.specs.List.{list_all}
 use Rattle.xt_syntax.specs.declared.exprs.Expr.{Expr}
 use Rattle.xt_syntax.specs.declared.patterns.Pattern.{Pattern}
-use Rattle.sheet_levels.specs.declared.levels.Span.{Span}
-use Rattle.sheet_levels.specs.declared.levels.SheetLevel.{SheetLevel}
+use Rattle.sheet_modules.specs.declared.sheet_levels.levels.Span.{Span}
+use Rattle.sheet_modules.specs.declared.sheet_levels.levels.SheetLevel.{SheetLevel}
 use Rattle.sheet_modules.specs.declared.modules.Part.{Part}
-use Rattle.sheet_declarations.specs.Declarations.{before, declarations_from, declared, piece_in}
-use Rattle.sheet_declarations.specs.Declarations.{pieces}
+use Rattle.sheet_rules.specs.SheetDeclarations.Declarations.{before, declarations_from, declared, piece_in}
+use Rattle.sheet_rules.specs.SheetDeclarations.Declarations.{pieces}
 use Rattle.assembly_laws.specs.Laws.{DeclarationsAreParts}
 
 module _ (q : Part Expr Pattern → Bool) where

@@ -14,12 +14,12 @@ use Rattle.sheet_modules.specs.declared.templates.ModeSet.{ModeSet}
 use Rattle.sheet_modules.specs.declared.templates.ModeSet.TheVariants.{All, Numbers}
 use Rattle.sheet_modules.specs.declared.templates.RulePart.{RulePart}
 use Rattle.sheet_modules.specs.declared.templates.TemplatePart.{TemplatePart}
-use Rattle.sheet_declarations.specs.declared.lists.Declaration.{Declaration}
-use Rattle.sheet_declarations.specs.Counts.{counted_of}
+use Rattle.sheet_rules.specs.declared.sheet_declarations.lists.Declaration.{Declaration}
+use Rattle.sheet_rules.specs.SheetDeclarations.Counts.{counted_of}
 use Rattle.sheet_assembly.specs.Named.{each_by, is_marked, behind}
 use Rattle.sheet_assembly.specs.Templates.{standing_template, standing_in, standing_if, place_of}
 use Rattle.sheet_assembly.specs.Templates.{one_more, modes_of, rule_of, rules_of, number_in, name_if}
-use Rattle.graph_orders.specs.Behind.{all_below}
+use Rattle.global_order.specs.GraphOrders.Behind.{all_below}
 use Rattle.assembly_laws.specs.Laws.{has_modes, declares_modes, RulesHaveModes}
 
 range_below : (n from most : ℕ) → from + n ≤ most

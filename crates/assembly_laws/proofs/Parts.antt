@@ -15,8 +15,8 @@ use Rattle.sheet_modules.specs.declared.modules.Part.{Part}
 use Rattle.sheet_modules.specs.declared.modules.Part.TheVariants as part
 use Rattle.sheet_modules.specs.declared.templates.RulePart.{RulePart}
 use Rattle.sheet_modules.specs.declared.templates.TemplatePart.{TemplatePart}
-use Rattle.sheet_declarations.specs.declared.lists.Declaration.{Declaration}
-use Rattle.sheet_declarations.specs.Counts.{counted_of}
+use Rattle.sheet_rules.specs.declared.sheet_declarations.lists.Declaration.{Declaration}
+use Rattle.sheet_rules.specs.SheetDeclarations.Counts.{counted_of}
 use Rattle.sheet_assembly.specs.Named.{each_by, each, is_marked, behind, global_in, global_if, at}
 use Rattle.sheet_assembly.specs.Named.{ordered, function_in, function_if, key_rule, key_rules, keys_in}
 use Rattle.sheet_assembly.specs.Sheets.{standing_of}

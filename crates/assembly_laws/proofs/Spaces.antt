@@ -10,7 +10,7 @@ use Rattle.xt_syntax.specs.declared.patterns.Pattern.{Pattern}
 use Rattle.xt_types.specs.declared.node_tests.SpaceRule.{SpaceRule}
 use Rattle.sheet_modules.specs.declared.modules.Part.{Part}
 use Rattle.sheet_modules.specs.declared.modules.Part.TheVariants as part
-use Rattle.sheet_declarations.specs.declared.lists.Declaration.{Declaration}
+use Rattle.sheet_rules.specs.declared.sheet_declarations.lists.Declaration.{Declaration}
 use Rattle.sheet_assembly.specs.Named.{each}
 use Rattle.sheet_assembly.specs.Spaces.{leveled, space_rules, spaces_in, has_weight, weighing}
 use Rattle.sheet_assembly.specs.Spaces.{on_level, down_from}

@@ -8,17 +8,17 @@ use Rattle.xt_syntax.specs.declared.patterns.Pattern.{Pattern}
 use Rattle.xt_types.specs.declared.node_tests.SpaceRule.{SpaceRule}
 use Rattle.sheet_modules.specs.declared.templates.ModeSet.{ModeSet}
 use Rattle.sheet_modules.specs.declared.templates.ModeSet.TheVariants.{All, Numbers}
-use Rattle.sheet_declarations.specs.declared.lists.Declaration.{Declaration}
+use Rattle.sheet_rules.specs.declared.sheet_declarations.lists.Declaration.{Declaration}
 use Rattle.xt_sheets.specs.declared.sheets.Global.{Global}
 use Rattle.xt_sheets.specs.declared.sheets.Template.{Template}
 use Rattle.xt_sheets.specs.declared.sheets.SheetFunction.{SheetFunction}
 use Rattle.xt_sheets.specs.declared.sheets.KeyRule.{KeyRule}
 use Rattle.xt_sheets.specs.declared.sheets.Sheet.{Sheet}
-use Rattle.sheet_levels.specs.declared.levels.SheetLevel.{SheetLevel}
+use Rattle.sheet_modules.specs.declared.sheet_levels.levels.SheetLevel.{SheetLevel}
 use Rattle.sheet_modules.specs.declared.modules.Part.{Part}
 use Rattle.sheet_modules.specs.declared.modules.Part.TheVariants as part
-use Rattle.sheet_declarations.specs.Counts.{counted_of}
-use Rattle.sheet_declarations.specs.Declarations.{declarations_of}
+use Rattle.sheet_rules.specs.SheetDeclarations.Counts.{counted_of}
+use Rattle.sheet_rules.specs.SheetDeclarations.Declarations.{declarations_of}
 use Rattle.sheet_assembly.specs.Named.{each_by, function_if, global_if, ordered, global}
 use Rattle.sheet_assembly.specs.Named.{sheet_function, key_rule}
 use Rattle.sheet_assembly.specs.Templates.{template_of, no_template}
@@ -26,7 +26,7 @@ use Rattle.sheet_assembly.specs.Sheets.{Parts, sheet_of}
 use Rattle.name_rules.specs.Scopes.{names_differ}
 use Rattle.global_order.specs.Order.{Graph, IsInOrder}
 use Rattle.sheet_closure.specs.Declared.{are_new_functions, global_name}
-use Rattle.graph_orders.specs.Behind.{all_below}
+use Rattle.global_order.specs.GraphOrders.Behind.{all_below}
 
 -- each rule has a template
 abbrev pub RulesHaveTemplates : Type 0
@@ -38,7 +38,7 @@ abbrev pub FunctionsDiffer : Type 0
 FunctionsDiffer = (ds : List (Declaration Expr Pattern))
     → are_new_functions [] (each_by function_if (counted_of ds) ds) ≡ true
 
--- no two globals have one name, in whatever order they stand in which each is behind those on which it
+-- no two globals have one name, in whatever order they stand in which each is after those on which it
 -- depends
 abbrev pub GlobalsDiffer : Type 0
 GlobalsDiffer = (ds : List (Declaration Expr Pattern)) (g : Graph) (places : List ℕ)

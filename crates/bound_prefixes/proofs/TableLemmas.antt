@@ -6,7 +6,7 @@ use Rattle.xt_names.specs.declared.names.Binding.{Binding}
 use Rattle.xt_names.proofs.ListLemmas.{drop_at}
 use Rattle.bound_prefixes.specs.First.{first_uri, or_later, bound_by}
 
-or_nothing : (found : Option (List ℕ)) → or_later found None ≡ found
+pub or_nothing : (found : Option (List ℕ)) → or_later found None ≡ found
 or_nothing None = refl
 or_nothing (Some uri) = refl
 

@@ -1,9 +1,8 @@
--- Parameters of templates and functions that break no rule, and the content behind them.
+-- Parameters of templates and functions that break no rule, and the content after them.
 use Rattle.std.proofs.Common.{◌≡◌, ℕ, ◌≤◌, List, [], ◌∷◌, map, Bool, true, false, not, ◌||◌, Option}
 use Rattle.std.proofs.Common.{Some, None, refl, ap, ◌∙◌, arith, codes}
 use Rattle.std.proofs.lemmas.Bool.{and_parts, and_from}
 use Rattle.xt_names.specs.declared.codes.SheetStaticCode.TheVariants.{XTSE0020, XTSE0580, XTSE0760}
-use Rattle.xt_forms.specs.Nest.{greatest}
 use Rattle.xt_forms.specs.Regular.{every}
 use Rattle.xt_syntax.specs.declared.exprs.Expr.{Expr}
 use Rattle.xt_syntax.specs.declared.patterns.Pattern.{Pattern}
@@ -14,15 +13,15 @@ use Rattle.closed_queries.specs.Texts.{is_sound_expr_name}
 use Rattle.closed_sheets.specs.Instrs.{is_good_bound}
 use Rattle.name_rules.specs.Scopes.{names_differ}
 use Rattle.sheet_bodies.specs.Bodies.{is_none, bind_faults, bind_value, body_faults, body_value}
-use Rattle.sheet_forms.specs.InstrNest.{bound_nest_of}
+use Rattle.closed_sheets.specs.SheetForms.InstrNest.{bound_nest_of}
 use Rattle.sheet_heads.specs.Attributes.{optional_value, needed_faults, needed_value}
 use Rattle.sheet_heads.specs.Bindings.{is_required}
 use Rattle.sheet_heads.specs.Repeats.{bound_name, repeats_broken}
-use Rattle.closed_heads.specs.SheetLanguage.Language.{sheet_reading as reading, type_value}
-use Rattle.sheet_nodes.specs.Parts.{is_lead}
-use Rattle.sheet_nodes.specs.declared.nodes.Node.{Node}
-use Rattle.sheet_nodes.specs.declared.nodes.Node.TheViews.{out-Node}
-use Rattle.sheet_nodes.specs.declared.nodes.Node.TheOpen.{Node-F, Elem, Chars}
+use Rattle.closed_parts.specs.SheetLanguage.Language.{sheet_reading as reading, type_value}
+use Rattle.sheet_table.specs.SheetNodes.Parts.{is_lead}
+use Rattle.sheet_table.specs.declared.sheet_nodes.nodes.Node.{Node}
+use Rattle.sheet_table.specs.declared.sheet_nodes.nodes.Node.TheViews.{out-Node}
+use Rattle.sheet_table.specs.declared.sheet_nodes.nodes.Node.TheOpen.{Node-F, Elem, Chars}
 use Rattle.sheet_parts.specs.Parameters.{name_faults, tunnel_faults, front, rest}
 use Rattle.sheet_parts.specs.Parameters.{param_layer_faults, param_layer_value, params_faults}
 use Rattle.sheet_parts.specs.Parameters.{params_value, argument_faults, argument_value}
@@ -34,30 +33,32 @@ use Rattle.sheet_table.specs.Rules.{attribute_faults}
 use Rattle.sheet_table.specs.declared.contents.Content.TheVariants as content
 use Rattle.sheet_table.specs.declared.elements.XslElement.{XslElement}
 use Rattle.sheet_table.specs.declared.elements.XslElement.TheVariants as element
-use Rattle.sheet_texts.specs.Places.{within}
-use Rattle.sheet_texts.specs.declared.places.Place.{Place}
+use Rattle.sheet_values.specs.SheetTexts.Places.{within}
+use Rattle.sheet_values.specs.declared.sheet_texts.places.StaticContext.{StaticContext}
 use Rattle.sheet_values.specs.Names.{declared_faults, qname_value}
 use Rattle.sheet_values.specs.Rules.{broken}
-use Rattle.standing_parts.specs.Bodies.{bound_stands, values_stand, params_stand, bound_names}
-use Rattle.closed_names.proofs.Names.{front_nil, back_nil, declared_sound}
-use Rattle.sound_nodes.specs.Sound.{are_sound_nodes, is_sound_node}
-use Rattle.closed_heads.proofs.Values.{GoodPlace, sound_place, optional_type}
-use Rattle.closed_bodies.proofs.Bounds.{ClosedBoundOf, bound_rolled, required_closed, same_names}
-use Rattle.closed_bodies.proofs.Forms.{Instrs, Bounds}
-use Rattle.closed_bodies.proofs.Heads.{ClosedBody}
-use Rattle.closed_bodies.proofs.Turns.{leading_sound, behind_sound, good_inner}
-use Rattle.closed_bodies.proofs.Walk.{body_made, bind_made}
-use Rattle.sound_nodes.proofs.Forms.{SoundForm, sound_form, sound_element}
+use Rattle.sheet_closure.specs.StandingParts.Bodies.{bound_stands, values_stand, params_stand, bound_names}
+use Rattle.closed_texts.proofs.ClosedNames.Names.{declared_sound}
+use Rattle.closed_parts.specs.SoundNodes.Sound.{are_sound_nodes, is_sound_node}
+use Rattle.closed_parts.proofs.ClosedHeads.Values.{GoodPlace, sound_place, optional_type}
+use Rattle.closed_parts.proofs.ClosedBodies.Bounds.{ClosedBoundOf, bound_rolled, required_closed, same_names}
+use Rattle.closed_parts.proofs.ClosedBodies.Forms.{Instrs, Bounds}
+use Rattle.closed_parts.proofs.ClosedBodies.Heads.{ClosedBody}
+use Rattle.closed_parts.proofs.ClosedBodies.Turns.{leading_sound, behind_sound, good_inner}
+use Rattle.closed_parts.proofs.ClosedBodies.Walk.{body_made, bind_made}
+use Rattle.closed_parts.proofs.SoundNodes.Forms.{SoundForm, sound_form, sound_element}
+use Rattle.xt_names.specs.Lists.{greatest}
+use Rattle.xt_names.proofs.ListLemmas.{front_nil, back_nil}
 
 -- a variable or a parameter at the top of so many levels
-pub bind_closed : (e : XslElement) (p : Place) (attributes : List Attribute) (kids : List Node)
+pub bind_closed : (e : XslElement) (p : StaticContext) (attributes : List Attribute) (kids : List Node)
     → GoodPlace p → are_sound_nodes kids ≡ true
     → bind_faults reading (body_faults reading 40) e p attributes kids ≡ []
     → ClosedBoundOf p.in_group 40 (is_required attributes)
     (bind_value reading (body_value reading 40) p attributes kids)
 bind_closed e p attributes kids g k f = bind_made 40 (body_made 40) e p attributes kids g k f
 
-pub needed_name : (p : Place) → GoodPlace p → (attributes : List Attribute)
+pub needed_name : (p : StaticContext) → GoodPlace p → (attributes : List Attribute)
     → name_faults p attributes ≡ []
     → is_sound_expr_name (needed_value (qname_value p.bound) (attribute attributes (codes "name")))
     ≡ true
@@ -92,7 +93,7 @@ and_param grouped b bs c d =
       nests = omega (arith, x, y);
     }
 
-module _ (p : Place) (g : GoodPlace p) where
+module _ (p : StaticContext) (g : GoodPlace p) where
   param_closed : (n : Node) (f : Node-F Node) → SoundForm f
       → param_layer_faults reading p n f ≡ []
       → ClosedParam p.in_group (param_layer_value reading p f)
@@ -114,7 +115,7 @@ module _ (p : Place) (g : GoodPlace p) where
       (params_closed ns k.1 (back_nil layer _ e))
 
 -- a parameter of a function
-argument_closed : (p : Place) → GoodPlace p → (attributes : List Attribute) (kids : List Node)
+argument_closed : (p : StaticContext) → GoodPlace p → (attributes : List Attribute) (kids : List Node)
     → argument_faults reading p attributes kids ≡ []
     → ClosedParam p.in_group (argument_value reading p attributes)
 argument_closed p g attributes kids f =
@@ -134,7 +135,7 @@ argument_closed p g attributes kids f =
     }) n k v.good v.stands v.required_so v.nests in
     record { good = x.good; stands = x.stands; nests = x.nests }
 
-module _ (p : Place) (g : GoodPlace p) where
+module _ (p : StaticContext) (g : GoodPlace p) where
   argument_layer_closed : (n : Node) (f : Node-F Node) → SoundForm f
       → argument_layer_faults reading p n f ≡ []
       → ClosedParam p.in_group (argument_layer_value reading p f)
@@ -155,7 +156,7 @@ module _ (p : Place) (g : GoodPlace p) where
       (argument_layer_closed n (out-Node n) (sound_form n k.0) (front_nil layer _ e))
       (arguments_closed ns k.1 (back_nil layer _ e))
 
--- the parameters, of which no two have one name, and what stands behind them
+-- the parameters, of which no two have one name, and what comes after them
 pub front_sound : (kids : List Node) → are_sound_nodes kids ≡ true
     → are_sound_nodes (front kids) ≡ true
 front_sound kids h = leading_sound (is_lead content.Params) kids h
@@ -168,7 +169,7 @@ differ : (b : Bool) → broken XTSE0580 (not b) ≡ [] → b ≡ true
 differ true e = refl
 differ false e = absurd cc
 
-pub callee_closed : (p : Place) → GoodPlace p → (bs : Bounds) (kids : List Node)
+pub callee_closed : (p : StaticContext) → GoodPlace p → (bs : Bounds) (kids : List Node)
     → are_sound_nodes kids ≡ true → ClosedParams p.in_group bs
     → behind_faults reading p bs kids ≡ []
     → ClosedCallee p.in_group bs (behind_value reading p kids)

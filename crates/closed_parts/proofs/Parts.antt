@@ -19,19 +19,19 @@ use Rattle.closed_sheets.specs.Sheets.{if_sound_name, is_good_sheet_template, is
 use Rattle.closed_sheets.specs.Sheets.{is_good_key}
 use Rattle.closed_sheets.specs.Values.{is_good_pattern, is_sheet_expr}
 use Rattle.sheet_bodies.specs.Bodies.{bind_value, body_value}
-use Rattle.assembly_laws.specs.SheetClosure.Declared.{has_uri}
+use Rattle.sheet_closure.specs.Declared.{has_uri}
 use Rattle.sheet_expressions.specs.Uses.{is_key_use}
-use Rattle.sheet_forms.specs.InstrNest.{bound_nest_of}
-use Rattle.sheet_forms.specs.SheetNest.{template_nest_of, function_nest_of}
+use Rattle.closed_sheets.specs.SheetForms.InstrNest.{bound_nest_of}
+use Rattle.closed_sheets.specs.SheetForms.SheetNest.{template_nest_of, function_nest_of}
 use Rattle.sheet_heads.specs.Attributes.{optional_faults, optional_value, needed_faults}
 use Rattle.sheet_heads.specs.Attributes.{needed_value}
 use Rattle.sheet_heads.specs.Bindings.{bound_faults}
-use Rattle.closed_heads.specs.SheetLanguage.Language.{sheet_reading as reading, expr_faults, expr_value}
-use Rattle.closed_heads.specs.SheetLanguage.Language.{type_faults, type_value, patterns_faults, patterns_value}
+use Rattle.closed_parts.specs.SheetLanguage.Language.{sheet_reading as reading, expr_faults, expr_value}
+use Rattle.closed_parts.specs.SheetLanguage.Language.{type_faults, type_value, patterns_faults, patterns_value}
 use Rattle.sheet_modules.specs.declared.templates.ModeSet.{ModeSet}
 use Rattle.sheet_modules.specs.declared.templates.TemplatePart.{TemplatePart}
-use Rattle.sheet_nodes.specs.Parts.{none_faults}
-use Rattle.sheet_nodes.specs.declared.nodes.Node.{Node}
+use Rattle.sheet_table.specs.SheetNodes.Parts.{none_faults}
+use Rattle.sheet_table.specs.declared.sheet_nodes.nodes.Node.{Node}
 use Rattle.sheet_parts.specs.Functions as function
 use Rattle.sheet_parts.specs.Globals.{variable_faults, variable_value, parameter_faults}
 use Rattle.sheet_parts.specs.Globals.{parameter_value}
@@ -45,29 +45,30 @@ use Rattle.sheet_parts.specs.Templates.{modes_faults, modes_value, template_faul
 use Rattle.sheet_table.specs.Attributes.{attribute, has}
 use Rattle.sheet_table.specs.Rules.{attribute_faults}
 use Rattle.sheet_table.specs.declared.elements.XslElement.TheVariants as element
-use Rattle.sheet_texts.specs.declared.places.Place.{Place}
+use Rattle.sheet_values.specs.declared.sheet_texts.places.StaticContext.{StaticContext}
 use Rattle.sheet_values.specs.Names.{declared_faults, function_faults, qname_value}
 use Rattle.sheet_values.specs.Priorities.{priority_faults, priority_value}
-use Rattle.standing_parts.specs.Bodies.{bound_stands, params_stand}
-use Rattle.standing_parts.specs.Calls.{expr_stands}
-use Rattle.standing_parts.specs.Patterns.{is_alternative}
-use Rattle.standing_parts.specs.Sheets.{global_stands, template_stands, function_stands, key_stands}
+use Rattle.sheet_closure.specs.StandingParts.Bodies.{bound_stands, params_stand}
+use Rattle.sheet_closure.specs.StandingParts.Calls.{expr_stands}
+use Rattle.sheet_closure.specs.StandingParts.Patterns.{is_alternative}
+use Rattle.sheet_closure.specs.StandingParts.Sheets.{global_stands, template_stands, function_stands, key_stands}
 use Rattle.sheet_assembly.specs.Named.{key_rule}
 use Rattle.sheet_assembly.specs.Templates.{template_of}
 use Rattle.assembly_laws.specs.Laws.{declares}
-use Rattle.closed_names.proofs.Names.{front_nil, back_nil, declared_sound, function_sound}
-use Rattle.closed_names.proofs.Names.{function_uri}
-use Rattle.sound_nodes.specs.Sound.{are_sound_nodes}
-use Rattle.closed_heads.proofs.Values.{GoodPlace, sound_place, not_broken, closed_text}
-use Rattle.closed_heads.proofs.Values.{optional_type, needed_patterns}
-use Rattle.closed_patterns.proofs.Texts.{patterns_closed}
-use Rattle.closed_bodies.proofs.Required.{variable_given}
+use Rattle.closed_texts.proofs.ClosedNames.Names.{declared_sound, function_sound}
+use Rattle.closed_texts.proofs.ClosedNames.Names.{function_uri}
+use Rattle.closed_parts.specs.SoundNodes.Sound.{are_sound_nodes}
+use Rattle.closed_parts.proofs.ClosedHeads.Values.{GoodPlace, sound_place, not_broken, closed_text}
+use Rattle.closed_parts.proofs.ClosedHeads.Values.{optional_type, needed_patterns}
+use Rattle.closed_texts.proofs.ClosedPatterns.Texts.{patterns_closed}
+use Rattle.closed_parts.proofs.ClosedBodies.Required.{variable_given}
 use Rattle.closed_parts.specs.Closed.{closed_part}
 use Rattle.closed_parts.proofs.Params.{bind_closed, needed_name, front_sound, params_closed}
 use Rattle.closed_parts.proofs.Params.{arguments_closed, callee_closed, ClosedParams, ClosedCallee}
+use Rattle.xt_names.proofs.ListLemmas.{front_nil, back_nil}
 
 -- outside of all groups
-pub record TopPlace (p : Place) : Type 0 where
+pub record TopPlace (p : StaticContext) : Type 0 where
   pub good : GoodPlace p
   pub outside : p.in_group ≡ false
 
@@ -85,7 +86,7 @@ patterns_asked (p ∷ ps) g s =
     and_from (closed_part.of_pattern p) _ (both_good p a.0 b.0) (patterns_asked ps a.1 b.1)
 
 -- templates
-rules_asked : (p : Place) → GoodPlace p → (modes : ModeSet) (priority : Option ℤ)
+rules_asked : (p : StaticContext) → GoodPlace p → (modes : ModeSet) (priority : Option ℤ)
     (o : Option (List ℕ)) → optional_faults (patterns_faults p) o ≡ []
     → list_all (λ r. closed_part.of_pattern r.pattern)
     (rules_in reading modes priority (optional_value (patterns_value p) o)) ≡ true
@@ -96,7 +97,7 @@ rules_asked p g modes priority (Some text) f =
     (patterns_value p text)
     ∙ patterns_asked (patterns_value p text) c.good c.stands
 
-optional_name : (p : Place) → GoodPlace p → (o : Option (List ℕ))
+optional_name : (p : StaticContext) → GoodPlace p → (o : Option (List ℕ))
     → optional_faults (declared_faults XTSE0020 p.bound) o ≡ []
     → if_sound_name (optional_value (qname_value p.bound) o) ≡ true
 unfolding if_sound_name
@@ -125,7 +126,7 @@ template_asked b t n k c d =
     (and_from (params_stand t.params false) _ d.stands d.body_closed.stands)
     (le-leb (template_nest_of (template_of b t)) 40 deep))
 
-module _ (p : Place) (t : TopPlace p) where
+module _ (p : StaticContext) (t : TopPlace p) where
   pub template_closed : (attributes : List Attribute) (kids : List Node)
       → are_sound_nodes kids ≡ true → template_faults reading p attributes kids ≡ []
       → declares closed_part (template_value reading p attributes kids) ≡ true

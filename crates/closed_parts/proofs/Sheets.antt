@@ -4,7 +4,6 @@ use Rattle.std.proofs.lemmas.Bool.{and_parts, and_from, le-leb, leb-true}
 use Rattle.std.specs.List.{list_all}
 use Rattle.std.specs.Prelude.{nat_le}
 use Rattle.xt_types.specs.declared.node_tests.SpaceRule.{SpaceRule}
-use Rattle.xt_forms.specs.Nest.{greatest}
 use Rattle.xt_forms.specs.Regular.{every}
 use Rattle.xt_sheets.specs.declared.sheets.Global.{Global}
 use Rattle.xt_sheets.specs.declared.sheets.Rule.{Rule}
@@ -14,15 +13,16 @@ use Rattle.closed_sheets.specs.Instrs.{is_good_bound}
 use Rattle.closed_sheets.specs.Sheets.{is_good_sheet_template, is_good_function, is_good_key}
 use Rattle.closed_sheets.specs.Sheets.{are_sound_modes, has_good_parts}
 use Rattle.closed_sheets.specs.Values.{is_good_pattern}
-use Rattle.assembly_laws.specs.SheetClosure.Closed.{is_space_test}
-use Rattle.assembly_laws.specs.SheetClosure.Declared.{has_uri}
-use Rattle.sheet_forms.specs.SheetNest.{global_nest_of, template_nest_of, function_nest_of}
-use Rattle.sheet_forms.specs.SheetNest.{sheet_nest_of}
-use Rattle.standing_parts.specs.Patterns.{is_alternative}
-use Rattle.standing_parts.specs.Sheets.{global_stands, template_stands, function_stands, key_stands}
-use Rattle.standing_parts.specs.Sheets.{parts_stand}
+use Rattle.sheet_closure.specs.Closed.{is_space_test}
+use Rattle.sheet_closure.specs.Declared.{has_uri}
+use Rattle.closed_sheets.specs.SheetForms.SheetNest.{global_nest_of, template_nest_of, function_nest_of}
+use Rattle.closed_sheets.specs.SheetForms.SheetNest.{sheet_nest_of}
+use Rattle.sheet_closure.specs.StandingParts.Patterns.{is_alternative}
+use Rattle.sheet_closure.specs.StandingParts.Sheets.{global_stands, template_stands, function_stands, key_stands}
+use Rattle.sheet_closure.specs.StandingParts.Sheets.{parts_stand}
 use Rattle.assembly_laws.specs.Laws.{has_asked}
 use Rattle.closed_parts.specs.Closed.{closed_part, closed_space}
+use Rattle.xt_names.specs.Lists.{greatest}
 
 record Both {A : Type 0} (p q : A → Bool) (xs : List A) : Type 0 where
   front : list_all p xs ≡ true

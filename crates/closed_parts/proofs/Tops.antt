@@ -1,50 +1,50 @@
--- What stands at the top of a stylesheet, where it breaks no rule.
+-- What is at the top of a stylesheet, where it breaks no rule.
 use Rattle.std.proofs.Common.{◌≡◌, ℕ, codes, ◌∷◌, List, [], Bool, true, false, cond, Option, Some}
 use Rattle.std.proofs.Common.{None, refl}
 use Rattle.xt_names.specs.Allowed.{is_empty_text}
 use Rattle.xt_names.specs.declared.codes.SheetStaticCode.TheVariants.{XTSE0130}
 use Rattle.xt_names.specs.declared.names.Name.{Name}
 use Rattle.xt_tree.specs.declared.attributes.Attribute.{Attribute}
-use Rattle.closed_heads.specs.SheetLanguage.Language.{sheet_reading as reading}
+use Rattle.closed_parts.specs.SheetLanguage.Language.{sheet_reading as reading}
 use Rattle.sheet_modules.specs.declared.modules.Part.TheVariants.{Ignored}
-use Rattle.sheet_nodes.specs.declared.nodes.Node.{Node}
-use Rattle.sheet_nodes.specs.declared.nodes.Node.TheViews.{out-Node}
-use Rattle.sheet_nodes.specs.declared.nodes.Node.TheOpen.{Node-F, Elem, Chars}
+use Rattle.sheet_table.specs.declared.sheet_nodes.nodes.Node.{Node}
+use Rattle.sheet_table.specs.declared.sheet_nodes.nodes.Node.TheViews.{out-Node}
+use Rattle.sheet_table.specs.declared.sheet_nodes.nodes.Node.TheOpen.{Node-F, Elem, Chars}
 use Rattle.sheet_parts.specs.Tops.{declaration_faults, declaration_value, xsl_faults, xsl_value}
 use Rattle.sheet_parts.specs.Tops.{any_faults, any_value, layer_faults, layer_value, top_faults}
 use Rattle.sheet_parts.specs.Tops.{top_value}
-use Rattle.sheet_table.specs.Attributes.{is_in_xslt}
 use Rattle.sheet_table.specs.Elements.{xsl_element}
 use Rattle.sheet_table.specs.declared.elements.XslElement.{XslElement}
 use Rattle.sheet_table.specs.declared.elements.XslElement.TheVariants as element
-use Rattle.sheet_texts.specs.Places.{within}
-use Rattle.sheet_texts.specs.declared.places.Place.{Place}
+use Rattle.sheet_values.specs.SheetTexts.Places.{within}
+use Rattle.sheet_values.specs.declared.sheet_texts.places.StaticContext.{StaticContext}
 use Rattle.sheet_values.specs.Rules.{broken}
 use Rattle.assembly_laws.specs.Laws.{declares}
-use Rattle.sound_nodes.specs.Sound.{are_sound_nodes, is_sound_node}
-use Rattle.closed_bodies.proofs.Turns.{good_inner}
+use Rattle.closed_parts.specs.SoundNodes.Sound.{are_sound_nodes, is_sound_node}
+use Rattle.closed_parts.proofs.ClosedBodies.Turns.{good_inner}
 use Rattle.closed_parts.specs.Closed.{closed_part}
 use Rattle.closed_parts.proofs.Parts.{TopPlace, template_closed, function_closed, key_closed}
 use Rattle.closed_parts.proofs.Parts.{variable_closed, parameter_closed}
-use Rattle.sound_nodes.proofs.Forms.{SoundForm, sound_form, sound_element}
+use Rattle.closed_parts.proofs.SoundNodes.Forms.{SoundForm, sound_form, sound_element}
 use Rattle.std.proofs.lemmas.Bool.{and_parts, and_from}
 use Rattle.std.specs.List.{list_all}
 use Rattle.xt_types.specs.declared.node_tests.NameTest.{NameTest}
 use Rattle.xt_types.specs.declared.node_tests.NameTest.TheVariants as name
 use Rattle.closed_queries.specs.Texts.{is_sound_name_test}
-use Rattle.assembly_laws.specs.SheetClosure.Closed.{is_space_test}
+use Rattle.sheet_closure.specs.Closed.{is_space_test}
 use Rattle.sheet_heads.specs.Attributes.{needed_faults, needed_value}
 use Rattle.sheet_parts.specs.Outputs.{space_rule, space_rules, empty_faults}
 use Rattle.sheet_table.specs.Attributes.{attribute}
 use Rattle.sheet_values.specs.Elements.{name_tests_faults, name_tests_value}
 use Rattle.assembly_laws.specs.Laws.{declares_spaces}
-use Rattle.closed_names.specs.Tests.{is_declared_test}
-use Rattle.closed_names.proofs.Names.{back_nil}
-use Rattle.closed_names.proofs.Tests.{tests_so}
-use Rattle.closed_heads.proofs.Values.{sound_place}
+use Rattle.closed_texts.specs.ClosedNames.Tests.{is_declared_test}
+use Rattle.closed_texts.proofs.ClosedNames.Tests.{tests_so}
+use Rattle.closed_parts.proofs.ClosedHeads.Values.{sound_place}
 use Rattle.closed_parts.specs.Closed.{closed_space}
+use Rattle.xt_names.specs.Names.{is_in_xslt}
+use Rattle.xt_names.proofs.ListLemmas.{back_nil}
 
-module _ (p : Place) (t : TopPlace p) where
+module _ (p : StaticContext) (t : TopPlace p) where
   declaration_closed : (e : XslElement) (attributes : List Attribute) (kids : List Node)
       → are_sound_nodes kids ≡ true → declaration_faults reading p e attributes kids ≡ []
       → declares closed_part (declaration_value reading p e attributes kids) ≡ true
@@ -77,7 +77,7 @@ module _ (p : Place) (t : TopPlace p) where
       go true f = xsl_closed (xsl_element name) name attributes kids h f
       go false f = refl
 
-layer_closed : (p : Place) → TopPlace p → (f : Node-F Node) → SoundForm f
+layer_closed : (p : StaticContext) → TopPlace p → (f : Node-F Node) → SoundForm f
     → layer_faults reading p f ≡ [] → declares closed_part (layer_value reading p f) ≡ true
 layer_closed p t (Elem own name attributes kids) h e =
     let s = sound_element own name attributes kids h in
@@ -86,7 +86,7 @@ layer_closed p t (Elem own name attributes kids) h e =
     any_closed (within p own) q name attributes kids s.content e
 layer_closed p t (Chars c) h e = absurd cc
 
-pub top_closed : (p : Place) → TopPlace p → (n : Node) → is_sound_node n ≡ true
+pub top_closed : (p : StaticContext) → TopPlace p → (n : Node) → is_sound_node n ≡ true
     → top_faults reading p n ≡ [] → declares closed_part (top_value reading p n) ≡ true
 top_closed p t n h e = layer_closed p t (out-Node n) (sound_form n h) e
 
@@ -108,7 +108,7 @@ tests_asked strip (n ∷ ns) d s =
     and_from (closed_space (space_rule strip n)) _
     (and_from (is_sound_name_test n) _ b.0 (test_asked n a.0)) (tests_asked strip ns a.1 b.1)
 
-module _ (p : Place) (t : TopPlace p) where
+module _ (p : StaticContext) (t : TopPlace p) where
   spaces_asked : (strip : Bool) (o : Option (List ℕ))
       → needed_faults (name_tests_faults p.bound) o ≡ []
       → list_all closed_space (space_rules strip (needed_value (name_tests_value p.bound) o)) ≡ true
@@ -146,7 +146,7 @@ module _ (p : Place) (t : TopPlace p) where
       go true f = xsl_spaces (xsl_element name) name attributes kids f
       go false f = refl
 
-layer_spaces : (p : Place) → TopPlace p → (f : Node-F Node) → SoundForm f
+layer_spaces : (p : StaticContext) → TopPlace p → (f : Node-F Node) → SoundForm f
     → layer_faults reading p f ≡ []
     → declares_spaces closed_space (layer_value reading p f) ≡ true
 layer_spaces p t (Elem own name attributes kids) h e =
@@ -156,6 +156,6 @@ layer_spaces p t (Elem own name attributes kids) h e =
     any_spaces (within p own) q name attributes kids e
 layer_spaces p t (Chars c) h e = absurd cc
 
-pub top_spaces : (p : Place) → TopPlace p → (n : Node) → is_sound_node n ≡ true
+pub top_spaces : (p : StaticContext) → TopPlace p → (n : Node) → is_sound_node n ≡ true
     → top_faults reading p n ≡ [] → declares_spaces closed_space (top_value reading p n) ≡ true
 top_spaces p t n h e = layer_spaces p t (out-Node n) (sound_form n h) e

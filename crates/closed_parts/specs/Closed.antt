@@ -3,16 +3,16 @@ use Rattle.std.specs.Prelude.{Bool, ◌&&◌, nat_le}
 use Rattle.closed_sheets.specs.Instrs.{is_good_bound}
 use Rattle.closed_sheets.specs.Sheets.{is_good_sheet_template, is_good_function, is_good_key}
 use Rattle.closed_sheets.specs.Values.{is_good_pattern}
-use Rattle.sheet_forms.specs.SheetNest.{global_nest_of, template_nest_of, function_nest_of}
-use Rattle.standing_parts.specs.Patterns.{is_alternative}
-use Rattle.standing_parts.specs.Sheets.{global_stands, template_stands, function_stands, key_stands}
-use Rattle.assembly_laws.specs.SheetClosure.Closed.{is_space_test}
-use Rattle.assembly_laws.specs.SheetClosure.Declared.{has_uri}
+use Rattle.closed_sheets.specs.SheetForms.SheetNest.{global_nest_of, template_nest_of, function_nest_of}
+use Rattle.sheet_closure.specs.StandingParts.Patterns.{is_alternative}
+use Rattle.sheet_closure.specs.StandingParts.Sheets.{global_stands, template_stands, function_stands, key_stands}
+use Rattle.sheet_closure.specs.Closed.{is_space_test}
+use Rattle.sheet_closure.specs.Declared.{has_uri}
 use Rattle.closed_queries.specs.Texts.{is_sound_name_test}
 use Rattle.xt_types.specs.declared.node_tests.SpaceRule.{SpaceRule}
 use Rattle.assembly_laws.specs.Laws.{Asked}
 
--- it is good, may stand there, and nests at most 40 levels; a function has a uri
+-- it is good, may be there, and nests at most 40 levels; a function has a uri
 abbrev pub closed_part : Asked
 closed_part = record {
   of_global = λ g. is_good_bound g.bound && (global_stands g && nat_le (global_nest_of g) 40);

@@ -15,8 +15,8 @@ use Rattle.xt_syntax.specs.declared.exprs.DirectAttr.{DirectAttr}
 use Rattle.xt_syntax.specs.declared.exprs.Part.{Part}
 use Rattle.xt_syntax.specs.declared.exprs.Clause.TheOpen.{Int, Str, Var, Context, Root, Comma, Or, And, If, Flwor, Quant, General, Value, Is, Before, After, Range, Arith, Minus, Plus, Union, Intersect, Except, InstanceOf, Treat, Castable, Cast, Slash, Step, Filter, Call, ElemC, AttrC, DocC, TextC, CommentC, PiC, Direct, For, Let, Fixed, Computed, Chars, Enclosed, Child}
 use Rattle.xt_syntax.specs.Layers.{Kinds, Steps, ExprLayer, ClauseLayer, NameLayer, PartLayer, BindLayer, FlworLayer, expr_gives, arm_gives, clause_gives, bind_gives, order_gives, name_gives, attr_gives, part_gives, flwor_gives}
-use Rattle.name_rules.specs.Scopes.{same_name}
 use Rattle.closed_queries.specs.Texts.{is_sound_expr_name, is_sound_name, is_sound_attribute_name, is_sound_test, is_sound_type, is_sound_kind}
+use Rattle.xt_names.specs.ExprNames.{same_name}
 
 -- the variable, and whether it and its source are sound
 pub record Bound : Type 0 where

@@ -1,4 +1,5 @@
 pub mod Closed
 pub mod ExprTexts
 pub mod Texts
+pub mod PrologRules
 pub use Rattle.xt_forms.specs as XtForms

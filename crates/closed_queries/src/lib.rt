@@ -10,6 +10,7 @@ mod closed;
 mod expr_texts;
 mod names_kept;
 mod parts;
+pub mod prolog_rules;
 mod texts;
 
 pub use closed::query_closed;

@@ -5,7 +5,7 @@ ghost use Rattle.closed_queries.specs.Closed.{variable_names, are_new_functions,
 ghost use Rattle.name_rules.specs.Faults.{first};
 ghost use Rattle.name_rules.specs.Scopes.{names_differ, param_names, with_names};
 
-use name_rules::{Functions, Scope, broken_names, names_differ, param_names};
+use name_rules::{Functions, VariableScope, broken_names, names_differ, param_names};
 use std::alloc::{AllocError, Global};
 use xt_names::{ExprName, List};
 use xt_syntax::{Expr, Query, QueryFunction, QueryVar};
@@ -66,7 +66,7 @@ pub(crate) fn query_keeps_names(query: &Query) -> Result<bool, AllocError>
     ensures { IfOk result (λ keeps. keeps ≡ query_keeps_names query.now) }
 {
     let names = variable_names(&query.variables)?;
-    let scope = Scope::new(names.allocator())?.with_all(&names)?;
+    let scope = VariableScope::new(names.allocator())?.with_all(&names)?;
     let functions = declared_functions(names.allocator(), query.functions.as_slice())?;
     all_keep_names(query, &functions, &scope)
 }
@@ -82,7 +82,11 @@ fn declared_functions(alloc: Global, functions: &[QueryFunction]) -> Result<Func
 }
 
 #[tactic(auto, unfolding(crate::specs::Closed::all_keep_names))]
-fn all_keep_names(query: &Query, functions: &Functions, scope: &Scope) -> Result<bool, AllocError>
+fn all_keep_names(
+    query: &Query,
+    functions: &Functions,
+    scope: &VariableScope,
+) -> Result<bool, AllocError>
     ensures { IfOk result (λ keep. keep ≡ all_keep_names functions.now scope.now query.now) }
 {
     if !values_keep_names(query.variables.as_slice(), functions, scope)? {
@@ -97,7 +101,7 @@ fn all_keep_names(query: &Query, functions: &Functions, scope: &Scope) -> Result
 fn values_keep_names(
     variables: &[QueryVar],
     functions: &Functions,
-    scope: &Scope,
+    scope: &VariableScope,
 ) -> Result<bool, AllocError>
     ensures { IfOk result (λ keep. keep ≡ list_all (value_keeps_names functions.now scope.now) variables.now) }
 {
@@ -112,7 +116,7 @@ fn values_keep_names(
 fn value_keeps_names(
     value: &Option<Expr>,
     functions: &Functions,
-    scope: &Scope,
+    scope: &VariableScope,
 ) -> Result<bool, AllocError>
     ensures { IfOk result (λ keeps. keeps ≡ if_keeps functions.now scope.now value.now) }
 {
@@ -125,7 +129,7 @@ fn value_keeps_names(
 fn bodies_keep_names(
     all: &[QueryFunction],
     functions: &Functions,
-    scope: &Scope,
+    scope: &VariableScope,
 ) -> Result<bool, AllocError>
     ensures { IfOk result (λ keep. keep ≡ list_all (body_keeps_names functions.now scope.now) all.now) }
 {
@@ -140,7 +144,7 @@ fn bodies_keep_names(
 fn body_keeps_names(
     function: &QueryFunction,
     functions: &Functions,
-    scope: &Scope,
+    scope: &VariableScope,
 ) -> Result<bool, AllocError>
     ensures { IfOk result (λ keeps. keeps ≡ body_keeps_names functions.now scope.now function.now) }
 {
@@ -149,7 +153,7 @@ fn body_keeps_names(
     keeps_names(&function.body, functions, &inner)
 }
 
-fn keeps_names(e: &Expr, functions: &Functions, scope: &Scope) -> Result<bool, AllocError>
+fn keeps_names(e: &Expr, functions: &Functions, scope: &VariableScope) -> Result<bool, AllocError>
     ensures { IfOk result (λ keeps. keeps ≡ keeps_names functions.now scope.now e.now) }
 {
     let fault = broken_names(e, functions, scope)?;

@@ -74,7 +74,7 @@ abbrev pub clause_form : ClauseLayer forms → Bool
 clause_form (For bind place) = is_none place && bind
 clause_form (Let bind) = false
 
--- no part of a constructor is looked at: no constructor stands in XPath
+-- no part of a constructor is looked at: no constructor is in XPath
 abbrev pub form_steps : Steps forms
 form_steps = record {
   of_expr = expr_form;

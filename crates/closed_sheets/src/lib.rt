@@ -6,12 +6,13 @@
 //! forms of expressions. Whether what a stylesheet names is declared in it is not told here.
 //!
 //! Example: a stylesheet with `<xsl:value-of select="1"/>` has good parts; one whose expression is a
-//! comma list of one part, which no text spells, or a constructor of elements, which stands in queries
+//! comma list of one part, which no text spells, or a constructor of elements, which is in queries
 //! alone, has not.
 #![tactic(auto)]
 
 mod forms;
 mod instrs;
+pub mod sheet_forms;
 mod sheets;
 mod values;
 

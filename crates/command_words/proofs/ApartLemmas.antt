@@ -27,7 +27,7 @@ followed_by_last (Depth n) a b = rw (append_assoc a.depths (n ∷ []) b.depths) 
 followed_by_last (Doc f) a b = rw (append_assoc a.files (f ∷ []) b.files) refl
 followed_by_last (Operand w) a b = rw (append_assoc a.operands (w ∷ []) b.operands) refl
 
--- a piece is put behind those so far
+-- a piece is put after those so far
 pub turn : (p : Piece) (a new : Told) (all left more : Option Told)
     → all ≡ option_map (followed_by a) left → left ≡ option_map (with_piece p) more
     → new ≡ with_last p a → all ≡ option_map (followed_by new) more

@@ -11,7 +11,7 @@ use Rattle.command_words.specs.Requests.{depth_of, documents_of, parameters_of, 
 use Rattle.command_words.specs.Requests.{run_of_operands, transform_of, query_of, request_of}
 use Rattle.command_words.specs.Requests.{given_in, name_in, is_parameter}
 use Rattle.command_words.specs.Texts.{are_different}
-use Rattle.command_words.proofs.WordLemmas.{some_same}
+use Rattle.xt_names.proofs.ListLemmas.{some_same}
 
 -- nothing is named twice
 pub record NamesOnce (inputs : Inputs) : Type 0 where

@@ -3,7 +3,7 @@ use Rattle.std.proofs.Common.{◌≡◌, ℕ, ◌+◌, ◌<◌, List, length, ge
 use Rattle.std.proofs.Common.{false, ◌&&◌, Option, Some, None, Bor, if◌then◌else◌, refl, sym, ap, ◌∙◌}
 use Rattle.std.specs.List.{list_all}
 use Rattle.command_words.specs.Requests.{Given, is_parameter}
-use Rattle.command_words.proofs.ListLemmas.{drop_at}
+use Rattle.xt_names.proofs.ListLemmas.{drop_at}
 
 -- the words that references point to
 abbrev pub words_of : List (Bor (List ℕ)) → List (List ℕ)

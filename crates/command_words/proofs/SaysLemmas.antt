@@ -7,13 +7,15 @@ use Rattle.command_words.specs.Apart.{Piece, Depth, Doc, Operand, Told, operands
 use Rattle.command_words.specs.Apart.{Says, nothing, the_rest, depth, depth_joined, doc, doc_joined}
 use Rattle.command_words.specs.Apart.{operand, joined_piece, whole_piece, parted_piece, said}
 use Rattle.command_words.specs.Apart.{told_apart}
-use Rattle.command_words.proofs.WordLemmas.{some_same, false_of, behind_gives}
+use Rattle.command_words.proofs.WordLemmas.{behind_gives}
+use Rattle.xt_names.proofs.ListLemmas.{some_same}
+use Rattle.std.proofs.lemmas.Bool.{false_from_ne_true}
 
 same_bytes : (a b : List ℕ) → bytes_eq a b ≡ true → a ≡ b
 same_bytes a b e = (bytes_eq-Decides a b).0 e
 
 operand_goes_on : (word : List ℕ) → is_operand word ≡ true → bytes_eq word (codes "--") ≡ false
-operand_goes_on word e = false_of (bytes_eq word (codes "--")) (λ h.
+operand_goes_on word e = false_from_ne_true (bytes_eq word (codes "--")) (λ h.
     let same : word ≡ codes "--" = same_bytes word (codes "--") h in
     let no : is_operand (codes "--") ≡ true = subst (λ w. is_operand w ≡ true) same e in cc)
 

@@ -1,26 +1,11 @@
 -- Tables of texts.
 use Rattle.std.proofs.Common.{◌≡◌, ℕ, ◌<◌, ◌+◌, length, get_or, drop, ◌∙◌, List, [], ◌∷◌, Bool, true}
-use Rattle.std.proofs.Common.{false, not, ◌&&◌, ◌||◌, cond, ap, refl, bytes_eq}
+use Rattle.std.proofs.Common.{false, not, ◌&&◌, cond, ap, refl, bytes_eq}
 use Rattle.std.specs.List.{list_all, list_any}
 use Rattle.std.specs.HashSet.{HashSet, contains}
 use Rattle.command_words.specs.Texts.{are_different}
-use Rattle.command_words.proofs.ListLemmas.{drop_at}
-
-both_false : (any : Bool) → false ≡ (not any && false)
-both_false true = refl
-both_false false = refl
-
-step : (g h any all : Bool)
-    → (not (cond g true h) && (not any && all)) ≡ (not (g || any) && (not h && all))
-step true h any all = refl
-step false true any all = both_false any
-step false false any all = refl
-
-shuffle : (any all differ : Bool) → (all && (not any && differ)) ≡ ((not any && all) && differ)
-shuffle true true differ = refl
-shuffle true false differ = refl
-shuffle false true differ = refl
-shuffle false false differ = refl
+use Rattle.xt_names.proofs.BoolLemmas.{differ_step as step, differ_shuffle}
+use Rattle.xt_names.proofs.ListLemmas.{drop_at}
 
 -- the table has this text
 abbrev pub has_text : {S : Type 0} → HashSet (List ℕ) S → List ℕ → Bool
@@ -49,7 +34,7 @@ are_new-more : {S : Type 0} (seen new : HashSet (List ℕ) S) (a : List ℕ) (re
     → are_new seen (a ∷ rest) ≡ are_new new rest
 are_new-more seen new a rest e h =
     rw (e, all_new (λ b. has_text new b) (λ b. bytes_eq a b) (λ b. has_text seen b) rest (λ b. h b))
-    (shuffle (list_any (λ b. bytes_eq a b) rest) (list_all (λ b. not (has_text seen b)) rest) (are_different rest))
+    (differ_shuffle (list_any (λ b. bytes_eq a b) rest) (list_all (λ b. not (has_text seen b)) rest) (are_different rest))
 
 are_new-none : {S : Type 0} (seen : HashSet (List ℕ) S) (a : List ℕ) (rest : List (List ℕ))
     → not (has_text seen a) ≡ false → are_new seen (a ∷ rest) ≡ false

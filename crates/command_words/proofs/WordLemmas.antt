@@ -1,17 +1,11 @@
--- What stands behind the front of a word.
+-- What comes after the front of a word.
 use Rattle.std.proofs.Common.{◌≡◌, ℕ, List, [], ◌∷◌, ◌++◌, drop, Bool, true, false, Option}
 use Rattle.std.proofs.Common.{Some, None, option_copied, MatchOption, Bor, cond, refl, sym, ap}
 use Rattle.std.proofs.Common.{◌∙◌, eqb}
 use Rattle.std.proofs.lemmas.Bool.{eqb-true, eq-eqb}
 use Rattle.std.specs.Str.Pattern.{FindsTextPrefix, StripsPrefix}
 use Rattle.command_words.specs.Words.{behind}
-
-pub some_same : {A : Type 0} {x y : A} → Some x ≡ Some y → x ≡ y
-some_same e = cc
-
-pub false_of : (b : Bool) → (b ≡ true → ⊥) → b ≡ false
-false_of true h = absurd (h refl)
-false_of false h = refl
+use Rattle.xt_names.proofs.ListLemmas.{some_same}
 
 none_of : {A : Type 0} (o : Option A) → ((x : A) → o ≡ Some x → ⊥) → o ≡ None
 none_of None h = refl

@@ -1,4 +1,4 @@
--- The words behind a command, told apart: what the options say, and the operands. `Says` is the
+-- The words after a command, told apart: what the options say, and the operands. `Says` is the
 -- grammar, and `told_apart` the function that has the one answer, which is a law.
 use Rattle.std.specs.Prelude.{◌≡◌, ℕ, List, [], ◌∷◌, ◌++◌, map, true, Option, None, Some}
 use Rattle.std.specs.Prelude.{option_map, codes, if◌then◌else◌}
@@ -65,7 +65,7 @@ parted_piece word value =
     if bytes_eq word (codes "--depth") then Some (Depth value)
     else if bytes_eq word (codes "--doc") then Some (Doc value) else None
 
--- a piece of one word with what the words behind it say, or a piece of two
+-- a piece of one word with what the words after it say, or a piece of two
 abbrev pub said : Option Piece → Option Piece → Option Told → Option Told → Option Told
 said (Some piece) parted one two = option_map (with_piece piece) one
 said None (Some piece) one two = option_map (with_piece piece) two
@@ -95,7 +95,7 @@ told_of t = record {
   operands = map (λ b. b.now) t.operands.items;
 }
 
--- with a piece behind all others, and with further operands
+-- with a piece after all others, and with further operands
 abbrev pub with_last : Piece → Told → Told
 with_last (Depth number) t =
     record { depths = t.depths ++ number ∷ []; files = t.files; operands = t.operands }

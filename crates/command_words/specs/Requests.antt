@@ -68,7 +68,7 @@ is_equals b = b == 61
 abbrev pub has_equals : List ℕ → Bool
 has_equals word = nat_lt (position_or_len is_equals word) (length word)
 
--- the texts before and behind the first `=`
+-- the texts before and after the first `=`
 abbrev pub name_in : List ℕ → List ℕ
 name_in word = chars (before_first is_equals word)
 

@@ -15,7 +15,7 @@ begins_with_dash (c ∷ cs) = c == 45
 abbrev pub is_operand : List ℕ → Bool
 is_operand word = bytes_eq word (codes "-") || not (begins_with_dash word)
 
--- what stands behind the front in a word that begins with it
+-- what comes after the front in a word that begins with it
 abbrev pub behind : List ℕ → List ℕ → Option (List ℕ)
 behind [] word = Some word
 behind (f ∷ front) [] = None

@@ -1,4 +1,4 @@
-// The words behind a command, told apart.
+// The words after a command, told apart.
 ghost use Rattle.std.specs.Prelude.{◌≡◌, ◌≤◌, ◌∷◌, map, length, None, false};
 ghost use Rattle.std.specs.Prelude.{option_map, MatchOption, IfOk, OnOk, codes};
 ghost use Rattle.std.specs.Str.{bytes_eq};
@@ -17,7 +17,7 @@ pub(crate) struct Told<'a> {
     pub operands: Vec<&'a str>,
 }
 
-// The first piece of words of which this is the first and these are the rest, and the words behind
+// The first piece of words of which this is the first and these are the rest, and the words after
 // it.
 fn next<'a>(word: &'a str, rest: &'a [String]) -> Option<(Piece<'a>, &'a [String])>
     requires { bytes_eq word.now (codes "--") ≡ false }
@@ -60,7 +60,7 @@ fn push_operands<'a>(told: &mut Told<'a>, words: &'a [String]) -> Result<(), All
     Ok(())
 }
 
-/// What the words behind a command say, if anything.
+/// What the words after a command say, if anything.
 pub(crate) fn tell_apart(alloc: Global, words: &[String]) -> Result<Option<Told<'_>>, AllocError>
     ensures { IfOk result
         (λ told. option_map told_of told ≡ told_apart (map string_bytes words.now)) }

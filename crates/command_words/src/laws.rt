@@ -5,7 +5,7 @@ ghost use Rattle.command_words.specs.Apart.{Says, Told, told_apart};
 ghost use Rattle.command_words.specs.Requests.{Asked, request_of, inputs_asked};
 ghost use Rattle.command_words.specs.Texts.{are_different};
 
-/// The words behind a command say at most one thing: just what the function gives. No standard
+/// The words after a command say at most one thing: just what the function gives. No standard
 /// decides what they say: it is this program's own choice (docs/DECISIONS.md, "The program").
 pub fn words_say_one()
     ensures given { (words : Words) (told : Told) → told_apart words ≡ Some told → Says words told }

@@ -4,7 +4,7 @@
 //! none. A request names a stylesheet or a query, and on what it runs: a document, how many calls
 //! may be open at once, further documents for `doc`, and parameters.
 //!
-//! The first word is the command. Behind it stand options and operands in any order. `--depth N`
+//! The first word is the command. After it stand options and operands in any order. `--depth N`
 //! says how many calls may be open at once, once at most; `--doc FILE` names a further document, up
 //! to 16 of them and each once. Either may be one word, with `=` between. Behind `--` all words are
 //! operands; before it a word that begins with `-` and is neither such an option nor `-` alone asks

@@ -18,7 +18,7 @@ pub struct Parameter {
     pub value: Text,
 }
 
-// The parts before and behind the first `=`.
+// The parts before and after the first `=`.
 fn split(word: &str) -> Option<(&str, &str)>
     ensures { MatchOption result (has_equals word.now ≡ false)
         (λ p. (has_equals word.now ≡ true) × (p.0.now ≡ before_first is_equals word.now)

@@ -1,4 +1,4 @@
-// The pieces of the words behind a command.
+// The pieces of the words after a command.
 ghost use Rattle.std.specs.Prelude.{◌≡◌, option_map};
 ghost use Rattle.std.specs.Option.{option_copied};
 ghost use Rattle.command_words.specs.Words.{begins_with_dash, is_operand, behind};

@@ -5,10 +5,10 @@ use Rattle.std.proofs.lemmas.Bool.{and_parts, or_cases, or_left, or_right}
 use Rattle.std.specs.List.{list_any}
 use Rattle.xt_syntax.specs.declared.exprs.Expr.{Expr}
 use Rattle.xt_syntax.specs.declared.patterns.Pattern.{Pattern}
-use Rattle.sheet_declarations.specs.declared.lists.Declaration.{Declaration}
-use Rattle.sheet_declarations.specs.Counts.{Declared, a_global, a_function, a_template, nothing}
-use Rattle.sheet_declarations.specs.Counts.{declared_by, replaces, is_replaced, counted_of}
-use Rattle.sheet_declarations.proofs.Sames.{same_signature_is}
+use Rattle.sheet_rules.specs.declared.sheet_declarations.lists.Declaration.{Declaration}
+use Rattle.sheet_rules.specs.SheetDeclarations.Counts.{Declared, a_global, a_function, a_template, nothing}
+use Rattle.sheet_rules.specs.SheetDeclarations.Counts.{declared_by, replaces, is_replaced, counted_of}
+use Rattle.sheet_rules.proofs.SheetDeclarations.Sames.{same_signature_is}
 use Rattle.sheet_assembly.specs.Named.{is_marked, behind}
 
 -- some of them declares it

@@ -16,19 +16,19 @@ use Rattle.sheet_modules.specs.declared.modules.Part.{Part}
 use Rattle.sheet_modules.specs.declared.modules.Part.TheVariants as part
 use Rattle.sheet_modules.specs.declared.modules.KeyPart.{KeyPart}
 use Rattle.sheet_modules.specs.declared.templates.RulePart.{RulePart}
-use Rattle.sheet_declarations.specs.declared.lists.Declaration.{Declaration}
+use Rattle.sheet_rules.specs.declared.sheet_declarations.lists.Declaration.{Declaration}
 use Rattle.sheet_uses.specs.declared.uses.Use.{Use}
 use Rattle.sheet_uses.specs.Exprs.{Finds, nothing, all_in}
 use Rattle.sheet_uses.specs.Bodies.{bound_uses, callee_uses}
-use Rattle.key_calls.specs.Bodies.{bound_keys, callee_keys}
+use Rattle.sheet_uses.specs.KeyCalls.Bodies.{bound_keys, callee_keys}
 use Rattle.sheet_rules.specs.Uses.{use_of_key, part_uses, declared_uses, part_keys, declared_keys}
 use Rattle.sheet_assembly.specs.Named.{key_rule}
 use Rattle.assembly_laws.specs.SheetClosure.Uses.{key_uses, uses_of, key_uses_of}
 use Rattle.assembly_laws.specs.Laws.{Asked, declares, has_asked}
-use Rattle.added_uses.proofs.Ends.{Adds, adding, expr_adds}
-use Rattle.added_uses.proofs.Bodies as bodies
-use Rattle.added_uses.proofs.Bodies.{each_adds}
-use Rattle.added_uses.proofs.Keys as keys
+use Rattle.declared_uses.proofs.AddedUses.Ends.{Adds, adding, expr_adds}
+use Rattle.declared_uses.proofs.AddedUses.Bodies as bodies
+use Rattle.declared_uses.proofs.AddedUses.Bodies.{each_adds}
+use Rattle.declared_uses.proofs.AddedUses.Keys as keys
 
 -- each is put at the end
 abbrev AllPass : (Use → Bool) → Finds → Bool

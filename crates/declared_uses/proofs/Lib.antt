@@ -4,3 +4,7 @@ pub mod Finds
 pub mod Templates
 pub mod Orders
 pub mod Uses
+pub mod AddedUses
+pub mod OrderedGlobals
+pub mod UsedNumbers
+pub mod WholeStylesheets

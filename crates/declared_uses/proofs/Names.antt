@@ -10,15 +10,15 @@ use Rattle.xt_sheets.specs.declared.sheets.Global.{Global}
 use Rattle.xt_sheets.specs.declared.sheets.SheetFunction.{SheetFunction}
 use Rattle.xt_sheets.specs.declared.sheets.KeyRule.{KeyRule}
 use Rattle.name_rules.specs.declared.functions.Signature.{Signature}
-use Rattle.name_rules.specs.Scopes.{same_name, has_name, with_name, with_names, same_signature}
+use Rattle.name_rules.specs.Scopes.{has_name, with_name, with_names, same_signature}
 use Rattle.name_rules.specs.Scopes.{signature, has_function, with_function}
 use Rattle.sheet_modules.specs.declared.modules.Part.{Part}
 use Rattle.sheet_modules.specs.declared.modules.Part.TheVariants as part
 use Rattle.sheet_modules.specs.declared.modules.KeyPart.{KeyPart}
-use Rattle.sheet_declarations.specs.declared.lists.Declaration.{Declaration}
-use Rattle.sheet_declarations.specs.Counts.{a_global, a_function, a_template, declared_by, replaces}
-use Rattle.sheet_declarations.specs.Counts.{template_of}
-use Rattle.sheet_declarations.proofs.Sames.{same_signature_is}
+use Rattle.sheet_rules.specs.declared.sheet_declarations.lists.Declaration.{Declaration}
+use Rattle.sheet_rules.specs.SheetDeclarations.Counts.{a_global, a_function, a_template, declared_by, replaces}
+use Rattle.sheet_rules.specs.SheetDeclarations.Counts.{template_of}
+use Rattle.sheet_rules.proofs.SheetDeclarations.Sames.{same_signature_is}
 use Rattle.sheet_rules.specs.Names as rules
 use Rattle.sheet_rules.specs.Names.{global_names, template_names, with_global, with_template, if_name}
 use Rattle.sheet_rules.specs.Names.{with_function_of, with_keys, with_keys_of}
@@ -26,23 +26,14 @@ use Rattle.sheet_assembly.specs.Named.{each_by, each, is_marked, behind, global_
 use Rattle.sheet_assembly.specs.Named.{function_in, function_if, key_rule, keys_in}
 use Rattle.assembly_laws.specs.SheetClosure.Declared.{global_name, with_functions, key_name}
 use Rattle.declared_uses.proofs.Counts.{declares, counts}
-
-and_true : (b : Bool) → (b && true) ≡ b
-and_true true = refl
-and_true false = refl
-
-or_false : (b : Bool) → (b || false) ≡ b
-or_false true = refl
-or_false false = refl
+use Rattle.std.proofs.Math.Bool.{and-true, or-false}
+use Rattle.xt_names.proofs.NameLemmas.{same_names}
+use Rattle.assembly_laws.proofs.Functions.{of}
+use Rattle.xt_names.specs.ExprNames.{same_name}
 
 or_assoc : (a b c : Bool) → ((a || b) || c) ≡ (a || (b || c))
 or_assoc true b c = refl
 or_assoc false b c = refl
-
-pub same_name_is : (a b : ExprName) → same_name a b ≡ true → a ≡ b
-same_name_is a b h =
-    ap (λ (s : Signature). s.name)
-    (same_signature_is (signature a 0) (signature b 0) (and_true (same_name a b) ∙ h))
 
 -- one more of a list changes nothing where it is there
 absorbed : (p q : Bool) → (q ≡ true → p ≡ true) → p ≡ (p || q)
@@ -58,14 +49,14 @@ name_more names m n = go (has_name names m) refl
         → has_name (cond b names (names ++ m ∷ [])) n ≡ (has_name names n || same_name n m)
     go true h =
         absorbed (has_name names n) (same_name n m)
-        (λ e. subst (λ x. has_name names x ≡ true) (sym (same_name_is n m e)) h)
+        (λ e. subst (λ x. has_name names x ≡ true) (sym (same_names n m e)) h)
     go false h =
         list_any-append (same_name n) names (m ∷ [])
-        ∙ ap (λ (b : Bool). has_name names n || b) (or_false (same_name n m))
+        ∙ ap (λ (b : Bool). has_name names n || b) (or-false (same_name n m))
 
 pub names_more : (names ms : List ExprName) (n : ExprName)
     → has_name (with_names names ms) n ≡ (has_name names n || has_name ms n)
-names_more names [] n = sym (or_false (has_name names n))
+names_more names [] n = sym (or-false (has_name names n))
 names_more names (m ∷ ms) n =
     names_more (with_name names m) ms n
     ∙ ap (λ (b : Bool). b || has_name ms n) (name_more names m n)
@@ -76,7 +67,7 @@ one_global : (n : ExprName) (p : Part Expr Pattern) (names : List ExprName)
     → has_name (with_global p names) n
     ≡ (replaces (a_global (signature n 0)) (declared_by p) || has_name names n)
 one_global n (part.Global g) names =
-    ap (λ (b : Bool). b || has_name names n) (sym (and_true _))
+    ap (λ (b : Bool). b || has_name names n) (sym (and-true _))
 one_global n (part.Template t rules) names = template_not t.name
   where
     template_not : (o : Option ExprName) → has_name names n
@@ -102,7 +93,7 @@ one_counts : (n : ExprName) (m : Bool) (p : Part Expr Pattern) (gs : List Global
     → has_name (map global_name (global_in m p ++ gs)) n
     ≡ ((m && replaces (a_global (signature n 0)) (declared_by p)) || has_name (map global_name gs) n)
 one_counts n true (part.Global g) gs =
-    ap (λ (b : Bool). b || has_name (map global_name gs) n) (sym (and_true _))
+    ap (λ (b : Bool). b || has_name (map global_name gs) n) (sym (and-true _))
 one_counts n false (part.Global g) gs = refl
 one_counts n true (part.Template t rules) gs = template_not t.name
   where
@@ -143,7 +134,7 @@ one_template n (part.Template t rules) names = named t.name
     named : (o : Option ExprName) → has_name (if_name o names) n
         ≡ (replaces (a_template (signature n 0)) (template_of o) || has_name names n)
     named None = refl
-    named (Some m) = ap (λ (b : Bool). b || has_name names n) (sym (and_true (same_name n m)))
+    named (Some m) = ap (λ (b : Bool). b || has_name names n) (sym (and-true (same_name n m)))
 one_template n (part.Global g) names = refl
 one_template n (part.Function f) names = refl
 one_template n (part.Key keys) names = refl
@@ -176,29 +167,29 @@ function_more known m n a b = go (has_function known m a) refl
     go false h =
         list_any-append (same_signature (signature n b)) known (signature m a ∷ [])
         ∙ ap (λ (t : Bool). has_function known n b || t)
-        (or_false (same_signature (signature n b) (signature m a)))
+        (or-false (same_signature (signature n b) (signature m a)))
 
 one_function : (n : ExprName) (b : ℕ) (p : Part Expr Pattern) (known : List Signature)
     → has_function (with_function_of p known) n b
     ≡ (has_function known n b || replaces (a_function (signature n b)) (declared_by p))
 one_function n b (part.Function f) known = function_more known f.name n (length f.params) b
-one_function n b (part.Global g) known = sym (or_false (has_function known n b))
+one_function n b (part.Global g) known = sym (or-false (has_function known n b))
 one_function n b (part.Template t rules) known = template_not t.name
   where
     template_not : (o : Option ExprName) → has_function known n b
         ≡ (has_function known n b || replaces (a_function (signature n b)) (template_of o))
-    template_not None = sym (or_false (has_function known n b))
-    template_not (Some m) = sym (or_false (has_function known n b))
-one_function n b (part.Key keys) known = sym (or_false (has_function known n b))
-one_function n b (part.Space rules) known = sym (or_false (has_function known n b))
-one_function n b (part.Output omit) known = sym (or_false (has_function known n b))
-one_function n b part.Ignored known = sym (or_false (has_function known n b))
-one_function n b part.Linked known = sym (or_false (has_function known n b))
+    template_not None = sym (or-false (has_function known n b))
+    template_not (Some m) = sym (or-false (has_function known n b))
+one_function n b (part.Key keys) known = sym (or-false (has_function known n b))
+one_function n b (part.Space rules) known = sym (or-false (has_function known n b))
+one_function n b (part.Output omit) known = sym (or-false (has_function known n b))
+one_function n b part.Ignored known = sym (or-false (has_function known n b))
+one_function n b part.Linked known = sym (or-false (has_function known n b))
 
 functions_more : (n : ExprName) (b : ℕ) (known : List Signature)
     (ds : List (Declaration Expr Pattern)) → has_function (rules.with_functions known ds) n b
     ≡ (has_function known n b || declares (a_function (signature n b)) ds)
-functions_more n b known [] = sym (or_false (has_function known n b))
+functions_more n b known [] = sym (or-false (has_function known n b))
 functions_more n b known (d ∷ ds) =
     functions_more n b (with_function_of d.part known) ds
     ∙ ap (λ (t : Bool). t || declares (a_function (signature n b)) ds) (one_function n b d.part known)
@@ -208,13 +199,10 @@ pub functions_declared : (n : ExprName) (b : ℕ) (ds : List (Declaration Expr P
     → has_function (rules.with_functions [] ds) n b ≡ declares (a_function (signature n b)) ds
 functions_declared n b ds = functions_more n b [] ds
 
-abbrev of : SheetFunction → Signature
-of f = signature f.name (length f.params)
-
 listed_more : (n : ExprName) (b : ℕ) (known : List Signature) (fs : List SheetFunction)
     → has_function (with_functions known fs) n b
     ≡ (has_function known n b || list_any (λ f. same_signature (signature n b) (of f)) fs)
-listed_more n b known [] = sym (or_false (has_function known n b))
+listed_more n b known [] = sym (or-false (has_function known n b))
 listed_more n b known (f ∷ fs) =
     listed_more n b (with_function known f.name (length f.params)) fs
     ∙ ap (λ (t : Bool). t || list_any (λ g. same_signature (signature n b) (of g)) fs)

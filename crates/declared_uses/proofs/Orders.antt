@@ -8,33 +8,25 @@ use Rattle.std.proofs.lemmas.Bool.{not-true}
 use Rattle.xt_names.specs.declared.names.ExprName.{ExprName}
 use Rattle.xt_sheets.specs.declared.sheets.Global.{Global}
 use Rattle.xt_sheets.specs.declared.sheets.Sheet.{Sheet}
-use Rattle.name_rules.specs.Scopes.{same_name, has_name}
-use Rattle.graph_orders.specs.Needs.{needs_from}
-use Rattle.reached_places.specs.Walks.{Graph as Reached}
+use Rattle.name_rules.specs.Scopes.{has_name}
+use Rattle.global_order.specs.GraphOrders.Needs.{needs_from}
 use Rattle.global_needs.specs.Needs.{needs}
 use Rattle.global_order.specs.Order.{Graph, is_in, is_ready, is_next, needs_of, InOrder}
 use Rattle.global_order.specs.Order as order
-use Rattle.global_order.proofs.OrderLemmas.{undone, undone-all, is_in-more, nat_eq-same}
+use Rattle.global_order.proofs.OrderLemmas.{undone, undone-all, is_in-more, last_is}
 use Rattle.global_order.proofs.OrderLemmas.{order-in_order}
 use Rattle.sheet_assembly.specs.Named.{at, ordered}
 use Rattle.assembly_laws.specs.SheetClosure.Declared.{global_name}
 use Rattle.declared_uses.specs.Orders.{places_in, AreAllInOrder}
-
--- how many are left out
-one_less : (a b : Bool) → (if a || b then 0 else 1) ≤ (if a then 0 else 1)
-one_less true b = omega arith
-one_less false true = omega arith
-one_less false false = omega arith
+use Rattle.xt_names.proofs.BoolLemmas.{one_less}
+use Rattle.xt_names.specs.ExprNames.{same_name}
+use Rattle.global_order.specs.Order.{Graph as Reached}
 
 undone_no_more : (n i : ℕ) (done : List ℕ) → undone n (done ++ i ∷ []) ≤ undone n done
 undone_no_more zero i done = omega arith
 undone_no_more (suc n) i done =
     rw (is_in-more done i n)
     (omega (arith, undone_no_more n i done, one_less (is_in done n) (nat_eq i n)))
-
-last_is : (done : List ℕ) (i n : ℕ) → i ≡ n → is_in done n ≡ false
-    → (is_in done n || nat_eq i n) ≡ true
-last_is done i n same now = rw (now, same) (nat_eq-same n)
 
 undone_less : (n i : ℕ) (done : List ℕ) → i < n → is_in done i ≡ false
     → undone n (done ++ i ∷ []) < undone n done
@@ -122,7 +114,7 @@ order_whole s long i less =
     all_in_order (needs s) (places_in s) (order-in_order (needs s) (places_in s) refl)
     (omega (arith, long, same)) i (omega (arith, less, same))
 
--- a global that has the name stands at some place
+-- a global that has the name is at some place
 pub record Named (gs : List Global) (n : ExprName) : Type 0 where
   pub place : ℕ
   pub global : Global

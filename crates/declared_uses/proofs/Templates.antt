@@ -10,19 +10,20 @@ use Rattle.std.specs.List.{list_any, list_all, position_or_len, range_with_len}
 use Rattle.xt_names.specs.declared.names.ExprName.{ExprName}
 use Rattle.xt_syntax.specs.declared.exprs.Expr.{Expr}
 use Rattle.xt_syntax.specs.declared.patterns.Pattern.{Pattern}
-use Rattle.name_rules.specs.Scopes.{same_name, signature}
+use Rattle.name_rules.specs.Scopes.{signature}
 use Rattle.sheet_modules.specs.declared.modules.Part.{Part}
 use Rattle.sheet_modules.specs.declared.modules.Part.TheVariants as part
-use Rattle.sheet_texts.specs.Names.{number_of}
-use Rattle.sheet_declarations.specs.declared.lists.Declaration.{Declaration}
-use Rattle.sheet_declarations.specs.Counts.{a_template, declared_by, replaces, template_of}
+use Rattle.sheet_values.specs.SheetTexts.Names.{number_of}
+use Rattle.sheet_rules.specs.declared.sheet_declarations.lists.Declaration.{Declaration}
+use Rattle.sheet_rules.specs.SheetDeclarations.Counts.{a_template, declared_by, replaces, template_of}
 use Rattle.sheet_assembly.specs.Named.{each, each_by, is_marked, behind}
 use Rattle.sheet_assembly.specs.Templates.{small, number_in, name_if, standing_template, standing_in}
 use Rattle.sheet_assembly.specs.Templates.{standing_if, first_at, or_none, template_at, template_in}
 use Rattle.sheet_assembly.specs.Templates.{other_of, templates_of}
 use Rattle.assembly_laws.specs.SheetClosure.Declared.{is_named}
 use Rattle.declared_uses.proofs.Counts.{counts}
-use Rattle.declared_uses.proofs.Names.{same_name_is}
+use Rattle.xt_names.specs.ExprNames.{same_name}
+use Rattle.xt_names.proofs.NameLemmas.{same_names}
 
 -- a name that is among others has a place there
 place_below : (n : ExprName) (names : List ExprName) → list_any (same_name n) names ≡ true
@@ -48,7 +49,7 @@ number_below n names h =
     ≤ position_or_len (same_name n) names = omega arith in
     omega (arith, most, less))
 
--- the first of a list that passes, where the first of the list stands at this place
+-- the first of a list that passes, where the first of the list is at this place
 abbrev first_in : {A : Type 0} → (A → Bool) → ℕ → List A → Option ℕ
 first_in test k [] = None
 first_in test k (x ∷ xs) = cond (test x) (Some k) (first_in test (suc k) xs)
@@ -104,7 +105,7 @@ name_stands : (called : List ExprName) (n : ExprName) (number : ℕ) → number_
     → nat_eq (number_in called o) number ≡ true
 name_stands called n number e None h = absurd cc
 name_stands called n number e (Some m) h =
-    let same : n ≡ m = same_name_is n m (and_parts (same_name n m) _ h).0 in
+    let same : n ≡ m = same_names n m (and_parts (same_name n m) _ h).0 in
     eq-eqb (number_of called m) number (sym (ap (number_of called) same) ∙ e)
 
 one_stands : (called : List ExprName) (n : ExprName) (number : ℕ) → number_of called n ≡ number
@@ -173,7 +174,7 @@ module _ (called : List ExprName) (number : ℕ) (less : number < length called)
       (each_by (standing_if called) (behind marks) ds)
       ∙ and_from _ _ (one_named (is_marked marks) d.level d.part) (all_named (behind marks) ds)
 
--- what stands at a number
+-- what is at a number
 mapped_at : {A B : Type 0} (f : A → B) (g : ℕ → A) (rest : List B) (count from number : ℕ)
     → number < count
     → slice_get (map f (map g (range_with_len from count)) ++ rest) number ≡ Some (f (g (from + number)))

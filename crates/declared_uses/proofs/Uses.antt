@@ -21,21 +21,21 @@ use Rattle.xt_sheets.specs.declared.sheets.Global.{Global}
 use Rattle.xt_sheets.specs.declared.sheets.Sheet.{Sheet}
 use Rattle.function_table.specs.Find.{is_known}
 use Rattle.name_rules.specs.declared.functions.Signature.{Signature}
-use Rattle.name_rules.specs.Scopes.{has_name, with_names, has_function, may_be_called, same_name}
+use Rattle.name_rules.specs.Scopes.{has_name, with_names, has_function, may_be_called}
 use Rattle.name_rules.specs.Scopes.{signature}
 use Rattle.sheet_uses.specs.declared.uses.Use.{Use}
 use Rattle.sheet_uses.specs.declared.uses.Use.TheVariants as use_of
-use Rattle.sheet_rules.specs.SheetNames.declared.names.Names.{Names}
-use Rattle.sheet_rules.specs.SheetNames.Names.{as_name}
-use Rattle.sheet_rules.specs.SheetNames.Uses.{is_of_sheets, is_key_call, is_callable, broken_key}
-use Rattle.sheet_rules.specs.SheetNames.Uses.{broken_use, broken_in, broken_uses}
-use Rattle.sheet_texts.specs.Names.{number_of}
-use Rattle.sheet_declarations.specs.declared.lists.Declaration.{Declaration}
-use Rattle.sheet_declarations.specs.Counts.{counted_of, a_global, a_function, a_template}
-use Rattle.key_calls.specs.Called.{is_declared as calls, called_code, called_codes}
-use Rattle.wide_rules.specs.Doubles.{doubles_of, double_codes}
-use Rattle.wide_rules.specs.Passing.{broken_passings}
-use Rattle.wide_rules.specs.declared.passing.Parameters.{Parameters}
+use Rattle.sheet_rules.specs.SheetExpressions.declared.sheet_names.names.Names.{Names}
+use Rattle.sheet_rules.specs.SheetExpressions.SheetNames.Names.{as_name}
+use Rattle.sheet_rules.specs.SheetExpressions.SheetNames.Uses.{is_of_sheets, is_key_call, is_callable, broken_key}
+use Rattle.sheet_rules.specs.SheetExpressions.SheetNames.Uses.{broken_use, broken_in, broken_uses}
+use Rattle.sheet_values.specs.SheetTexts.Names.{number_of}
+use Rattle.sheet_rules.specs.declared.sheet_declarations.lists.Declaration.{Declaration}
+use Rattle.sheet_rules.specs.SheetDeclarations.Counts.{counted_of, a_global, a_function, a_template}
+use Rattle.sheet_uses.specs.KeyCalls.Called.{is_declared as calls, called_code, called_codes}
+use Rattle.sheet_rules.specs.WideRules.Doubles.{doubles_of, double_codes}
+use Rattle.sheet_rules.specs.WideRules.Passing.{broken_passings}
+use Rattle.sheet_rules.specs.declared.wide_rules.passing.Parameters.{Parameters}
 use Rattle.sheet_rules.specs.Names as rules
 use Rattle.sheet_rules.specs.Names.{template_names, global_names, missing_code, missing_codes}
 use Rattle.sheet_rules.specs.Uses.{declared_uses, declared_keys}
@@ -52,19 +52,14 @@ use Rattle.declared_uses.specs.Numbers.{is_number_in, has_mode, has_number, have
 use Rattle.declared_uses.proofs.Counts.{some_counts, counts_declared}
 use Rattle.declared_uses.proofs.Names.{names_more, globals_declared, globals_count}
 use Rattle.declared_uses.proofs.Names.{templates_declared, functions_declared, functions_count}
-use Rattle.declared_uses.proofs.Names.{keys_same, same_name_is}
+use Rattle.declared_uses.proofs.Names.{keys_same}
 use Rattle.declared_uses.proofs.Finds.{asked, for_uses, for_keys, uses_asked, keys_asked, uses_pass}
 use Rattle.declared_uses.proofs.Finds.{keys_pass}
 use Rattle.declared_uses.proofs.Templates.{number_below, called_named}
 use Rattle.declared_uses.proofs.Orders.{order_whole, ordered_has}
-
-front_nil : {A : Type 0} (xs ys : List A) → xs ++ ys ≡ [] → xs ≡ []
-front_nil [] ys e = refl
-front_nil (x ∷ xs) ys e = absurd cc
-
-back_nil : {A : Type 0} (xs ys : List A) → xs ++ ys ≡ [] → ys ≡ []
-back_nil [] ys e = e
-back_nil (x ∷ xs) ys e = absurd cc
+use Rattle.xt_names.proofs.ListLemmas.{front_nil, back_nil}
+use Rattle.xt_names.specs.ExprNames.{same_name}
+use Rattle.xt_names.proofs.NameLemmas.{same_names}
 
 -- lists of what passes
 passing : {A : Type 0} (p q : A → Bool) → ((x : A) → p x ≡ true → q x ≡ true) → (xs : List A)
@@ -210,7 +205,7 @@ none_missing : (declared called : List ExprName) → missing_codes declared call
 none_missing declared [] h n i = absurd cc
 none_missing declared (m ∷ called) h n i =
     elim (or_cases (same_name n m) (has_name called n) i) [
-      | inl e ↦ subst (λ x. has_name declared x ≡ true) (sym (same_name_is n m e))
+      | inl e ↦ subst (λ x. has_name declared x ≡ true) (sym (same_names n m e))
           (one_missing declared m (front_nil (missing_code declared m) _ h))
       | inr k ↦ none_missing declared called (back_nil (missing_code declared m) _ h) n k
     ]

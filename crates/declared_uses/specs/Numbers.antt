@@ -6,8 +6,8 @@ use Rattle.xt_syntax.specs.declared.exprs.Expr.{Expr}
 use Rattle.xt_syntax.specs.declared.patterns.Pattern.{Pattern}
 use Rattle.xt_sheets.specs.declared.values.ModeUse.{ModeUse}
 use Rattle.xt_sheets.specs.declared.values.ModeUse.TheVariants.{Number, Current}
-use Rattle.sheet_texts.specs.Names.{number_of}
-use Rattle.sheet_declarations.specs.declared.lists.Declaration.{Declaration}
+use Rattle.sheet_values.specs.SheetTexts.Names.{number_of}
+use Rattle.sheet_rules.specs.declared.sheet_declarations.lists.Declaration.{Declaration}
 use Rattle.sheet_rules.specs.Uses.{declared_uses}
 use Rattle.sheet_uses.specs.declared.uses.Use.{Use}
 use Rattle.sheet_uses.specs.declared.uses.Use.TheVariants as use_of

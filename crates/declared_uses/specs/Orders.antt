@@ -3,7 +3,7 @@ use Rattle.std.specs.Prelude.{◌≡◌, ◌≤◌, ℕ, List, length}
 use Rattle.xt_sheets.specs.declared.sheets.Sheet.{Sheet}
 use Rattle.global_needs.specs.Needs.{needs}
 use Rattle.global_order.specs.Order.{order_of}
-use Rattle.sheet_declarations.specs.Counts.{counted_of}
+use Rattle.sheet_rules.specs.SheetDeclarations.Counts.{counted_of}
 use Rattle.sheet_assembly.specs.Named.{each_by, global_if, ordered}
 use Rattle.sheet_assembly.specs.Sheets.{Parts, sheet_of}
 

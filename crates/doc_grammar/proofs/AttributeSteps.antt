@@ -2,7 +2,7 @@
 use Rattle.std.proofs.Common.{◌≡◌, ℕ, List, [], ◌∷◌, ◌++◌, refl, sym, subst, Bool, true, false, cond, Some, None, ◌==◌}
 use Rattle.std.proofs.lemmas.Bool.{eqb-true}
 use Rattle.xt_tree.specs.declared.trees.Tree.{Tree}
-use Rattle.doc_grammar.specs.Characters.{is_space, is_value, as_value, is_quote, starts_name}
+use Rattle.doc_grammar.specs.Characters.{is_value, as_value}
 use Rattle.doc_grammar.specs.RawNames.{RawName, RawTag, with_attribute}
 use Rattle.doc_grammar.specs.Lexemes.{Spaces}
 use Rattle.doc_grammar.specs.Lexemes as lexemes
@@ -11,12 +11,15 @@ use Rattle.doc_grammar.specs.Document as doc
 use Rattle.doc_grammar.specs.Lexing.{Ref, RefStep, ref_step, ampersand}
 use Rattle.doc_grammar.specs.Lexing as lexing
 use Rattle.doc_grammar.specs.Machine.{Stack, NameState, reading, NameStep, on, behind_name, fails, name_step, tagged, assigned, valued, value_refers, behind_spaced, in_attribute, in_equals, in_value_reference}
-use Rattle.doc_grammar.proofs.CharacterFacts.{no, equals_space, space_starts, space_quote, ampersand_quote, quote_value, ampersand_value, itself}
+use Rattle.doc_grammar.proofs.CharacterFacts.{equals_space, space_starts, ampersand_quote, quote_value, ampersand_value}
 use Rattle.doc_grammar.proofs.ReferenceSteps.{RefGoes, references_go}
 use Rattle.doc_grammar.proofs.Rests.{Opening, InTag, InSpaced, ValueRest, next_char, next_reference, at_quote, InValue, InValueReference, InAssigned, InEquals, InAttribute}
 use Rattle.doc_grammar.proofs.Goes.{Goes, choose, through, at}
 use Rattle.doc_grammar.proofs.NameSteps.{NameGoes, names_go, qname_begins, qname_from}
 use Rattle.doc_grammar.proofs.TagSteps.{end_is_no_space, end_starts_none, opening_at_end, end_steps}
+use Rattle.xt_names.specs.Characters.{is_space, is_quote, starts_name}
+use Rattle.xt_names.proofs.BoolLemmas.{no}
+use Rattle.xt_names.proofs.CharacterLemmas.{space_quote, itself}
 
 -- values
 

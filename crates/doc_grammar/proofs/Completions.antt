@@ -8,17 +8,17 @@ use Rattle.xt_tree.specs.Sound.{is_xml_in_any_case}
 use Rattle.xt_tree.specs.TreeView.{forest_of}
 use Rattle.xt_tree.specs.declared.trees.Tree.{Tree}
 use Rattle.xt_tree.specs.declared.trees.Tree.TheVariants.{Doc, Comment, Pi}
-use Rattle.doc_grammar.specs.Characters.{is_char, is_name_char, digit, is_colon}
+use Rattle.doc_grammar.specs.Characters.{digit, is_colon}
 use Rattle.doc_grammar.specs.RawNames.{RawName, plain_name, prefixed_name, written_name, RawTag, tag_named}
 use Rattle.doc_grammar.specs.Scopes.{Opened, opened, top_scope}
 use Rattle.doc_grammar.specs.Skeleton.{anyhow, or_unbound}
-use Rattle.doc_grammar.specs.Lexemes.{Ends, is_target, Reference, section_close, instruction_close}
+use Rattle.doc_grammar.specs.Lexemes.{is_target, Reference, section_close, instruction_close}
 use Rattle.doc_grammar.specs.Lexemes as lexemes
 use Rattle.doc_grammar.specs.Document.{limit, Rules, QName, EndTag, element_of, text_nodes, Element, blank, fresh, typed, rooted, Top}
 use Rattle.doc_grammar.specs.Document as doc
 use Rattle.doc_grammar.specs.Lexing.{Ref, ampersand, letter_a, spelling, hash, hash_x, number, Lex, dash, comment, comment_dash, comment_dashes, section_open, section, section_bracket, section_brackets, target_mark, target_space, instruction, instruction_mark}
 use Rattle.doc_grammar.specs.Machine.{Stack, ground, element, NameState, reading, coloned, with_text, with_child, with_aside}
-use Rattle.doc_grammar.proofs.CharacterFacts.{no, mark_space, a_starts, slash_name}
+use Rattle.doc_grammar.proofs.CharacterFacts.{mark_space, a_starts, slash_name}
 use Rattle.doc_grammar.proofs.Residue.{Inside, top, topped}
 use Rattle.doc_grammar.proofs.Residue as residue
 use Rattle.doc_grammar.proofs.LexRests.{Letters, last_letter, a_letter, RefRest, Made, node, said, Opening, LexRest}
@@ -26,6 +26,8 @@ use Rattle.doc_grammar.proofs.LexRests as lex
 use Rattle.doc_grammar.proofs.Rests.{NameRest, plain, local, colon, Then}
 use Rattle.doc_grammar.proofs.Live.{IsSome, IsLiveRef, IsLiveLex}
 use Rattle.doc_grammar.proofs.NumberLemmas as numbers
+use Rattle.xt_names.specs.Characters.{is_char, is_name_char, Ends}
+use Rattle.xt_names.proofs.BoolLemmas.{no}
 
 -- what is opened anyhow
 pub gives : (scope : List Binding) (t : RawTag) → anyhow scope t ≡ Some (or_unbound scope t (opened scope t))
@@ -55,7 +57,7 @@ finishing (element name o kids st) n =
 abbrev root : Opened
 root = or_unbound top_scope (tag_named (plain_name (97 ∷ []))) (opened top_scope (tag_named (plain_name (97 ∷ []))))
 
-root_name : {rest : List ℕ} → QName (97 ∷ 47 ∷ rest) (plain_name (97 ∷ [])) (47 ∷ rest)
+pub root_name : {rest : List ℕ} → QName (97 ∷ 47 ∷ rest) (plain_name (97 ∷ [])) (47 ∷ rest)
 root_name = doc.plain (lexemes.ncname a_starts (lexemes.whole slash_name)) refl
 
 empty_root : {rest : List ℕ} → Element anyhow 0 top_scope (60 ∷ 97 ∷ 47 ∷ 62 ∷ rest) (element_of root []) rest

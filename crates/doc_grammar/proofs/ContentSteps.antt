@@ -2,7 +2,7 @@
 use Rattle.std.proofs.Common.{◌≡◌, ℕ, List, [], ◌∷◌, ◌++◌, refl, true, false, Some, ◌==◌}
 use Rattle.xt_names.specs.declared.names.Binding.{Binding}
 use Rattle.xt_tree.specs.declared.trees.Tree.{Tree}
-use Rattle.doc_grammar.specs.Characters.{is_space, may_stand, brackets_behind}
+use Rattle.doc_grammar.specs.Characters.{may_stand, brackets_behind}
 use Rattle.doc_grammar.specs.RawNames.{RawName}
 use Rattle.doc_grammar.specs.Scopes.{Opened}
 use Rattle.doc_grammar.specs.Lexemes.{Misc, Section}
@@ -14,7 +14,7 @@ use Rattle.doc_grammar.specs.Document as doc
 use Rattle.doc_grammar.specs.Lexing.{Ref, RefStep, ref_step, ampersand, Lex, LexStep, lex_step}
 use Rattle.doc_grammar.specs.Lexing as lexing
 use Rattle.doc_grammar.specs.Machine.{Stack, ground, element, refers, in_content, in_reference, in_marked, in_forming}
-use Rattle.doc_grammar.proofs.CharacterFacts.{no, open_stands, ampersand_stands}
+use Rattle.doc_grammar.proofs.CharacterFacts.{open_stands, ampersand_stands}
 use Rattle.doc_grammar.proofs.Residue.{Inside, top, topped}
 use Rattle.doc_grammar.proofs.Residue as residue
 use Rattle.doc_grammar.proofs.LexRests.{node, said}
@@ -24,6 +24,8 @@ use Rattle.doc_grammar.proofs.SectionSteps.{lexes_go}
 use Rattle.doc_grammar.proofs.FormSteps.{FormGoes, forms_go}
 use Rattle.doc_grammar.proofs.Rests.{InReference, InMarked, InForm}
 use Rattle.doc_grammar.proofs.Goes.{Goes, choose, at}
+use Rattle.xt_names.specs.Characters.{is_space}
+use Rattle.xt_names.proofs.BoolLemmas.{no}
 
 -- markup begins with `<`
 misc_open : {c : ℕ} {ts rest : List ℕ} {tree : Tree} → Misc (c ∷ ts) tree rest → c ≡ 60

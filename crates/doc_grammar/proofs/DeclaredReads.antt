@@ -6,7 +6,7 @@ use Rattle.xt_names.specs.declared.names.Binding.{Binding}
 use Rattle.xt_tree.specs.TreeView.{forest_of}
 use Rattle.xt_tree.specs.declared.trees.Tree.{Tree}
 use Rattle.xt_tree.specs.declared.trees.Tree.TheVariants.{Doc}
-use Rattle.doc_grammar.specs.Characters.{is_space, may_stand, brackets_behind}
+use Rattle.doc_grammar.specs.Characters.{may_stand, brackets_behind}
 use Rattle.doc_grammar.specs.RawNames.{RawName, RawTag, written_name}
 use Rattle.doc_grammar.specs.Scopes.{Opened, opened, declarations}
 use Rattle.doc_grammar.specs.Lines.{text_of}
@@ -15,12 +15,14 @@ use Rattle.doc_grammar.specs.Document as doc
 use Rattle.doc_grammar.specs.Declarations.{in_element, in_content, in_document, IsDeclared}
 use Rattle.doc_grammar.specs.Lexing.{ampersand}
 use Rattle.doc_grammar.specs.Machine.{Stack, ground, element, content, tag, refers, tagged, slashed, ending, depth, scope_of, with_text, with_child, with_declared, may_open, step, whole, run, start}
-use Rattle.doc_grammar.proofs.CharacterFacts.{is_other, open_stands, ampersand_stands, open_space, close_space, slash_space}
+use Rattle.doc_grammar.proofs.CharacterFacts.{open_stands, ampersand_stands, open_space, close_space, slash_space}
 use Rattle.doc_grammar.proofs.Residue.{more_kids}
 use Rattle.doc_grammar.proofs.Runs.{runs_document}
 use Rattle.doc_grammar.proofs.LexReads.{Reads, goes, reference_reads}
 use Rattle.doc_grammar.proofs.TagReads.{start_reads, end_reads}
 use Rattle.doc_grammar.proofs.MarkupReads.{misc_reads, section_reads, declaration_reads, doctype_reads}
+use Rattle.xt_names.specs.Characters.{is_space}
+use Rattle.xt_names.proofs.CharacterLemmas.{is_other}
 
 -- with the declarations of some elements more
 with_all : List (List Binding) → Stack → Stack

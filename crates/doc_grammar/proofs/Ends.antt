@@ -1,4 +1,4 @@
--- Where the text ends, only what stands after a root is whole.
+-- Where the text ends, only what comes after a root is whole.
 use Rattle.std.proofs.Common.{◌≡◌, ℕ, List, [], ◌∷◌, refl, sym, subst}
 use Rattle.xt_names.specs.declared.names.Binding.{Binding}
 use Rattle.xt_tree.specs.declared.trees.Tree.{Tree}
@@ -11,7 +11,7 @@ use Rattle.doc_grammar.specs.Document.{Rules, QName, Attributes, Spaced, EndTag,
 use Rattle.doc_grammar.specs.Document as doc
 use Rattle.doc_grammar.specs.Lexing.{Ref, ampersand, letter_a, spelling, hash, hash_x, number, Lex}
 use Rattle.doc_grammar.specs.Machine.{Stack, ground, element, State, content, refers, tag, bang, question, targeting, marked, forming, naming, tagged, spaced, attribute, equals, assigned, valued, value_refers, slashed, ending, ended, NameState, End, whole, finish}
-use Rattle.doc_grammar.proofs.CharacterFacts.{no, open_stands, open_space}
+use Rattle.doc_grammar.proofs.CharacterFacts.{open_stands, open_space}
 use Rattle.doc_grammar.proofs.Residue.{Inside, top}
 use Rattle.doc_grammar.proofs.Residue as residue
 use Rattle.doc_grammar.proofs.LexRests.{Made, RefRest, LexRest}
@@ -20,6 +20,7 @@ use Rattle.doc_grammar.proofs.Rests.{Opening, NameRest, plain, prefixed, local, 
 use Rattle.doc_grammar.proofs.FormSteps.{no_form}
 use Rattle.doc_grammar.proofs.MarkupSteps.{no_element_bang}
 use Rattle.doc_grammar.proofs.TargetSteps.{no_element as no_element_question}
+use Rattle.xt_names.proofs.BoolLemmas.{no}
 
 -- the reading ends with the tree
 abbrev pub Finds : End → Tree → Type 0

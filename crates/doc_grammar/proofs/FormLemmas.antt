@@ -1,11 +1,12 @@
 -- Forms that can always be completed.
 use Rattle.std.proofs.Common.{◌≡◌, ℕ, List, [], ◌∷◌, ◌++◌, refl, Bool, true, false, not, ◌&&◌, cond}
-use Rattle.doc_grammar.specs.Characters.{is_space, is_char, starts_name, is_name_char}
 use Rattle.xt_names.specs.Classes.{is_in_ranges}
 use Rattle.doc_grammar.specs.Forms.{Form, Part, Spelled, FormStep, form_step, goes, done, fails, last, one, many, choice}
 use Rattle.doc_grammar.specs.Forms as forms
 use Rattle.doc_grammar.specs.Prolog.{xml_declaration, doctype_declaration}
-use Rattle.doc_grammar.proofs.CharacterFacts.{both, not_true}
+use Rattle.doc_grammar.proofs.CharacterFacts.{both}
+use Rattle.xt_names.specs.Characters.{is_space, is_char, starts_name, is_name_char}
+use Rattle.xt_names.proofs.BoolLemmas.{not_true}
 
 -- the first example
 abbrev pub first : Form → ℕ

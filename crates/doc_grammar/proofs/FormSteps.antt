@@ -2,7 +2,7 @@
 use Rattle.std.proofs.Common.{◌≡◌, ℕ, List, [], ◌∷◌, refl, Bool, true, false, cond}
 use Rattle.doc_grammar.specs.Forms.{Form, Part, Spelled, FormStep, form_step, goes, done, fails, last, one, many, choice}
 use Rattle.doc_grammar.specs.Forms as forms
-use Rattle.doc_grammar.proofs.CharacterFacts.{no}
+use Rattle.xt_names.proofs.BoolLemmas.{no}
 
 -- what a character does to what may still be spelled
 abbrev pub FormGoes : Form → ℕ → List ℕ → FormStep → Type 0

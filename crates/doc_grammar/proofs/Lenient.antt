@@ -1,7 +1,6 @@
 -- Where the reader of documents goes on, that of skeletons does; where it stops, so does that of skeletons, but for the rules on names.
 use Rattle.std.proofs.Common.{◌≡◌, ℕ, [], ◌∷◌, refl, subst, Bool, true, false, cond, Option, Some, None, ◌==◌, ◌||◌}
 use Rattle.std.proofs.lemmas.Bool.{eqb-true}
-use Rattle.doc_grammar.specs.Characters.{is_space, starts_name, is_name_char}
 use Rattle.doc_grammar.specs.RawNames.{RawTag, tag_named}
 use Rattle.doc_grammar.specs.Scopes.{Opened, opened}
 use Rattle.doc_grammar.specs.Forms.{Part, form_part}
@@ -9,6 +8,7 @@ use Rattle.doc_grammar.specs.Forms as form
 use Rattle.doc_grammar.specs.Lexing.{Ref, ampersand, letter_a, spelling, hash, hash_x, number}
 use Rattle.doc_grammar.specs.Machine.{Stack, ground, element, NameState, reading, NameStep, on, behind_name, fails, name_step, State, content, refers, tag, bang, question, targeting, marked, forming, naming, tagged, spaced, attribute, equals, assigned, valued, value_refers, slashed, ending, ended, scope_of, opens, closes, at_end, behind_tagged, behind_spaced, in_naming, step, Stop, names, deep, entity, subset, encoding, other, at_close, stop_in_name, stop_before_name, stop_in_entity, stop_in_ref, stop_in_form, stop_at}
 use Rattle.doc_grammar.specs.Skeleton.{anyhow, or_unbound, EndsTag, in_name, behind_attribute, behind_space, behind_slash}
+use Rattle.xt_names.specs.Characters.{is_space, starts_name, is_name_char}
 
 -- the tag that a state ends breaks a rule on names
 abbrev pub Refused : State → Type 0

@@ -124,7 +124,7 @@ value_reference_reads {rules = rules} {w = w} {ds = ds} v mid t name quote read 
     go (lexing.stands_for u) g again = let same = g.0 _ _ x in rw (same.0, same.1) at k
     go lexing.fails g again = absurd (g _ _ x)
 
--- where the reader stands after a node or a section
+-- where the reader comes after a node or a section
 abbrev pub made_state : List ℕ → Stack → Made → State
 made_state text st (node n) = content 0 [] (with_aside n (with_text text st))
 made_state text st (said words) = content 0 (text ++ words) st

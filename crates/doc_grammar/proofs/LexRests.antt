@@ -2,9 +2,9 @@
 use Rattle.std.proofs.Common.{◌≡◌, ℕ, List, [], ◌∷◌, true}
 use Rattle.xt_tree.specs.declared.trees.Tree.{Tree}
 use Rattle.xt_tree.specs.declared.trees.Tree.TheVariants.{Comment, Pi}
-use Rattle.doc_grammar.specs.Characters.{is_space, is_char}
-use Rattle.doc_grammar.specs.Lexemes.{Ends, Spaces, Digits, Reference, UpTo, section_close, instruction_close, CommentText}
+use Rattle.doc_grammar.specs.Lexemes.{Spaces, Digits, Reference, UpTo, section_close, instruction_close, CommentText}
 use Rattle.doc_grammar.specs.Lexing.{Ref, ampersand, letter_a, spelling, hash, hash_x, number, Lex, dash, comment, comment_dash, comment_dashes, section_open, section, section_bracket, section_brackets, target_mark, target_space, instruction, instruction_mark}
+use Rattle.xt_names.specs.Characters.{is_space, is_char, Ends}
 
 -- the letters that are left of a name, which stands for a character
 pub data Letters : ℕ → List ℕ → List ℕ → ℕ → List ℕ → Type 0 where

@@ -2,13 +2,13 @@
 use Rattle.std.proofs.Common.{◌≡◌, ℕ, List, [], ◌∷◌, ◌++◌, refl, sym, subst, Bool, true, false, cond, ◌==◌, eq-eqb}
 use Rattle.std.proofs.lemmas.Bool.{eqb-true}
 use Rattle.xt_tree.specs.declared.trees.Tree.TheVariants.{Comment}
-use Rattle.doc_grammar.specs.Characters.{is_char}
 use Rattle.doc_grammar.specs.Lexemes.{Spaces, UpTo, section_close, instruction_close, begins_with, CommentText}
 use Rattle.doc_grammar.specs.Lexemes as lexemes
 use Rattle.doc_grammar.specs.Lexing.{Lex, LexStep, lex_step, on, makes, says, fails, on_char, dash, comment, comment_dash, comment_dashes, section_open, section_open_step, section}
-use Rattle.doc_grammar.proofs.CharacterFacts.{no}
 use Rattle.doc_grammar.proofs.LexRests.{Made, node, said, Opening, last_letter, a_letter, LexRest}
 use Rattle.doc_grammar.proofs.LexRests as rests
+use Rattle.xt_names.specs.Characters.{is_char}
+use Rattle.xt_names.proofs.BoolLemmas.{no}
 
 -- what a character does to what may still be made
 abbrev pub LexGoes : Lex → ℕ → List ℕ → LexStep → Type 0

@@ -1,7 +1,7 @@
 -- What holds of each state that is reached: what it takes to complete it.
 use Rattle.std.proofs.Common.{◌≡◌, ℕ, ◌+◌, ◌*◌, ◌≤◌, List, [], ◌∷◌, ◌++◌, refl, arith, Bool, true, false, cond, Option, Some, None, ◌==◌, nat_le}
 use Rattle.std.proofs.lemmas.Bool.{leb-true}
-use Rattle.doc_grammar.specs.Characters.{is_space, is_char, is_value, is_quote, starts_name, is_name_char, may_stand, Base, decimal, hexadecimal, base_of, digit, last_char}
+use Rattle.doc_grammar.specs.Characters.{is_value, may_stand, Base, decimal, hexadecimal, base_of, digit, last_char}
 use Rattle.doc_grammar.specs.RawNames.{RawName, RawTag, tag_named}
 use Rattle.doc_grammar.specs.Scopes.{Opened}
 use Rattle.doc_grammar.specs.Lexemes.{is_target}
@@ -14,6 +14,7 @@ use Rattle.doc_grammar.specs.Lexing as lexing
 use Rattle.doc_grammar.specs.Machine.{Stack, ground, element, NameStep, on, behind_name, fails, name_step, State, content, refers, tag, bang, question, targeting, marked, forming, naming, tagged, spaced, attribute, equals, assigned, valued, value_refers, slashed, ending, ended, in_content, in_reference, in_value_reference, in_marked, in_forming, in_bang, declares, may_open, behind_plain_target, behind_target, behind_slash, opens, closes, at_end, behind_tagged, in_naming, in_attribute, closed, in_ended, behind_ending, step}
 use Rattle.doc_grammar.proofs.FormLemmas.{is_formed, StaysFormed, stays_formed, xml_formed, doctype_formed}
 use Rattle.doc_grammar.proofs.NumberLemmas.{digit_low}
+use Rattle.xt_names.specs.Characters.{is_space, is_char, is_quote, starts_name, is_name_char}
 
 -- some characters
 abbrev pub IsSome : List ℕ → Type 0

@@ -6,7 +6,6 @@ use Rattle.std.proofs.lemmas.Slice.Eq.{bytes_eq-Decides}
 use Rattle.xt_names.specs.declared.names.Binding.{Binding}
 use Rattle.xt_tree.specs.declared.trees.Tree.{Tree}
 use Rattle.xt_tree.specs.declared.trees.Tree.TheVariants.{Pi}
-use Rattle.doc_grammar.specs.Characters.{is_space}
 use Rattle.doc_grammar.specs.RawNames.{RawName}
 use Rattle.doc_grammar.specs.Scopes.{Opened}
 use Rattle.doc_grammar.specs.Lexemes.{Named, is_target, Instruction, Misc, Section}
@@ -16,13 +15,16 @@ use Rattle.doc_grammar.specs.Prolog.{xml_declaration, doctype_declaration}
 use Rattle.doc_grammar.specs.Document.{Rules, Level, blank, fresh, typed, rooted, may_type}
 use Rattle.doc_grammar.specs.Lexing.{dash, section_open, target_mark, target_space}
 use Rattle.doc_grammar.specs.Machine.{Stack, ground, element, content, question, targeting, marked, forming, bang, with_text, with_aside, declares, in_forming, step}
-use Rattle.doc_grammar.proofs.CharacterFacts.{no, x_starts, mark_name, mark_space, space_name}
+use Rattle.doc_grammar.proofs.CharacterFacts.{x_starts, mark_name, mark_space}
 use Rattle.doc_grammar.proofs.LexRests.{node, said}
 use Rattle.doc_grammar.proofs.LexRests as lex
 use Rattle.doc_grammar.proofs.TargetSteps.{xml_space, xml_named, xml_target}
 use Rattle.doc_grammar.proofs.MarkupSteps.{no_doctype_dash}
 use Rattle.doc_grammar.proofs.FormSteps.{no_form}
 use Rattle.doc_grammar.proofs.LexReads.{Reads, Next, from, onward, goes, marked_reads, form_reads}
+use Rattle.xt_names.specs.Characters.{is_space}
+use Rattle.xt_names.proofs.BoolLemmas.{no}
+use Rattle.xt_names.proofs.CharacterLemmas.{space_name}
 
 -- targets
 

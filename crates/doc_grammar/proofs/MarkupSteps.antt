@@ -3,7 +3,6 @@ use Rattle.std.proofs.Common.{◌≡◌, ℕ, ◌<◌, List, [], ◌∷◌, ◌+
 use Rattle.std.proofs.lemmas.Bool.{ltb-true, lt-ltb}
 use Rattle.xt_names.specs.declared.names.Binding.{Binding}
 use Rattle.xt_tree.specs.declared.trees.Tree.{Tree}
-use Rattle.doc_grammar.specs.Characters.{starts_name}
 use Rattle.doc_grammar.specs.RawNames.{RawName, written_name, RawTag, tag_named}
 use Rattle.doc_grammar.specs.Scopes.{Opened}
 use Rattle.doc_grammar.specs.Lexemes as lexemes
@@ -14,7 +13,7 @@ use Rattle.doc_grammar.specs.Document.{limit, Rules, text_nodes, Attributes, Ele
 use Rattle.doc_grammar.specs.Document as doc
 use Rattle.doc_grammar.specs.Lexing.{dash, section_open}
 use Rattle.doc_grammar.specs.Machine.{Stack, ground, element, reading, marked, depth, scope_of, with_text, may_open, behind_slash, in_tag, in_bang}
-use Rattle.doc_grammar.proofs.CharacterFacts.{no, open_stands, open_space, slash_starts, bang_starts}
+use Rattle.doc_grammar.proofs.CharacterFacts.{open_stands, open_space, slash_starts, bang_starts}
 use Rattle.doc_grammar.proofs.Residue.{Inside, top, topped, placed, aside_placed, filled, leaves}
 use Rattle.doc_grammar.proofs.Residue as residue
 use Rattle.doc_grammar.proofs.LexRests.{LexRest, Made, node, said}
@@ -24,6 +23,8 @@ use Rattle.doc_grammar.proofs.Rests as rests
 use Rattle.doc_grammar.proofs.Goes.{Goes, choose, through, at}
 use Rattle.doc_grammar.proofs.NameSteps.{qname_begins, qname_from}
 use Rattle.doc_grammar.proofs.ContentSteps.{form_steps}
+use Rattle.xt_names.specs.Characters.{starts_name}
+use Rattle.xt_names.proofs.BoolLemmas.{no}
 
 -- an end tag
 

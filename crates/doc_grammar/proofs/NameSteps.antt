@@ -1,17 +1,19 @@
 -- Each step in a name keeps what can still complete it.
 use Rattle.std.proofs.Common.{◌≡◌, ℕ, List, [], ◌∷◌, ◌++◌, refl, sym, ap, subst, Bool, true, false, cond, Option, Some, None, ◌==◌, eq-eqb}
 use Rattle.std.proofs.lemmas.Bool.{eqb-true}
-use Rattle.doc_grammar.specs.Characters.{starts_name, is_name_char, is_colon}
+use Rattle.doc_grammar.specs.Characters.{is_colon}
 use Rattle.doc_grammar.specs.RawNames.{RawName, plain_name}
-use Rattle.doc_grammar.specs.Lexemes.{Ends, Named, NCName}
+use Rattle.doc_grammar.specs.Lexemes.{Named, NCName}
 use Rattle.doc_grammar.specs.Lexemes as lexemes
 use Rattle.doc_grammar.specs.Document.{QName}
 use Rattle.doc_grammar.specs.Document as doc
 use Rattle.doc_grammar.specs.Machine.{NameState, reading, coloned, NameStep, on, behind_name, fails, name_step}
-use Rattle.doc_grammar.proofs.CharacterFacts.{no, colon_name}
 use Rattle.doc_grammar.proofs.Goes.{head_same, tail_same}
 use Rattle.doc_grammar.proofs.Rests.{NameRest}
 use Rattle.doc_grammar.proofs.Rests as rests
+use Rattle.xt_names.specs.Characters.{starts_name, is_name_char, Ends}
+use Rattle.xt_names.proofs.BoolLemmas.{no}
+use Rattle.xt_names.proofs.CharacterLemmas.{colon_name}
 
 pub goes_on_named : {read ts name rest : List ℕ} {c : ℕ} → is_name_char c ≡ true → Named read (c ∷ ts) name rest → Named (read ++ c ∷ []) ts name rest
 goes_on_named p (lexemes.more q n) = n

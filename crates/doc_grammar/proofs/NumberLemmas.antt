@@ -2,9 +2,10 @@
 use Rattle.std.proofs.Common.{◌≡◌, ℕ, zero, suc, ◌+◌, ◌*◌, ◌<◌, ◌≤◌, List, [], ◌∷◌, ◌++◌, refl, arith, Bool, true, false, nat_lt, Some}
 use Rattle.std.proofs.lemmas.Bool.{ltb-true, ltb-false}
 use Rattle.xt_names.specs.Classes.{is_in_ranges}
-use Rattle.doc_grammar.specs.Characters.{is_char, Base, decimal, hexadecimal, base_of, digit, last_char}
+use Rattle.doc_grammar.specs.Characters.{Base, decimal, hexadecimal, base_of, digit, last_char}
 use Rattle.doc_grammar.specs.Lexemes.{Digits}
 use Rattle.doc_grammar.specs.Lexemes as lexemes
+use Rattle.xt_names.specs.Characters.{is_char}
 
 low_char : (n : ℕ) → 32 ≤ n → n ≤ 0xD7FF → is_char n ≡ true
 unfolding is_char is_in_ranges

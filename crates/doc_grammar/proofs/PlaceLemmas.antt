@@ -5,6 +5,7 @@ use Rattle.std.specs.Char.{encode_utf8}
 use Rattle.std.proofs.lemmas.Bool.{and_parts, eqb-true}
 use Rattle.doc_grammar.specs.Lines.{lines_behind, lines, mark, text_of, bytes_of, bytes_before, offset}
 use Rattle.doc_grammar.specs.Places.{IsPlace}
+use Rattle.std.proofs.Math.Seq.{take-append_seam}
 
 -- the characters parted after those that are read as the first n
 record Parted (cr : Bool) (cs : List ℕ) (n : ℕ) : Type 0 where
@@ -96,17 +97,13 @@ parted cr (c ∷ cs) (suc n) h = go (cr && c == 10) refl (λ g. parted false cs 
 front_count : (front rest : List ℕ) → length (front ++ rest) - length rest ≡ length front
 front_count front rest = let size = length-append front rest in omega arith
 
-take_front : (front rest : List ℕ) → take (length front) (front ++ rest) ≡ front
-take_front [] rest = refl
-take_front (c ∷ cs) rest = ap (λ xs. c ∷ xs) (take_front cs rest)
-
 drop_front : (front rest : List ℕ) → drop (length front) (front ++ rest) ≡ rest
 drop_front [] rest = refl
 drop_front (c ∷ cs) rest = drop_front cs rest
 
 line_place : (cs front rest : List ℕ) → lines cs ≡ front ++ rest → Parted false cs (length front) → (n : ℕ) → n ≡ length front → (before : List ℕ) × (behind : List ℕ) × (cs ≡ before ++ behind) × (bytes_before false cs n ≡ length (encode_utf8_all before)) × (lines cs ≡ lines before ++ rest) × (lines behind ≡ rest)
 line_place cs front rest e p n is =
-    let read : lines p.before ≡ front = p.read_before ∙ ap (take (length front)) e ∙ take_front front rest in
+    let read : lines p.before ≡ front = p.read_before ∙ ap (take (length front)) e ∙ take-append_seam front rest in
     (p.before, p.behind, p.parts, ap (bytes_before false cs) is ∙ p.bytes, e ∙ ap (λ xs. xs ++ rest) (sym read), p.read_behind ∙ ap (drop (length front)) e ∙ drop_front front rest)
 
 fits : (cs front rest : List ℕ) → lines cs ≡ front ++ rest → length front ≤ length (lines cs)

@@ -2,12 +2,15 @@
 use Rattle.std.proofs.Common.{◌≡◌, ℕ, ◌+◌, ◌*◌, ◌≤◌, List, [], ◌∷◌, refl, arith, sym, ◌∙◌, subst, Bool, true, false, cond, Option, Some, None, ◌==◌, nat_le}
 use Rattle.std.proofs.lemmas.Option.{none-some, same_Some}
 use Rattle.std.proofs.lemmas.Bool.{leb-false, eqb-true}
-use Rattle.doc_grammar.specs.Characters.{is_char, Base, decimal, hexadecimal, base_of, digit, last_char}
+use Rattle.doc_grammar.specs.Characters.{Base, decimal, hexadecimal, base_of, digit, last_char}
 use Rattle.doc_grammar.specs.Lexemes.{Digits, Reference}
 use Rattle.doc_grammar.specs.Lexemes as lexemes
 use Rattle.doc_grammar.specs.Lexing.{Ref, RefStep, ref_step, on, stands_for, fails, ampersand, letter_a, spelling, spelling_step, hash, hash_x, number, first_digit, with_digit}
-use Rattle.doc_grammar.proofs.CharacterFacts.{no, semicolon_digit, x_digit, char_low, itself}
+use Rattle.doc_grammar.proofs.CharacterFacts.{semicolon_digit, x_digit, char_low}
 use Rattle.doc_grammar.proofs.LexRests.{Letters, last_letter, a_letter, RefRest}
+use Rattle.xt_names.specs.Characters.{is_char}
+use Rattle.xt_names.proofs.BoolLemmas.{no}
+use Rattle.xt_names.proofs.CharacterLemmas.{itself}
 
 -- what a character does to the references that may still come
 abbrev pub RefGoes : Ref → ℕ → List ℕ → RefStep → Type 0

@@ -3,10 +3,10 @@ use Rattle.std.proofs.Common.{◌≡◌, ℕ, List, [], ◌∷◌, ◌++◌, tru
 use Rattle.xt_names.specs.declared.names.Binding.{Binding}
 use Rattle.xt_tree.specs.declared.trees.Tree.{Tree}
 use Rattle.xt_tree.specs.declared.trees.Tree.TheVariants.{Pi}
-use Rattle.doc_grammar.specs.Characters.{is_space, is_value, as_value, is_quote, is_colon}
+use Rattle.doc_grammar.specs.Characters.{is_value, as_value, is_colon}
 use Rattle.doc_grammar.specs.RawNames.{RawName, plain_name, prefixed_name, RawTag, with_attribute, tag_named}
 use Rattle.doc_grammar.specs.Scopes.{Opened}
-use Rattle.doc_grammar.specs.Lexemes.{Ends, Spaces, Named, NCName, Reference, is_target, UpTo, instruction_close}
+use Rattle.doc_grammar.specs.Lexemes.{Spaces, Named, NCName, Reference, is_target, UpTo, instruction_close}
 use Rattle.doc_grammar.specs.Forms.{Form, Spelled}
 use Rattle.doc_grammar.specs.Prolog.{xml_declaration}
 use Rattle.doc_grammar.specs.Document.{Rules, Attributes, Spaced, EndTag, element_of, Top, fresh, blank}
@@ -14,6 +14,7 @@ use Rattle.doc_grammar.specs.Lexing.{Ref, Lex}
 use Rattle.doc_grammar.specs.Machine.{Stack, ground, element, NameState, reading, coloned, State, content, refers, tag, bang, question, targeting, marked, forming, naming, tagged, spaced, attribute, equals, assigned, valued, value_refers, slashed, ending, ended, scope_of, with_text, with_child, with_aside}
 use Rattle.doc_grammar.proofs.Residue.{Inside}
 use Rattle.doc_grammar.proofs.LexRests.{RefRest, Made, node, said, LexRest}
+use Rattle.xt_names.specs.Characters.{is_space, is_quote, Ends}
 
 -- between two nodes
 abbrev pub Between : Rules → Tree → Stack → List ℕ → Type 0

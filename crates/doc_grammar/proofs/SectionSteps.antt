@@ -1,16 +1,17 @@
 -- The steps in a section and in an instruction.
 use Rattle.std.proofs.Common.{◌≡◌, ℕ, List, [], ◌∷◌, ◌++◌, refl, true, false, ◌==◌}
 use Rattle.xt_tree.specs.declared.trees.Tree.TheVariants.{Pi}
-use Rattle.doc_grammar.specs.Characters.{is_space, is_char}
-use Rattle.doc_grammar.specs.Lexemes.{Ends, Spaces, UpTo, section_close, instruction_close}
+use Rattle.doc_grammar.specs.Lexemes.{Spaces, UpTo, section_close, instruction_close}
 use Rattle.doc_grammar.specs.Lexemes as lexemes
 use Rattle.doc_grammar.specs.Lexing.{Lex, LexStep, lex_step, on, makes, says, dash, comment, comment_dash, comment_dashes, section_open, section, section_bracket, section_brackets, target_mark, target_space, instruction, instruction_mark, instruction_step}
 use Rattle.doc_grammar.specs.Lexing as lexing
-use Rattle.doc_grammar.proofs.CharacterFacts.{no, bracket_char, mark_char}
+use Rattle.doc_grammar.proofs.CharacterFacts.{bracket_char, mark_char}
 use Rattle.doc_grammar.proofs.UpToLemmas.{goes_on, closes, on_one, back_one, on_two, back_two, on_three, back_three}
 use Rattle.doc_grammar.proofs.LexRests.{Made, node, said, LexRest}
 use Rattle.doc_grammar.proofs.LexRests as rests
 use Rattle.doc_grammar.proofs.LexSteps.{LexGoes, choose, at, chars_on, dash_goes, comment_goes, comment_dash_goes, comment_dashes_goes, open_goes}
+use Rattle.xt_names.specs.Characters.{is_space, is_char, Ends}
+use Rattle.xt_names.proofs.BoolLemmas.{no}
 
 -- sections
 

@@ -11,13 +11,16 @@ use Rattle.xt_names.specs.declared.names.Name.{Name}
 use Rattle.xt_names.specs.declared.names.Binding.{Binding}
 use Rattle.xt_tree.specs.declared.attributes.Attribute.{Attribute}
 use Rattle.xt_tree.specs.Sound.{is_sound_name, is_named_xmlns, is_sound_attribute, names_differ, are_sound_attributes}
-use Rattle.name_scopes.specs.Scopes.{binding, bound_uri, uri_of_binding, or_earlier}
+use Rattle.name_scopes.specs.Scopes.{bound_uri, uri_of_binding, or_earlier}
 use Rattle.doc_grammar.specs.RawNames.{RawName, RawAttribute, RawTag}
 use Rattle.doc_grammar.specs.Scopes.{top_scope, declared_prefix, declared_by, declarations, is_binding, are_declarations, or_no_uri, in_namespace, element_named, element_name, attribute_named, attribute_name, with_value, unless_declared, with_declaration, one_named, both_named, named_attributes, Opened, opened_with, opened}
 use Rattle.doc_grammar.specs.Document.{QName, Valued, Attributes, Spaced}
 use Rattle.doc_grammar.specs.Document as doc
-use Rattle.doc_grammar.proofs.CharacterFacts.{both, not_true}
-use Rattle.doc_grammar.proofs.SoundTexts.{ncname_text, xml_push, xml_none, value_char, reference_char}
+use Rattle.doc_grammar.proofs.CharacterFacts.{both}
+use Rattle.doc_grammar.proofs.SoundTexts.{ncname_text, xml_push, value_char, reference_char}
+use Rattle.xt_names.specs.ExprNames.{binding}
+use Rattle.xt_names.proofs.BoolLemmas.{not_true}
+use Rattle.xt_names.proofs.ClassLemmas.{no_text}
 
 -- names as they are written
 
@@ -53,7 +56,7 @@ mutual
   spaced_raw : {t whole : RawTag} {ts rest : List ℕ} → Spaced t ts whole rest → IsRaw t.name → AreRaw t.attributes → IsRaw whole.name × AreRaw whole.attributes
   spaced_raw (doc.no_more e) n all = (n, all)
   spaced_raw (doc.again s a) n all = spaced_raw a n all
-  spaced_raw {t = t} (doc.attribute {name = name} {value = value} d e q v a) n all = attributes_raw a n (raw_push t.attributes name value all (qname_raw d) (value_chars v xml_none))
+  spaced_raw {t = t} (doc.attribute {name = name} {value = value} d e q v a) n all = attributes_raw a n (raw_push t.attributes name value all (qname_raw d) (value_chars v no_text))
 
 -- bindings
 
@@ -114,7 +117,7 @@ prefixed_sound prefix uri local n p k =
 
 no_namespace : (local : List ℕ) → is_ncname_text local ≡ true → is_sound_name (record { prefix = []; uri = []; local = local }) ≡ true
 unfolding keeps_xml keeps_xmlns
-no_namespace local n = plain_sound [] local n refl refl xml_none
+no_namespace local n = plain_sound [] local n refl refl no_text
 
 name_sound : (prefix local : List ℕ) (scope : List Binding) (name : Name) → AreBindings scope → is_ncname_text local ≡ true → is_ncname_text prefix ≡ true → in_namespace prefix local (bound_uri scope prefix) ≡ Some name → (is_sound_name name ≡ true) × (is_empty_text name.uri ≡ false)
 name_sound prefix local scope name all n p e = go (bound_uri scope prefix) refl e

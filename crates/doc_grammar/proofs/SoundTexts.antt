@@ -6,24 +6,20 @@ use Rattle.xt_names.specs.Marks.{has_pair, ends_with, begins_white}
 use Rattle.xt_names.specs.Marks as marks
 use Rattle.xt_names.proofs.MarkLemmas.{ends_with-push, has_pair-push}
 use Rattle.xt_tree.specs.Sound.{is_sound_comment, is_sound_pi}
-use Rattle.doc_grammar.specs.Characters.{is_space, is_char, is_text, is_value, as_value, starts_name, is_name_char, may_stand}
-use Rattle.doc_grammar.specs.Lexemes.{Ends, Spaces, Named, NCName, Digits, Reference, UpTo, begins_with, section_close, instruction_close, CommentText, is_target, Instruction}
+use Rattle.doc_grammar.specs.Characters.{is_text, is_value, as_value, may_stand}
+use Rattle.doc_grammar.specs.Lexemes.{Spaces, Named, NCName, Digits, Reference, UpTo, begins_with, section_close, instruction_close, CommentText, is_target, Instruction}
 use Rattle.doc_grammar.specs.Lexemes as lexemes
-use Rattle.doc_grammar.proofs.CharacterFacts.{both, dash_char, name_starts, and_false}
+use Rattle.doc_grammar.proofs.CharacterFacts.{both, dash_char}
+use Rattle.xt_names.proofs.ClassLemmas.{no_text}
+use Rattle.xt_names.specs.Characters.{is_space, is_char, starts_name, is_name_char, Ends}
+use Rattle.xt_names.proofs.CharacterLemmas.{name_starts}
+use Rattle.std.proofs.Math.Bool.{and-false}
 
 -- texts of characters
 
 pub xml_push : (read : List ℕ) (c : ℕ) → is_xml_text read ≡ true → is_char c ≡ true → is_xml_text (read ++ c ∷ []) ≡ true
 unfolding is_xml_text is_char
 xml_push read c a p = rw (list_all-append (is_in_ranges xml_char_ranges) read (c ∷ []), a, p) refl
-
-pub xml_join : (a b : List ℕ) → is_xml_text a ≡ true → is_xml_text b ≡ true → is_xml_text (a ++ b) ≡ true
-unfolding is_xml_text
-xml_join a b p q = rw (list_all-append (is_in_ranges xml_char_ranges) a b, p, q) refl
-
-pub xml_none : is_xml_text [] ≡ true
-unfolding is_xml_text
-xml_none = refl
 
 pub text_char : (c : ℕ) → is_text c ≡ true → is_char c ≡ true
 unfolding is_text
@@ -137,7 +133,7 @@ pair_push : (read : List ℕ) (c : ℕ) (ts : List ℕ) → has_pair 63 62 read 
 pair_push read c ts h e = rw (has_pair-push 63 62 read c, h) e
 
 next_mark : (read : List ℕ) (c : ℕ) (ts : List ℕ) → begins_with instruction_close (c ∷ ts) ≡ false → (ends_with 63 (read ++ c ∷ []) && marks.begins_with 62 ts) ≡ false
-next_mark read c [] b = rw (ends_with-push 63 read c) (and_false (c == 63))
+next_mark read c [] b = rw (ends_with-push 63 read c) (and-false (c == 63))
 next_mark read c (d ∷ ts) b = rw (ends_with-push 63 read c) (and_true (c == 63) (d == 62) b)
 
 pair_none : {read ts text rest : List ℕ} → UpTo instruction_close read ts text rest → has_pair 63 62 read ≡ false → (ends_with 63 read && marks.begins_with 62 ts) ≡ false → has_pair 63 62 text ≡ false
@@ -175,6 +171,6 @@ unfolding is_sound_pi is_target
 sound_parts target text n i x p w = rw (n, i, x, p, w) refl
 
 pub instruction_sound : {ts target text rest : List ℕ} → Instruction ts target text rest → is_sound_pi target text ≡ true
-instruction_sound {target = target} (lexemes.bare n i) = sound_parts target [] (ncname_text n) i xml_none no_pair white_none
+instruction_sound {target = target} (lexemes.bare n i) = sound_parts target [] (ncname_text n) i no_text no_pair white_none
 instruction_sound {target = target} {text = text} (lexemes.with_text {start = start} n i s k e u) =
-    sound_parts target text (ncname_text n) i (upto_chars u xml_none) (pair_none u no_pair (rw no_end refl)) (white_begin u e)
+    sound_parts target text (ncname_text n) i (upto_chars u no_text) (pair_none u no_pair (rw no_end refl)) (white_begin u e)

@@ -15,8 +15,9 @@ use Rattle.doc_grammar.specs.Lexemes as lexemes
 use Rattle.doc_grammar.specs.Document.{limit, element_of, text_nodes, Element, Content, Level, blank, fresh, typed, rooted, begun, Top, Attributes, QName}
 use Rattle.doc_grammar.specs.Document as doc
 use Rattle.doc_grammar.proofs.Sizes.{qname_size, reference_size, section_size, misc_size, attributes_size, end_size}
-use Rattle.doc_grammar.proofs.SoundTexts.{xml_push, xml_join, xml_none, stands_char, reference_char, upto_chars, comment_sound, instruction_sound}
+use Rattle.doc_grammar.proofs.SoundTexts.{xml_push, stands_char, reference_char, upto_chars, comment_sound, instruction_sound}
 use Rattle.doc_grammar.proofs.SoundNames.{AreBindings, qname_raw, attributes_raw, IsOpened, opened_sound}
+use Rattle.xt_names.proofs.ClassLemmas.{append_text, no_text}
 
 -- A node, not a text, inside of k open elements: with it in front, what is sound and low stays so; and it is smaller than what is taken
 -- for it, of so many characters before it and so many after.
@@ -100,7 +101,7 @@ node_behind k (c ∷ cs) n kids before mid behind x node ks = record {
 }
 
 section_chars : {ts text rest : List ℕ} → Section ts text rest → is_xml_text text ≡ true
-section_chars (lexemes.section t) = upto_chars t xml_none
+section_chars (lexemes.section t) = upto_chars t no_text
 
 -- with the text so far grown, no more characters are before than were
 fewer : {k before less behind : ℕ} {kids : List Tree} → AreKids k kids less behind → less ≤ before → AreKids k kids before behind
@@ -120,7 +121,7 @@ mutual
       let x = qname_size d in
       let y = attributes_size a in
       let z = end_size f in
-      element_node k t o kids _ (length inner) (suc (suc (length end))) (length rest) op (fewer (content_kids c op.bindings xml_none h) (omega arith)) (omega arith) (omega arith)
+      element_node k t o kids _ (length inner) (suc (suc (length end))) (length rest) op (fewer (content_kids c op.bindings no_text h) (omega arith)) (omega arith) (omega arith)
 
   content_kids : {k n : ℕ} {scope : List Binding} {text ts rest : List ℕ} {kids : List Tree} → Content opened k scope n text ts kids rest → AreBindings scope → is_xml_text text ≡ true → k ≤ limit → AreKids k kids (length text + length ts) (length rest)
   content_kids {k = k} {text = text} (doc.at_end_tag {ts = ts}) all x h = text_alone k text (suc (suc (length ts))) h x
@@ -134,8 +135,8 @@ mutual
   content_kids {text = text} (doc.quotes {more = words} s k) all x h =
       let more = length-append text words in
       let low = section_size s in
-      fewer (content_kids k all (xml_join text words x (section_chars s)) h) (omega arith)
+      fewer (content_kids k all (append_text text words x (section_chars s)) h) (omega arith)
   content_kids {k = k} {text = text} (doc.child {mid = mid} {tree = n} {kids = kids} e c) all x h =
-      node_behind k text n kids _ (length mid) _ x (element_is_node e all) (fewer (content_kids c all xml_none h) (omega arith))
+      node_behind k text n kids _ (length mid) _ x (element_is_node e all) (fewer (content_kids c all no_text h) (omega arith))
   content_kids {k = k} {text = text} (doc.aside {mid = mid} {tree = n} {kids = kids} m c) all x h =
-      node_behind k text n kids _ (length mid) _ x (misc_node k m) (fewer (content_kids c all xml_none h) (omega arith))
+      node_behind k text n kids _ (length mid) _ x (misc_node k m) (fewer (content_kids c all no_text h) (omega arith))

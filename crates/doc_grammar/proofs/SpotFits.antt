@@ -7,7 +7,6 @@ use Rattle.xt_names.specs.Classes.{is_in_ranges}
 use Rattle.xt_tree.specs.TreeView.{forest_of}
 use Rattle.xt_tree.specs.declared.trees.Tree.{Tree}
 use Rattle.xt_tree.specs.declared.trees.Tree.TheVariants.{Doc}
-use Rattle.doc_grammar.specs.Characters.{starts_name, is_name_char}
 use Rattle.doc_grammar.specs.RawNames.{written_name}
 use Rattle.doc_grammar.specs.Scopes.{opened}
 use Rattle.doc_grammar.specs.Document.{limit, Rules, EndTag, element_of, text_nodes}
@@ -19,7 +18,7 @@ use Rattle.doc_grammar.specs.Machine.{Stack, ground, element, State, content, re
 use Rattle.doc_grammar.specs.Skeleton.{anyhow, after}
 use Rattle.doc_grammar.specs.SpotCases.{MarkupMayBegin, ReferenceMayBegin, AtSubset, AtEncoding, AtEntity, AtDeep, NamesEntity, EndTags, HasOpen}
 use Rattle.doc_grammar.specs.SpotCases as cases
-use Rattle.doc_grammar.proofs.CharacterFacts.{no, slash_starts}
+use Rattle.doc_grammar.proofs.CharacterFacts.{slash_starts}
 use Rattle.doc_grammar.proofs.Residue.{Inside, top, topped}
 use Rattle.doc_grammar.proofs.Residue as residue
 use Rattle.doc_grammar.proofs.Completions.{end_spelled}
@@ -27,6 +26,8 @@ use Rattle.doc_grammar.proofs.FirstFaults.{prefix_to, after_anyhow}
 use Rattle.doc_grammar.proofs.Probes.{goes_on, stops_on, after_then, after_both, begins_with, begins_not}
 use Rattle.doc_grammar.proofs.SpotForms.{is_end, is_code, lacks_part, close_spelled, in_value, name_short}
 use Rattle.doc_grammar.proofs.SpotHistory.{Behind, InDoctype, InXml, PastForm, in_doctype, in_xml, IsPart, PastReference, Past}
+use Rattle.xt_names.specs.Characters.{starts_name, is_name_char}
+use Rattle.xt_names.proofs.BoolLemmas.{no}
 
 -- markup and references
 

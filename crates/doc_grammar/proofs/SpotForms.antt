@@ -1,13 +1,14 @@
--- Where a character stands in the XML declaration or a DOCTYPE that does not go on there.
+-- Where a character is in the XML declaration or a DOCTYPE that does not go on there.
 use Rattle.std.proofs.Common.{◌≡◌, ℕ, suc, ◌≤◌, List, [], ◌∷◌, ◌++◌, length, length-append, refl, sym, subst, ap, ◌∙◌, arith, Bool, true, false, not, ◌&&◌, ◌||◌, cond, append_assoc, codes, ◌⊎◌, inl, inr}
 use Rattle.xt_names.specs.Classes.{is_in_ranges}
-use Rattle.doc_grammar.specs.Characters.{is_space, is_char, starts_name, is_name_char}
 use Rattle.doc_grammar.specs.Forms.{Form, Part, encoding, doctype_end, elsewhere, Spelled, FormStep, form_step, form_part, goes, done, fails, last, one, many, choice, literal, some_of}
 use Rattle.doc_grammar.specs.Forms as forms
 use Rattle.doc_grammar.specs.Prolog.{is_one, is_letter, space, equals, quoted, declaration_end, standalone, or_end, encoding_name, encoding_declaration, version_number, xml_declaration, doctype_declaration}
 use Rattle.doc_grammar.specs.SpotCases.{Begun, nothing, first_one, another, no_other, left, right}
-use Rattle.doc_grammar.proofs.CharacterFacts.{both, not_true, no}
+use Rattle.doc_grammar.proofs.CharacterFacts.{both}
 use Rattle.doc_grammar.proofs.FormSteps.{no_form}
+use Rattle.xt_names.specs.Characters.{is_space, is_char, starts_name, is_name_char}
+use Rattle.xt_names.proofs.BoolLemmas.{not_true, no}
 
 -- a step that fails, or is the last, goes to no form
 pub not_fails : {P : Type 0} {g : Form} → fails ≡ goes g → P
@@ -24,7 +25,7 @@ chosen : (P : FormStep → Type 0) (b : Bool) (x y : FormStep) → (b ≡ true �
 chosen P true x y f g = f refl
 chosen P false x y f g = g refl
 
--- no character of the form stands in such a part
+-- no character of the form is in such a part
 
 abbrev pub lacks : (Part → Bool) → Form → Bool
 lacks is (last p class e) = not (is p)
@@ -135,7 +136,7 @@ pub doctype_reference_calm : calm 38 doctype_declaration ≡ true
 unfolding doctype_declaration is_space is_char is_in_ranges starts_name is_name_char
 doctype_reference_calm = refl
 
--- where `>` is the last character of a DOCTYPE, and where `[` stands at its end
+-- where `>` is the last character of a DOCTYPE, and where `[` is at its end
 
 abbrev same : Bool → Bool → Bool
 same a b = cond a b (not b)
@@ -164,7 +165,7 @@ pub doctype_closes : closes doctype_declaration ≡ true
 unfolding doctype_declaration is_space is_char is_in_ranges starts_name is_name_char
 doctype_closes = refl
 
--- where `[` stands at the end, `>` ends the form
+-- where `[` is at the end, `>` ends the form
 pub close_spelled : (f : Form) (ts : List ℕ) → closes f ≡ true → is_end (form_part f 91) ≡ true → Spelled f (62 ∷ ts) ts
 close_spelled (last p class e) ts h i = forms.last_one (both h).0
 close_spelled (one p class e f) ts h i = no i (not_true (both h).0)
@@ -248,7 +249,7 @@ name_on q n g c at_dash = chosen (NameGoes q 3) (is_one 45 c) _ _ (λ h. inl at_
 name_on q n g c at_eight = chosen (NameGoes q 4) (is_one 56 c) _ _ (λ h. inl at_quote) (λ h. tt)
 name_on q n g c at_quote = chosen (NameGoes q 5) (is_one q c) _ _ (λ h. inr refl) (λ h. tt)
 
--- what comes first stands in no encoding
+-- what comes first is in no encoding
 abbrev Quiet : Form → Type 0
 Quiet f = (c : ℕ) → is_code (form_part f c) ≡ false
 
@@ -340,7 +341,7 @@ xml_early : Early xml_declaration
 unfolding xml_declaration
 xml_early = space_early _ (λ c. refl) (literal_early (codes "version") (equals (quoted version_number)) (equals_early (quoted version_number) (quoted_quiet version_number) (quoted_early version_number version_early)))
 
--- where a character stands in the XML declaration
+-- where a character is in the XML declaration
 
 -- between the quotes of the encoding value, or as its closing quote
 pub record InValue (cs : List ℕ) (g : Form) : Type 0 where
@@ -395,7 +396,7 @@ no_more : (cs : List ℕ) → cs ≡ cs ++ []
 no_more [] = refl
 no_more (c ∷ cs) = ap (λ xs. c ∷ xs) (no_more cs)
 
--- where a character of the encoding value is wanted, it stands there
+-- where a character of the encoding value is wanted, it is there
 pub in_value : (cs : List ℕ) (g : Form) (c : ℕ) → Where cs g → is_code (form_part g c) ≡ true → InValue cs g
 in_value cs g c (early b k) i =
     let e = early_part g c k i in
@@ -422,7 +423,7 @@ same_so true false e = absurd (cc)
 same_so false true e = absurd (cc)
 same_so false false e = refl
 
--- where `>` ends the form, `[` stands at its end
+-- where `>` ends the form, `[` is at its end
 pub close_part : {f : Form} {ts rest : List ℕ} → Spelled f ts rest → ts ≡ 62 ∷ [] → closes f ≡ true → is_end (form_part f 91) ≡ true
 close_part (forms.last_one p) e h = (both h).1
 close_part (forms.first_one p k) e h = absurd (no_text k (tail_none e))
@@ -455,6 +456,6 @@ code_left n c (no_other p b) h k = elim k [ ]
 code_left n c (left p b) h k = elim k [ ]
 code_left n c (right p b) h k = elim k [ ]
 
--- what follows no more than the five letters of the name stands in the value
+-- what follows no more than the five letters of the name is in the value
 pub name_part : {q : ℕ} {g : Form} {cs : List ℕ} (c : ℕ) → Begun (encoding_name q) cs g → length cs ≤ 5 → is_code (form_part g c) ≡ true
 name_part {q = q} c b h = code_left 5 c b h (name_coded q)

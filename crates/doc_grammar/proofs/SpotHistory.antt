@@ -6,7 +6,7 @@ use Rattle.std.specs.Option.{option_and_then}
 use Rattle.std.proofs.lemmas.Slice.Eq.{bytes_eq-Decides}
 use Rattle.std.proofs.lemmas.Option.{none-some, same_Some}
 use Rattle.xt_names.specs.Classes.{is_in_ranges}
-use Rattle.doc_grammar.specs.Characters.{is_space, is_char, is_value, is_quote, starts_name, is_name_char, may_stand, Base, decimal, hexadecimal, digit, base_of, last_char}
+use Rattle.doc_grammar.specs.Characters.{is_value, may_stand, Base, decimal, hexadecimal, digit, base_of, last_char}
 use Rattle.doc_grammar.specs.RawNames.{RawTag, tag_named}
 use Rattle.doc_grammar.specs.Scopes.{Opened, opened}
 use Rattle.doc_grammar.specs.Lexemes.{is_target}
@@ -23,6 +23,7 @@ use Rattle.doc_grammar.proofs.FormSteps.{FormGoes, forms_go}
 use Rattle.doc_grammar.proofs.Probes.{after_both}
 use Rattle.doc_grammar.proofs.SpotForms as forms
 use Rattle.doc_grammar.proofs.SpotForms.{Where, where_first, where_more, closes_step, doctype_closes}
+use Rattle.xt_names.specs.Characters.{is_space, is_char, is_quote, starts_name, is_name_char}
 
 -- Markup that is begun: what was read before it, and where the reader stood there.
 pub record Behind (mark front text : List ℕ) (st : Stack) : Type 0 where
@@ -63,7 +64,7 @@ abbrev pub IsPart : List ℕ → Type 0
 IsPart [] = ⊥
 IsPart (c ∷ cs) = list_all is_name_char (c ∷ cs) ≡ true
 
--- all but the last may stand in a name, and that is `;`
+-- all but the last may be in a name, and that is `;`
 abbrev pub are_letters : List ℕ → Bool
 are_letters [] = true
 are_letters (c ∷ []) = c == 59
@@ -413,7 +414,7 @@ past_step front (ended st) c e p = ended_past (front ++ c ∷ []) st c
 
 -- what was read before each state that is reached
 
-empty_more : (front : List ℕ) → front ≡ front ++ []
+pub empty_more : (front : List ℕ) → front ≡ front ++ []
 empty_more [] = refl
 empty_more (c ∷ front) = ap (λ xs. c ∷ xs) (empty_more front)
 

@@ -19,8 +19,9 @@ use Rattle.doc_grammar.proofs.SpotFits.{Fits, fits_here}
 use Rattle.doc_grammar.proofs.SpotHistory.{past_of}
 use Rattle.doc_grammar.proofs.SpotTags.{broken_tag, document_here}
 use Rattle.doc_grammar.proofs.SpotTurns.{subset_turns, encoding_turns, entity_turns, deep_turns}
+use Rattle.std.proofs.lemmas.List.{append-nil}
 
--- where the text stands in a place of its own, the reader tells so
+-- where the text is in a place of its own, the reader tells so
 record Turns (why : Stop) (front rest : List ℕ) : Type 0 where
   to_subset : AtSubset front rest → why ≡ subset
   to_encoding : AtEncoding front rest → why ≡ encoding
@@ -40,10 +41,6 @@ turns_here why front more c s e w = record {
   to_entity = λ k. w ∙ entity_turns front more c s e k;
   to_deep = λ k. w ∙ deep_turns front more c s e k;
 }
-
-append_nil : (cs : List ℕ) → cs ++ [] ≡ cs
-append_nil [] = refl
-append_nil (c ∷ cs) = ap (λ (xs : List ℕ). c ∷ xs) (append_nil cs)
 
 -- where the end of a broken tag stands: in the front, or after it
 data Split (front rest before more : List ℕ) : Type 0 where
@@ -91,7 +88,7 @@ no_early front others before after' s e same t =
 no_late : (front rest others before more : List ℕ) → IsLongest front rest → before ≡ front ++ others → rest ≡ others ++ 62 ∷ more → Begins (before ++ 62 ∷ []) → ⊥
 no_late front rest [] before more l same is b =
     let P : List ℕ → Type 0 = λ x. Begins (x ++ 62 ∷ []) in
-    l.1 62 more is (subst P (same ∙ append_nil front) b)
+    l.1 62 more is (subst P (same ∙ append-nil front) b)
 no_late front rest (d ∷ others) before more l same is b =
     let P : List ℕ → Type 0 = λ x. Begins (x ++ 62 ∷ []) in
     let Q : List ℕ → Type 0 = λ x. Begins x in

@@ -1,9 +1,9 @@
--- Where markup may begin, and where a reference may, the reader stands in content, or in a value.
+-- Where markup may begin, and where a reference may, the reader is in content, or in a value.
 use Rattle.std.proofs.Common.{◌≡◌, ℕ, List, [], ◌∷◌, ◌++◌, refl, sym, subst, ap, ◌∙◌, Bool, true, false, cond, not, ◌==◌, eq-eqb, Option, Some, None}
 use Rattle.std.specs.Option.{option_and_then}
 use Rattle.std.proofs.lemmas.Bool.{eqb-true}
 use Rattle.xt_names.specs.Classes.{is_in_ranges}
-use Rattle.doc_grammar.specs.Characters.{is_space, is_char, is_text, is_value, as_value, is_quote, starts_name, is_name_char, may_stand, decimal, hexadecimal, digit}
+use Rattle.doc_grammar.specs.Characters.{is_text, is_value, as_value, may_stand, decimal, hexadecimal, digit}
 use Rattle.doc_grammar.specs.RawNames.{RawName, RawTag, with_attribute}
 use Rattle.doc_grammar.specs.Lexemes.{is_target}
 use Rattle.doc_grammar.specs.Forms.{Form, FormStep, form_step}
@@ -14,9 +14,10 @@ use Rattle.doc_grammar.specs.Lexing.{Ref, RefStep, ref_step, spelling_step, ampe
 use Rattle.doc_grammar.specs.Lexing as lexing
 use Rattle.doc_grammar.specs.Machine.{Stack, ground, element, reading, coloned, State, content, refers, tag, bang, question, targeting, marked, forming, naming, tagged, spaced, attribute, equals, assigned, valued, value_refers, slashed, ending, ended, in_reference, in_value_reference, in_marked, in_forming, declares, behind_ending, in_ended, step}
 use Rattle.doc_grammar.specs.Skeleton.{anyhow, after}
-use Rattle.doc_grammar.proofs.CharacterFacts.{no}
 use Rattle.doc_grammar.proofs.SpotForms.{calm, SpaceToo, space_too}
 use Rattle.doc_grammar.proofs.SpotHistory.{InDoctype, InXml, PastForm, in_doctype, in_xml, Past}
+use Rattle.xt_names.specs.Characters.{is_space, is_char, is_quote, starts_name, is_name_char}
+use Rattle.xt_names.proofs.BoolLemmas.{no}
 
 -- after the step with a character
 abbrev Next : ℕ → Option State → Option State

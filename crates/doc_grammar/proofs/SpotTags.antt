@@ -7,7 +7,7 @@ use Rattle.xt_names.specs.declared.names.Binding.{Binding}
 use Rattle.xt_tree.specs.TreeView.{forest_of}
 use Rattle.xt_tree.specs.declared.trees.Tree.{Tree}
 use Rattle.xt_tree.specs.declared.trees.Tree.TheVariants.{Doc}
-use Rattle.doc_grammar.specs.Characters.{is_space, starts_name, is_name_char, may_stand}
+use Rattle.doc_grammar.specs.Characters.{may_stand}
 use Rattle.doc_grammar.specs.RawNames.{plain_name, RawTag, tag_named}
 use Rattle.doc_grammar.specs.Scopes.{Opened, opened, top_scope, declared_by, declarations, is_binding, prefixes_differ, are_declarations, element_name, attribute_name, named_attributes}
 use Rattle.doc_grammar.specs.Lexemes.{is_target}
@@ -17,21 +17,22 @@ use Rattle.doc_grammar.specs.Forms as form
 use Rattle.doc_grammar.specs.Prolog.{xml_declaration}
 use Rattle.doc_grammar.specs.Lexing.{RefStep, ref_step, LexStep, lex_step}
 use Rattle.doc_grammar.specs.Lexing as lexing
-use Rattle.doc_grammar.specs.Document.{Rules, QName, Element, element_of, Level, blank, fresh, typed, rooted, may_root, may_type}
+use Rattle.doc_grammar.specs.Document.{Rules, Element, element_of, Level, blank, fresh, typed, rooted, may_root, may_type}
 use Rattle.doc_grammar.specs.Document as doc
 use Rattle.doc_grammar.specs.Machine.{Stack, ground, element, State, content, refers, tag, bang, question, targeting, marked, forming, naming, tagged, spaced, attribute, equals, assigned, valued, value_refers, slashed, ending, ended, NameStep, in_naming, in_content, in_reference, in_marked, in_forming, in_bang, declares, behind_plain_target, in_ended, behind_ending, step, start}
 use Rattle.xt_names.specs.Classes.{is_in_ranges}
 use Rattle.doc_grammar.specs.Skeleton.{anyhow, after, IsFirstTag, EndsTag, in_name, behind_attribute, behind_space, behind_slash}
 use Rattle.doc_grammar.specs.SpotCases.{MarkupMayBegin, BeginsDocument, AtBrokenTag}
-use Rattle.doc_grammar.proofs.CharacterFacts.{a_starts, slash_name}
 use Rattle.doc_grammar.proofs.Residue.{Inside, top, topped}
 use Rattle.doc_grammar.proofs.FirstFaults.{prefix_to, after_anyhow}
 use Rattle.doc_grammar.proofs.Probes.{after_both, begins_with, begins_not}
 use Rattle.doc_grammar.proofs.SpotFits.{ended_element, markup_begins, markup_goes_on}
-use Rattle.doc_grammar.proofs.SpotHistory.{past_of}
+use Rattle.doc_grammar.proofs.SpotHistory.{past_of, empty_more}
 use Rattle.doc_grammar.proofs.SpotPlaces.{TakesOn, IsContent, markup_place}
+use Rattle.doc_grammar.proofs.Completions.{root_name}
+use Rattle.xt_names.specs.Characters.{is_space, starts_name, is_name_char}
 
--- `<a/>` may stand in a document
+-- `<a/>` may be in a document
 
 abbrev root_tag : RawTag
 root_tag = tag_named (plain_name (97 ∷ []))
@@ -42,9 +43,6 @@ root = record { name = record { prefix = []; uri = []; local = 97 ∷ [] }; attr
 root_opens : opened top_scope root_tag ≡ Some root
 unfolding opened declared_by declarations is_binding prefixes_differ are_declarations element_name attribute_name named_attributes
 root_opens = refl
-
-root_name : {rest : List ℕ} → QName (97 ∷ 47 ∷ rest) (plain_name (97 ∷ [])) (47 ∷ rest)
-root_name = doc.plain (lexemes.ncname a_starts (lexemes.whole slash_name)) refl
 
 root_element : {rest : List ℕ} → Element opened 0 top_scope (60 ∷ 97 ∷ 47 ∷ 62 ∷ rest) (element_of root []) rest
 root_element = doc.empty (omega arith) root_name (doc.none doc.slash) root_opens
@@ -96,7 +94,7 @@ stays_more : (s : State) (cs : List ℕ) (t u : State) (c : ℕ) → Stays s cs 
 stays_more s [] t u c k e i = let P : State → Type 0 = λ x. step opened x c ≡ Some u in (u, subst P (sym k) e, i, refl)
 stays_more s (d ∷ cs) t u c k e i = (k.0, k.1, k.2, stays_more k.0 cs t u c k.3 e i)
 
--- the reader stands in it after each part of what was read there
+-- the reader is in it after each part of what was read there
 stays_at : (s u : State) (g h : List ℕ) (c : ℕ) → Stays s (g ++ c ∷ h) u → (t : State) × (after opened (g ++ c ∷ []) s ≡ Some t) × IsInTag t
 stays_at s u [] h c k = (k.0, ap (option_and_then (after opened [])) k.1, k.2)
 stays_at s u (d ∷ g) h c k =
@@ -205,10 +203,6 @@ tag_step front (value_refers t name quote read x st) c u r p e i = more_tag fron
 tag_step front (slashed t st) c u r p e i = more_tag front _ u c (p tt) e i
 tag_step front (ending left st) c u r p e i = out _ u (ending_outside left st c) e i
 tag_step front (ended st) c u r p e i = out _ u (ended_outside st c) e i
-
-empty_more : (front : List ℕ) → front ≡ front ++ []
-empty_more [] = refl
-empty_more (c ∷ front) = ap (λ xs. c ∷ xs) (empty_more front)
 
 tag_after : (front more : List ℕ) (s t : State) → after opened front start ≡ Some s → TagPast front s → after opened more s ≡ Some t → TagPast (front ++ more) t
 tag_after front [] s t e p d =

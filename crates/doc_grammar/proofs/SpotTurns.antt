@@ -7,7 +7,6 @@ use Rattle.std.proofs.lemmas.Option.{none-some, same_Some}
 use Rattle.xt_names.specs.Classes.{is_in_ranges}
 use Rattle.xt_tree.specs.Sound.{is_xml_in_any_case}
 use Rattle.xt_tree.specs.declared.trees.Tree.{Tree}
-use Rattle.doc_grammar.specs.Characters.{is_space, starts_name, is_name_char}
 use Rattle.doc_grammar.specs.Scopes.{opened}
 use Rattle.doc_grammar.specs.Lexemes.{is_target}
 use Rattle.doc_grammar.specs.Forms.{Form, Part, Spelled, FormStep, form_step, form_part}
@@ -20,13 +19,16 @@ use Rattle.doc_grammar.specs.Machine.{Stack, ground, element, State, content, re
 use Rattle.doc_grammar.specs.Skeleton.{anyhow, after}
 use Rattle.doc_grammar.specs.SpotCases.{MarkupMayBegin, ReferenceMayBegin, Begun, AtSubset, AtEncoding, AtEntity, AtDeep, NamesEntity, EndTags, HasOpen}
 use Rattle.doc_grammar.specs.SpotCases as cases
-use Rattle.doc_grammar.proofs.CharacterFacts.{no, both, space_name}
+use Rattle.doc_grammar.proofs.CharacterFacts.{both}
 use Rattle.doc_grammar.proofs.FormSteps.{FormGoes, forms_go, one_on}
 use Rattle.doc_grammar.proofs.Probes.{after_parts, begins_with, begins_not}
 use Rattle.doc_grammar.proofs.SpotForms.{is_end, is_code, closes, closes_step, close_part, doctype_closes, name_part}
 use Rattle.doc_grammar.proofs.SpotHistory.{are_letters, past_of}
 use Rattle.doc_grammar.proofs.SpotTags.{takes_markup}
 use Rattle.doc_grammar.proofs.SpotPlaces.{TakesOn, IsContent, IsReferring, markup_place, reference_place}
+use Rattle.xt_names.specs.Characters.{is_space, starts_name, is_name_char}
+use Rattle.xt_names.proofs.BoolLemmas.{no}
+use Rattle.xt_names.proofs.CharacterLemmas.{space_name}
 
 head_is : {c d : ℕ} {cs ds : List ℕ} → c ∷ cs ≡ d ∷ ds → d ≡ c
 head_is e = cc

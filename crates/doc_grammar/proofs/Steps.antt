@@ -1,11 +1,9 @@
 -- Each step keeps the documents that the characters can still complete.
 use Rattle.std.proofs.Common.{ℕ, List, ◌∷◌, Some, ◌==◌}
 use Rattle.xt_tree.specs.declared.trees.Tree.{Tree}
-use Rattle.doc_grammar.specs.Characters.{starts_name, is_name_char}
 use Rattle.doc_grammar.specs.Document.{Rules}
 use Rattle.doc_grammar.specs.Lexing.{dash}
 use Rattle.doc_grammar.specs.Machine.{State, content, refers, tag, bang, question, targeting, marked, forming, naming, tagged, spaced, attribute, equals, assigned, valued, value_refers, slashed, ending, ended, behind_slash, step}
-use Rattle.doc_grammar.proofs.CharacterFacts.{no}
 use Rattle.doc_grammar.proofs.Residue.{Inside}
 use Rattle.doc_grammar.proofs.Rests.{InTarget}
 use Rattle.doc_grammar.proofs.Goes.{Steps, choose, at}
@@ -14,6 +12,8 @@ use Rattle.doc_grammar.proofs.TargetSteps.{question_on, question_back, target_on
 use Rattle.doc_grammar.proofs.MarkupSteps.{slash_steps, tag_steps, dash_steps, bang_steps}
 use Rattle.doc_grammar.proofs.TagSteps.{naming_steps, tagged_steps, slashed_steps, ending_steps, ended_steps}
 use Rattle.doc_grammar.proofs.AttributeSteps.{spaced_steps, attribute_steps, equals_steps, assigned_steps, valued_steps, value_reference_steps}
+use Rattle.xt_names.specs.Characters.{starts_name, is_name_char}
+use Rattle.xt_names.proofs.BoolLemmas.{no}
 
 pub steps : (rules : Rules) (w : Tree) (s : State) (c : ℕ) (ts : List ℕ) → Steps rules w s c ts (step rules s c)
 unfolding step

@@ -3,7 +3,7 @@ use Rattle.std.proofs.Common.{◌≡◌, ℕ, List, [], ◌∷◌, refl, true, N
 use Rattle.std.proofs.lemmas.Bool.{false_from_ne_true}
 use Rattle.xt_names.specs.declared.names.Binding.{Binding}
 use Rattle.xt_tree.specs.declared.trees.Tree.{Tree}
-use Rattle.doc_grammar.specs.Characters.{is_space, is_quote, is_value, starts_name}
+use Rattle.doc_grammar.specs.Characters.{is_value}
 use Rattle.doc_grammar.specs.RawNames.{RawName, RawTag, with_attribute, tag_named}
 use Rattle.doc_grammar.specs.Scopes.{Opened}
 use Rattle.doc_grammar.specs.Lexemes.{Spaces, Named, NCName, is_target, Misc, Section}
@@ -12,10 +12,13 @@ use Rattle.doc_grammar.specs.Document.{Rules, QName, Valued, AtEnd, Attributes, 
 use Rattle.doc_grammar.specs.Document as doc
 use Rattle.doc_grammar.specs.Lexing.{ampersand}
 use Rattle.doc_grammar.specs.Machine.{Stack, element, reading, tag, tagged, spaced, equals, assigned, valued, ending, ended, with_text, may_open, behind, in_ended, step}
-use Rattle.doc_grammar.proofs.CharacterFacts.{no, is_other, slash_starts, bang_starts, mark_starts, close_starts, close_space, slash_space, equals_space, space_starts, space_quote, quote_value, ampersand_value, itself}
+use Rattle.doc_grammar.proofs.CharacterFacts.{slash_starts, bang_starts, mark_starts, close_starts, close_space, slash_space, equals_space, space_starts, quote_value, ampersand_value}
 use Rattle.doc_grammar.proofs.Rests as rests
 use Rattle.doc_grammar.proofs.AttributeSteps.{quote_ampersand}
 use Rattle.doc_grammar.proofs.LexReads.{Reads, Next, from, onward, goes, name_reads, attribute_reads, value_reference_reads}
+use Rattle.xt_names.specs.Characters.{is_space, is_quote, starts_name}
+use Rattle.xt_names.proofs.BoolLemmas.{no}
+use Rattle.xt_names.proofs.CharacterLemmas.{is_other, space_quote, itself}
 
 -- values
 

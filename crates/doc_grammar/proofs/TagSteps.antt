@@ -2,19 +2,20 @@
 use Rattle.std.proofs.Common.{◌≡◌, ℕ, List, [], ◌∷◌, refl, sym, ◌∙◌, subst, true, false, cond, Option, Some, None, ◌==◌, eq-eqb}
 use Rattle.std.proofs.lemmas.Option.{none-some, same_Some}
 use Rattle.xt_tree.specs.declared.trees.Tree.{Tree}
-use Rattle.doc_grammar.specs.Characters.{is_space, starts_name}
 use Rattle.doc_grammar.specs.RawNames.{RawName, RawTag, tag_named}
 use Rattle.doc_grammar.specs.Scopes.{Opened, declarations}
 use Rattle.doc_grammar.specs.Lexemes as lexemes
 use Rattle.doc_grammar.specs.Document.{Rules, AtEnd, Attributes, Spaced, element_of}
 use Rattle.doc_grammar.specs.Document as doc
 use Rattle.doc_grammar.specs.Machine.{Stack, ground, element, NameState, NameStep, on, behind_name, fails, name_step, slashed, ending, scope_of, with_child, opens, closes, at_end, behind_tagged, in_naming, closed, in_ended, behind_ending}
-use Rattle.doc_grammar.proofs.CharacterFacts.{no, slash_starts, close_starts, slash_space, close_space}
+use Rattle.doc_grammar.proofs.CharacterFacts.{slash_starts, close_starts, slash_space, close_space}
 use Rattle.doc_grammar.proofs.Residue.{alike_child, alike_declared, declared_alike, elements, moved}
 use Rattle.doc_grammar.proofs.Rests.{Between, Opening, InTag, InSpaced, NameRest, InName, InAttribute, InEnding, in_ending as the_ending, InEnded, in_ended as the_ended}
 use Rattle.doc_grammar.proofs.Rests as rests
 use Rattle.doc_grammar.proofs.Goes.{Goes, choose, through, at}
 use Rattle.doc_grammar.proofs.NameSteps.{NameGoes, names_go}
+use Rattle.xt_names.specs.Characters.{is_space, starts_name}
+use Rattle.xt_names.proofs.BoolLemmas.{no}
 
 -- the end of a start tag
 

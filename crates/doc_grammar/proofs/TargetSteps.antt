@@ -6,10 +6,9 @@ use Rattle.xt_names.specs.declared.names.Binding.{Binding}
 use Rattle.xt_tree.specs.Sound.{is_xml_in_any_case}
 use Rattle.xt_tree.specs.declared.trees.Tree.{Tree}
 use Rattle.xt_tree.specs.declared.trees.Tree.TheVariants.{Pi}
-use Rattle.doc_grammar.specs.Characters.{is_space, is_name_char, starts_name}
 use Rattle.doc_grammar.specs.RawNames.{RawName}
 use Rattle.doc_grammar.specs.Scopes.{Opened}
-use Rattle.doc_grammar.specs.Lexemes.{Named, NCName, is_target, Ends}
+use Rattle.doc_grammar.specs.Lexemes.{Named, NCName, is_target}
 use Rattle.doc_grammar.specs.Lexemes as lexemes
 use Rattle.doc_grammar.specs.Forms.{Spelled, form_step}
 use Rattle.doc_grammar.specs.Forms as forms
@@ -18,7 +17,7 @@ use Rattle.doc_grammar.specs.Document.{Rules, blank, fresh, typed, rooted, Level
 use Rattle.doc_grammar.specs.Document as doc
 use Rattle.doc_grammar.specs.Lexing.{target_mark, target_space}
 use Rattle.doc_grammar.specs.Machine.{Stack, ground, element, marked, with_text, with_aside, behind_plain_target, behind_target}
-use Rattle.doc_grammar.proofs.CharacterFacts.{no, x_starts, m_name, l_name, mark_name, mark_space, mark_starts, open_space, open_stands, space_name}
+use Rattle.doc_grammar.proofs.CharacterFacts.{x_starts, m_name, l_name, mark_name, mark_space, mark_starts, open_space, open_stands}
 use Rattle.doc_grammar.proofs.Residue.{Inside, top, topped, aside_placed}
 use Rattle.doc_grammar.proofs.Residue as residue
 use Rattle.doc_grammar.proofs.LexRests.{LexRest, node}
@@ -27,6 +26,9 @@ use Rattle.doc_grammar.proofs.Rests.{Targeted, bare, with_data, InTarget, instru
 use Rattle.doc_grammar.proofs.Goes.{Goes, choose, through, at, head_same, tail_same}
 use Rattle.doc_grammar.proofs.NameSteps.{goes_on_named, ends_named, qname_begins}
 use Rattle.doc_grammar.proofs.ContentSteps.{form_steps}
+use Rattle.xt_names.specs.Characters.{is_space, is_name_char, starts_name, Ends}
+use Rattle.xt_names.proofs.BoolLemmas.{no}
+use Rattle.xt_names.proofs.CharacterLemmas.{space_name}
 
 -- after `<?`
 

@@ -1,9 +1,9 @@
 -- Texts up to what closes them, a few characters at a time.
 use Rattle.std.proofs.Common.{◌≡◌, ℕ, List, [], ◌∷◌, ◌++◌, refl, sym, subst, true, false, ◌==◌, eq-eqb, append_assoc}
-use Rattle.doc_grammar.specs.Characters.{is_char}
 use Rattle.doc_grammar.specs.Lexemes.{UpTo, begins_with}
 use Rattle.doc_grammar.specs.Lexemes as lexemes
-use Rattle.doc_grammar.proofs.CharacterFacts.{no}
+use Rattle.xt_names.specs.Characters.{is_char}
+use Rattle.xt_names.proofs.BoolLemmas.{no}
 
 two_more : (read : List ℕ) (a b : ℕ) → (read ++ a ∷ []) ++ b ∷ [] ≡ read ++ a ∷ b ∷ []
 two_more read a b = append_assoc read (a ∷ []) (b ∷ [])

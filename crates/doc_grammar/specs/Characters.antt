@@ -1,14 +1,6 @@
 -- The classes of characters in a document (XML 1.0, 5th edition, 2.2 and 2.3; Namespaces in XML 1.0, 4).
-use Rattle.std.specs.Prelude.{ℕ, suc, Bool, not, ◌&&◌, ◌||◌, ◌==◌, ◌-◌, nat_le, if◌then◌else◌, Option, Some, None}
-use Rattle.xt_names.specs.Classes.{is_in_ranges, xml_char_ranges, ncname_start_ranges, ncname_char_ranges}
-
--- white space (production S)
-unfoldable pub is_space : ℕ → Bool
-is_space c = c == 32 || c == 9 || c == 10 || c == 13
-
--- production Char
-unfoldable pub is_char : ℕ → Bool
-is_char c = is_in_ranges xml_char_ranges c
+use Rattle.std.specs.Prelude.{ℕ, suc, Bool, not, ◌&&◌, ◌==◌, ◌-◌, nat_le, if◌then◌else◌, Option, Some, None}
+use Rattle.xt_names.specs.Characters.{is_space, is_char}
 
 -- a character that stands for itself in text: neither `<` nor `&`
 unfoldable pub is_text : ℕ → Bool
@@ -21,16 +13,6 @@ is_value quote c = is_text c && not (c == quote)
 -- the character of the value that it stands for: white space is a space
 unfoldable pub as_value : ℕ → ℕ
 as_value c = if is_space c then 32 else c
-
-unfoldable pub is_quote : ℕ → Bool
-is_quote c = c == 34 || c == 39
-
--- the first character of a name without a colon, and the others
-unfoldable pub starts_name : ℕ → Bool
-starts_name c = is_in_ranges ncname_start_ranges c
-
-unfoldable pub is_name_char : ℕ → Bool
-is_name_char c = is_in_ranges ncname_char_ranges c
 
 abbrev pub is_colon : ℕ → Bool
 is_colon c = c == 58

@@ -6,13 +6,14 @@ use Rattle.xt_names.specs.declared.names.Binding.{Binding}
 use Rattle.xt_tree.specs.TreeView.{forest_of}
 use Rattle.xt_tree.specs.declared.trees.Tree.{Tree}
 use Rattle.xt_tree.specs.declared.trees.Tree.TheVariants.{Doc, Elem, Text}
-use Rattle.doc_grammar.specs.Characters.{is_space, is_value, as_value, is_quote, is_colon, may_stand, brackets_behind}
+use Rattle.doc_grammar.specs.Characters.{is_value, as_value, is_colon, may_stand, brackets_behind}
 use Rattle.doc_grammar.specs.RawNames.{RawName, plain_name, prefixed_name, written_name, RawTag, with_attribute, tag_named}
 use Rattle.doc_grammar.specs.Scopes.{Opened, opened, top_scope}
 use Rattle.doc_grammar.specs.Lines.{text_of}
-use Rattle.doc_grammar.specs.Lexemes.{Ends, Spaces, NCName, Reference, Misc, Section}
+use Rattle.doc_grammar.specs.Lexemes.{Spaces, NCName, Reference, Misc, Section}
 use Rattle.doc_grammar.specs.Forms.{Spelled}
 use Rattle.doc_grammar.specs.Prolog.{xml_declaration, doctype_declaration}
+use Rattle.xt_names.specs.Characters.{is_space, is_quote, Ends}
 
 -- how many elements are open at most
 abbrev pub limit : ℕ

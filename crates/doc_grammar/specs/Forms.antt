@@ -20,7 +20,7 @@ pub data Form : Type 0 where
   -- the first form where a character of the class comes, and else the second
   choice : (ℕ → Bool) → Form → Form → Form
 
--- the form stands at the front of the text, before this rest
+-- the form is at the front of the text, before this rest
 pub data Spelled : Form → List ℕ → List ℕ → Type 0 where
   last_one : {p : Part} {class : ℕ → Bool} {c e : ℕ} {ts : List ℕ} → class c ≡ true → Spelled (last p class e) (c ∷ ts) ts
   first_one : {p : Part} {class : ℕ → Bool} {c e : ℕ} {f : Form} {ts rest : List ℕ} → class c ≡ true → Spelled f ts rest → Spelled (one p class e f) (c ∷ ts) rest

@@ -3,12 +3,8 @@ use Rattle.std.specs.Prelude.{◌≡◌, ℕ, ◌+◌, ◌*◌, List, [], ◌∷
 use Rattle.xt_tree.specs.declared.trees.Tree.{Tree}
 use Rattle.xt_tree.specs.declared.trees.Tree.TheVariants.{Comment, Pi}
 use Rattle.xt_tree.specs.Sound.{is_xml_in_any_case}
-use Rattle.doc_grammar.specs.Characters.{is_space, is_char, starts_name, is_name_char, Base, decimal, hexadecimal, base_of, digit}
-
--- no character of the class comes first
-abbrev pub Ends : (ℕ → Bool) → List ℕ → Type 0
-Ends p [] = Unit {0}
-Ends p (c ∷ ts) = p c ≡ false
+use Rattle.doc_grammar.specs.Characters.{Base, decimal, hexadecimal, base_of, digit}
+use Rattle.xt_names.specs.Characters.{Ends, is_space, is_char, starts_name, is_name_char}
 
 -- S?
 pub data Spaces : List ℕ → List ℕ → Type 0 where

@@ -2,9 +2,10 @@
 use Rattle.std.specs.Prelude.{ℕ, ◌+◌, ◌*◌, List, [], ◌∷◌, ◌++◌, Option, Some, None, ◌==◌, nat_le, if◌then◌else◌}
 use Rattle.xt_tree.specs.declared.trees.Tree.{Tree}
 use Rattle.xt_tree.specs.declared.trees.Tree.TheVariants.{Comment, Pi}
-use Rattle.doc_grammar.specs.Characters.{is_space, is_char, Base, decimal, hexadecimal, base_of, digit, last_char}
+use Rattle.doc_grammar.specs.Characters.{Base, decimal, hexadecimal, base_of, digit, last_char}
+use Rattle.xt_names.specs.Characters.{is_space, is_char}
 
--- where the reader stands in a reference
+-- where the reader is in a reference
 pub data Ref : Type 0 where
   -- after `&`
   ampersand : Ref
@@ -54,7 +55,7 @@ ref_step hash c = if c == 120 then on hash_x else first_digit decimal (digit dec
 ref_step hash_x c = first_digit hexadecimal (digit hexadecimal c)
 ref_step (number b n) c = if c == 59 then (if is_char n then stands_for n else fails) else with_digit b n (digit b c)
 
--- where the reader stands in a comment, an instruction after its target, or a section
+-- where the reader is in a comment, an instruction after its target, or a section
 pub data Lex : Type 0 where
   -- after `<!-`
   dash : Lex

@@ -26,7 +26,7 @@ text_of cs = lines (without_mark cs)
 abbrev pub bytes_of : ℕ → ℕ
 bytes_of c = length (encode_utf8 c)
 
--- how many bytes stand before the character of the text that so many others come before
+-- how many bytes come before the character of the text that so many others come before
 abbrev pub bytes_before : Bool → List ℕ → ℕ → ℕ
 bytes_before cr [] n = 0
 bytes_before cr (c ∷ cs) zero = if cr && c == 10 then 1 else 0

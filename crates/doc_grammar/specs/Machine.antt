@@ -5,7 +5,7 @@ use Rattle.xt_names.specs.declared.names.Binding.{Binding}
 use Rattle.xt_tree.specs.TreeView.{forest_of}
 use Rattle.xt_tree.specs.declared.trees.Tree.{Tree}
 use Rattle.xt_tree.specs.declared.trees.Tree.TheVariants.{Doc}
-use Rattle.doc_grammar.specs.Characters.{is_space, is_value, as_value, is_quote, starts_name, is_name_char, may_stand, brackets_behind}
+use Rattle.doc_grammar.specs.Characters.{is_value, as_value, may_stand, brackets_behind}
 use Rattle.doc_grammar.specs.RawNames.{RawName, written_name, RawTag, with_attribute, tag_named}
 use Rattle.doc_grammar.specs.Scopes.{Opened, declarations, top_scope}
 use Rattle.doc_grammar.specs.Lexemes.{is_target}
@@ -15,6 +15,7 @@ use Rattle.doc_grammar.specs.Prolog.{xml_declaration, doctype_declaration}
 use Rattle.doc_grammar.specs.Document.{limit, Rules, element_of, text_nodes, Level, blank, fresh, typed, rooted, begun, may_type, may_root}
 use Rattle.doc_grammar.specs.Lexing.{Ref, RefStep, ref_step, ampersand, letter_a, spelling, hash, hash_x, number, Lex, LexStep, lex_step, dash, section_open, target_mark, target_space}
 use Rattle.doc_grammar.specs.Lexing as lexing
+use Rattle.xt_names.specs.Characters.{is_space, is_quote, starts_name, is_name_char}
 
 -- what is open: the elements, the innermost first, each with its name as it was written, what its tag opened, and its
 -- children so far; below them the document with its children so far, and the namespace declarations of each element so far
@@ -22,12 +23,12 @@ pub data Stack : Type 0 where
   ground : Level → List Tree → List (List Binding) → Stack
   element : RawName → Opened → List Tree → Stack → Stack
 
--- where the reader stands in a name: after these characters of its last part, or after its colon
+-- where the reader is in a name: after these characters of its last part, or after its colon
 pub data NameState : Type 0 where
   reading : Option (List ℕ) → List ℕ → NameState
   coloned : List ℕ → NameState
 
--- what a character does in a name: it goes on, it stands after the whole name, or it may not stand here
+-- what a character does in a name: it goes on, it comes after the whole name, or it may not stand here
 pub data NameStep : Type 0 where
   on : NameState → NameStep
   behind_name : RawName → NameStep

@@ -2,7 +2,7 @@
 use Rattle.std.specs.Prelude.{◌≡◌, ℕ, List, ◌++◌, length, encode_utf8_all}
 use Rattle.doc_grammar.specs.Lines.{text_of, lines}
 
--- So many bytes stand before the rest of a text that is read: the characters are parted so that the first ones have so many bytes and are
+-- So many bytes come before the rest of a text that is read: the characters are parted so that the first ones have so many bytes and are
 -- read as what comes before the rest, and the others are read as the rest.
 pub record IsPlace (cs rest : List ℕ) (at : ℕ) : Type 0 where
   pub before : List ℕ

@@ -1,7 +1,8 @@
 -- The XML declaration and the document type declaration, as forms (XML 1.0, 2.8 and 4.3.3).
 use Rattle.std.specs.Prelude.{ℕ, Bool, not, ◌&&◌, ◌||◌, ◌==◌, ◌-◌, codes}
-use Rattle.doc_grammar.specs.Characters.{is_space, is_char, is_between, starts_name, is_name_char}
+use Rattle.doc_grammar.specs.Characters.{is_between}
 use Rattle.doc_grammar.specs.Forms.{Form, elsewhere, encoding, doctype_end, last, one, many, choice, literal, some_of}
+use Rattle.xt_names.specs.Characters.{is_space, is_char, starts_name, is_name_char}
 
 abbrev pub is_one : ℕ → ℕ → Bool
 is_one d c = c == d

@@ -34,7 +34,7 @@ anyhow scope t = Some (or_unbound scope t (opened scope t))
 abbrev pub Begins : List ℕ → Type 0
 Begins front = (rest : List ℕ) × (tree : Tree) × IsText anyhow (front ++ rest) tree
 
--- where the reader stands after these characters
+-- where the reader comes after these characters
 abbrev pub after : Rules → List ℕ → State → Option State
 after rules [] s = Some s
 after rules (c ∷ cs) s = option_and_then (after rules cs) (step rules s c)
@@ -62,7 +62,7 @@ IsLongest front rest = Begins front × ((c : ℕ) (more : List ℕ) → rest ≡
 abbrev pub IsFirstTag : List ℕ → List ℕ → Type 0
 IsFirstTag front rest = ((more : List ℕ) × (rest ≡ 62 ∷ more)) × Begins (front ++ 62 ∷ []) × BeginsNone (front ++ 62 ∷ []) × BreaksNames front
 
--- the first fault of a text stands between the front and the rest
+-- the first fault of a text is between the front and the rest
 abbrev pub IsFirstFault : Stop → List ℕ → List ℕ → Type 0
 IsFirstFault names front rest = IsFirstTag front rest
 IsFirstFault deep front rest = IsLongest front rest

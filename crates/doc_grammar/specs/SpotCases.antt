@@ -6,7 +6,6 @@ use Rattle.std.specs.Prelude.{◌≡◌, ℕ, suc, ◌≤◌, List, [], ◌∷�
 use Rattle.std.specs.List.{list_all}
 use Rattle.std.specs.Str.{chars}
 use Rattle.xt_tree.specs.declared.trees.Tree.{Tree}
-use Rattle.doc_grammar.specs.Characters.{starts_name, is_name_char}
 use Rattle.doc_grammar.specs.RawNames.{RawName, written_name}
 use Rattle.doc_grammar.specs.Document.{limit, EndTag, IsText, IsDocumentText}
 use Rattle.doc_grammar.specs.Forms.{Form, Part, Spelled, one, many, choice}
@@ -17,6 +16,7 @@ use Rattle.doc_grammar.specs.Places.{IsPlace}
 use Rattle.doc_grammar.specs.Faults.{valid_front}
 use Rattle.doc_grammar.specs.declared.spots.Spot.{Spot}
 use Rattle.doc_grammar.specs.declared.spots.Spot.TheVariants.{At, Subset, Encoding, Entity, Deep}
+use Rattle.xt_names.specs.Characters.{starts_name, is_name_char}
 
 -- Markup begins with a `<` after the front: a comment or an instruction may begin, and `<` is no
 -- text, after which a space could stand.
@@ -53,7 +53,7 @@ pub record AtSubset (front rest : List ℕ) : Type 0 where
   pub is_whole : Spelled doctype_declaration (inner ++ codes ">") []
   pub is_bracket : rest ≡ codes "[" ++ more
 
--- It stands between the quotes of the encoding value, after no more than the five characters of
+-- It is between the quotes of the encoding value, after no more than the five characters of
 -- `UTF-8`, or is the closing quote.
 pub record AtEncoding (front rest : List ℕ) : Type 0 where
   pub before : List ℕ
@@ -75,7 +75,7 @@ abbrev pub NamesEntity : List ℕ → ℕ → Type 0
 NamesEntity [] c = starts_name c ≡ true
 NamesEntity (d ∷ ds) c = (is_name_char c || c == 59) ≡ true
 
--- It stands in a reference that is not by number: after `&` and what may stand in a name.
+-- It is in a reference that is not by number: after `&` and what may be in a name.
 pub record AtEntity (front rest : List ℕ) : Type 0 where
   pub before : List ℕ
   pub name : List ℕ
@@ -131,7 +131,7 @@ pub record AtBrokenTag (front rest : List ℕ) : Type 0 where
       → MarkupMayBegin (before ++ (codes "<" ++ (part ++ codes ">"))) → ⊥
   pub is_none : BeginsNone (front ++ codes ">")
 
--- It stands in none of these places.
+-- It is in none of these places.
 abbrev pub IsElsewhere : List ℕ → List ℕ → Type 0
 IsElsewhere front rest =
     (AtSubset front rest → ⊥)

@@ -9,11 +9,11 @@ use Rattle.std.proofs.lemmas.Fmt.{hex_one_digit, hex_two_digits}
 use Rattle.std.proofs.lemmas.List.Folds.{list_all-append}
 use Rattle.xt_names.specs.Classes.{is_in_ranges, xml_char_ranges, ncname_char_ranges, is_xml_text, is_ncname_text, begins_name}
 use Rattle.doc_grammar.specs.Lines.{lines_behind}
-use Rattle.doc_grammar.proofs.CharacterFacts.{no}
 use Rattle.doc_writer.specs.Escapes.{reference, is_control, text_char, value_char, escaped_text, escaped_value}
 use Rattle.doc_writer.specs.Readable.{has_return}
 use Rattle.doc_laws.proofs.Ranges.{in_range, in_ranges}
 use lib.Utf8.{scalar, scalars}
+use Rattle.xt_names.proofs.BoolLemmas.{no}
 
 -- the characters of XML without the carriage return
 abbrev pub clean_ranges : List (ℕ × ℕ)

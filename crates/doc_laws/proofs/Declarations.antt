@@ -1,10 +1,10 @@
 -- The XML declaration that is written is read.
 use Rattle.std.proofs.Common.{◌≡◌, ℕ, List, [], ◌∷◌, ◌++◌, Bool, true, false, refl, subst, codes}
 use Rattle.xt_names.specs.Classes.{is_in_ranges}
-use Rattle.doc_grammar.specs.Characters.{is_space, is_char}
 use Rattle.doc_grammar.specs.Forms.{Form, Spelled, FormStep, form_step, goes, done, fails}
 use Rattle.doc_grammar.specs.Prolog.{xml_declaration}
 use Rattle.doc_grammar.proofs.FormSteps.{FormGoes, forms_go}
+use Rattle.xt_names.specs.Characters.{is_space, is_char}
 
 abbrev is_nothing : List ℕ → Bool
 is_nothing [] = true

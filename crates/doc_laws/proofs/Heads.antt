@@ -12,12 +12,13 @@ use Rattle.xt_names.specs.declared.names.Binding.{Binding}
 use Rattle.xt_names.specs.declared.names.Name.{Name}
 use Rattle.xt_tree.specs.Sound.{is_sound_name}
 use Rattle.doc_grammar.specs.Scopes.{is_binding, prefixes_differ}
-use Rattle.doc_grammar.proofs.CharacterFacts.{no}
 use Rattle.doc_writer.specs.Heads.{Head, with_prefix, with_declared, empty_head}
-use Rattle.name_scopes.specs.Scopes.{binding, bound_uri, or_earlier, is_uri, binds_to, binds}
+use Rattle.name_scopes.specs.Scopes.{bound_uri, or_earlier, is_uri, binds_to, binds}
 use Rattle.name_scopes.proofs.ScopeLemmas.{bound_uri_push}
 use Rattle.doc_laws.proofs.Names.{is_prefix}
 use Rattle.doc_laws.proofs.Tags.{is_spelled_binding}
+use Rattle.xt_names.proofs.BoolLemmas.{no}
+use Rattle.xt_names.specs.ExprNames.{binding}
 
 -- texts that are the same
 

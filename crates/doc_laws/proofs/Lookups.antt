@@ -7,10 +7,11 @@ use Rattle.xt_names.specs.declared.names.Name.{Name}
 use Rattle.xt_tree.specs.declared.attributes.Attribute.{Attribute}
 use Rattle.doc_grammar.specs.Scopes.{top_scope, or_no_uri, element_name, attribute_name}
 use Rattle.doc_writer.specs.Scopes.{first_scope}
-use Rattle.name_scopes.specs.Scopes.{binding, bound_uri, uri_of_binding, or_earlier}
+use Rattle.name_scopes.specs.Scopes.{bound_uri, uri_of_binding, or_earlier}
 use Rattle.doc_laws.proofs.Names.{raw_name}
 use Rattle.doc_laws.proofs.Openings.{IsFit, AreFit}
 use Rattle.doc_laws.proofs.Suits.{Suits, AreSuited}
+use Rattle.xt_names.specs.ExprNames.{binding}
 
 -- with these declarations, outermost first
 abbrev pub writing : List Binding → List Binding

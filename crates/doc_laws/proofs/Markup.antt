@@ -8,13 +8,14 @@ use Rattle.xt_names.specs.Marks.{has_pair, ends_with, begins_white}
 use Rattle.xt_names.specs.Marks as marks
 use Rattle.xt_tree.specs.declared.trees.Tree.TheVariants.{Comment, Pi}
 use Rattle.xt_tree.specs.Sound.{is_sound_comment, is_sound_pi, is_xml_in_any_case}
-use Rattle.doc_grammar.specs.Characters.{is_space, is_char}
-use Rattle.doc_grammar.specs.Lexemes.{Ends, UpTo, begins_with, instruction_close, CommentText, is_target, Instruction, Misc}
+use Rattle.doc_grammar.specs.Lexemes.{UpTo, begins_with, instruction_close, CommentText, is_target, Instruction, Misc}
 use Rattle.doc_grammar.specs.Lexemes as lexemes
-use Rattle.doc_grammar.proofs.CharacterFacts.{mark_name, space_name}
+use Rattle.doc_grammar.proofs.CharacterFacts.{mark_name}
 use Rattle.doc_writer.specs.Written.{written_comment, written_pi}
 use Rattle.doc_laws.proofs.Tags.{a_blank}
 use Rattle.doc_laws.proofs.Names.{ncname_back}
+use Rattle.xt_names.specs.Characters.{is_space, is_char, Ends}
+use Rattle.xt_names.proofs.CharacterLemmas.{space_name}
 
 first_char : (c : ℕ) (t : List ℕ) → is_xml_text (c ∷ t) ≡ true → (is_char c ≡ true) × (is_xml_text t ≡ true)
 unfolding is_xml_text is_char

@@ -4,14 +4,16 @@ use Rattle.std.specs.List.{list_all}
 use Rattle.std.proofs.lemmas.Bool.{and_parts}
 use Rattle.xt_names.specs.Allowed.{is_empty_text}
 use Rattle.xt_names.specs.Classes.{is_in_ranges, ncname_char_ranges, begins_name, is_ncname_text}
-use Rattle.doc_grammar.specs.Characters.{starts_name, is_name_char, is_colon}
+use Rattle.doc_grammar.specs.Characters.{is_colon}
 use Rattle.doc_grammar.specs.RawNames.{RawName, plain_name, prefixed_name, written_name}
-use Rattle.doc_grammar.specs.Lexemes.{Ends, Named, NCName}
+use Rattle.doc_grammar.specs.Lexemes.{Named, NCName}
 use Rattle.doc_grammar.specs.Lexemes as lexemes
 use Rattle.doc_grammar.specs.Document.{QName}
 use Rattle.doc_grammar.specs.Document as doc
-use Rattle.doc_grammar.proofs.CharacterFacts.{both, colon_name}
+use Rattle.doc_grammar.proofs.CharacterFacts.{both}
 use Rattle.doc_writer.specs.Written.{qualified}
+use Rattle.xt_names.specs.Characters.{starts_name, is_name_char, Ends}
+use Rattle.xt_names.proofs.CharacterLemmas.{colon_name}
 
 -- no character of a name comes first, and no colon
 pub record Stops (rest : List ℕ) : Type 0 where

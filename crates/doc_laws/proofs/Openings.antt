@@ -6,12 +6,13 @@ use Rattle.xt_names.specs.Allowed.{is_empty_text}
 use Rattle.xt_names.specs.declared.names.Binding.{Binding}
 use Rattle.xt_names.specs.declared.names.Name.{Name}
 use Rattle.xt_tree.specs.declared.attributes.Attribute.{Attribute}
-use Rattle.xt_tree.specs.Sound.{same_name, names_differ}
+use Rattle.xt_tree.specs.Sound.{names_differ}
 use Rattle.doc_grammar.specs.RawNames.{RawAttribute}
 use Rattle.doc_grammar.specs.Scopes.{declared_by, declarations, are_declarations, element_name, attribute_name, behind_named, named_attributes, opened}
 use Rattle.doc_writer.specs.Readable.{renamed, renamed_attributes}
 use Rattle.doc_laws.proofs.Names.{raw_name}
 use Rattle.doc_laws.proofs.Tags.{declaring_name, raw_declarations, raw_attributes, tag_of}
+use Rattle.xt_names.specs.Names.{same_name}
 
 -- an attribute of this name, written with the prefix in the scope, declares nothing and has that name
 pub record IsFit (scope : List Binding) (p : List ℕ) (name : Name) : Type 0 where

@@ -6,10 +6,11 @@ use Rattle.std.specs.Fmt.{digits, digit_glyph}
 use Rattle.std.proofs.lemmas.Fmt.{hex_one_digit, hex_two_digits}
 use Rattle.std.proofs.lemmas.Bool.Decides.{nat_tests}
 use Rattle.xt_names.specs.Classes.{is_in_ranges}
-use Rattle.doc_grammar.specs.Characters.{is_char, hexadecimal, digit}
+use Rattle.doc_grammar.specs.Characters.{hexadecimal, digit}
 use Rattle.doc_grammar.specs.Lexemes.{Reference}
 use Rattle.doc_grammar.specs.Lexemes as lexemes
 use Rattle.doc_writer.specs.Escapes.{reference, is_control}
+use Rattle.xt_names.specs.Characters.{is_char}
 
 -- a reference that stands for the character, before this rest
 pub record StandsFor (c : ℕ) (written rest : List ℕ) : Type 0 where

@@ -10,13 +10,14 @@ use Rattle.xt_names.specs.declared.names.Name.{Name}
 use Rattle.xt_tree.specs.declared.attributes.Attribute.{Attribute}
 use Rattle.xt_tree.specs.Sound.{is_named_xmlns}
 use Rattle.doc_grammar.specs.Scopes.{is_binding}
-use Rattle.doc_grammar.proofs.CharacterFacts.{no}
 use Rattle.doc_writer.specs.Heads.{Head, with_prefix, with_declared, empty_head, with_element, keeps_prefix, may_declare, with_attribute, with_attributes, head_of}
-use Rattle.name_scopes.specs.Scopes.{binding, bound_uri, uri_of_binding, or_earlier, binds_to, binds, numbered_prefix, free_number, free_prefix}
+use Rattle.name_scopes.specs.Scopes.{bound_uri, uri_of_binding, or_earlier, binds_to, binds, numbered_prefix, free_number, free_prefix}
 use Rattle.doc_writer.specs.Written.{later_prefixes}
 use Rattle.doc_laws.proofs.Names.{is_prefix}
 use Rattle.doc_laws.proofs.Numbers.{prefix_is_free, number_is_name, number_is_not_xml, number_is_not_xmlns, number_low}
 use Rattle.doc_laws.proofs.Heads.{is_used, is_declared, same_text, bound_from, bound_binds, pushed_same, pushed_other, IsAllowed, prefix_of_name, name_binding, not_xmlns, Settled, settled_start, settled_used, IsNew, settled_new, used_front, used_last, not_new}
+use Rattle.xt_names.proofs.BoolLemmas.{no}
+use Rattle.xt_names.specs.ExprNames.{binding}
 
 -- the prefix suits an attribute of this name
 pub record Suits (scope : List Binding) (p : List ℕ) (name : Name) : Type 0 where

@@ -7,18 +7,19 @@ use Rattle.xt_names.specs.Classes.{is_in_ranges, is_xml_text, begins_name, is_nc
 use Rattle.xt_names.specs.declared.names.Binding.{Binding}
 use Rattle.xt_names.specs.declared.names.Name.{Name}
 use Rattle.xt_tree.specs.declared.attributes.Attribute.{Attribute}
-use Rattle.doc_grammar.specs.Characters.{is_space, is_name_char}
 use Rattle.doc_grammar.specs.RawNames.{RawName, plain_name, prefixed_name, RawAttribute, RawTag, tag_named}
-use Rattle.doc_grammar.specs.Lexemes.{Ends, Spaces}
+use Rattle.doc_grammar.specs.Lexemes.{Spaces}
 use Rattle.doc_grammar.specs.Lexemes as lexemes
 use Rattle.doc_grammar.specs.Document.{QName, Equals, Valued, Attributes, AtEnd}
 use Rattle.doc_grammar.specs.Document as doc
-use Rattle.doc_grammar.proofs.CharacterFacts.{colon_name, double_quote}
+use Rattle.doc_grammar.proofs.CharacterFacts.{double_quote}
 use Rattle.doc_writer.specs.Escapes.{escaped_value}
 use Rattle.doc_writer.specs.Written.{qualified, quoted, declaration, declarations, written_attribute, written_attributes, later_prefixes, start_tag}
 use Rattle.doc_writer.specs.Heads.{Head}
 use Rattle.doc_laws.proofs.Texts.{value_back}
 use Rattle.doc_laws.proofs.Names.{Stops, is_prefix, raw_name, ncname_back, qname_back}
+use Rattle.xt_names.specs.Characters.{is_space, is_name_char, Ends}
+use Rattle.xt_names.proofs.CharacterLemmas.{colon_name}
 
 -- what is written, as it is read
 

@@ -4,7 +4,7 @@ use Rattle.std.proofs.lemmas.Bool.{or_cases, or_parts, eqb-true}
 use Rattle.xt_names.specs.Classes.{is_xml_text}
 use Rattle.xt_names.specs.declared.names.Binding.{Binding}
 use Rattle.xt_tree.specs.declared.trees.Tree.{Tree}
-use Rattle.doc_grammar.specs.Characters.{is_space, is_char, is_text, is_value, as_value, may_stand, brackets_behind}
+use Rattle.doc_grammar.specs.Characters.{is_text, is_value, as_value, may_stand, brackets_behind}
 use Rattle.doc_grammar.specs.Lexemes.{Reference}
 use Rattle.doc_grammar.specs.Lexemes as lexemes
 use Rattle.doc_grammar.specs.Document.{Rules, Content, Valued}
@@ -12,6 +12,7 @@ use Rattle.doc_grammar.specs.Document as doc
 use Rattle.doc_grammar.proofs.CharacterFacts.{both}
 use Rattle.doc_writer.specs.Escapes.{reference, is_control, text_char, value_char, escaped_text, escaped_value}
 use Rattle.doc_laws.proofs.References.{StandsFor, short_reference, control_reference}
+use Rattle.xt_names.specs.Characters.{is_space, is_char}
 
 -- references by name
 

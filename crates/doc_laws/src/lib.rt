@@ -19,7 +19,7 @@ ghost use Rattle.doc_writer.specs.WrittenItems.{written_items, written_items_bar
 ghost use Rattle.doc_laws.specs.ItemTexts.{AttributesHaveNoText};
 ghost use Rattle.doc_laws.specs.ReadBack.{DocumentsReadBack, TextsReadBack};
 
-/// What is written for a text is read back as that text, wherever it stands in an element, and what is written for a value as
+/// What is written for a text is read back as that text, wherever it is in an element, and what is written for a value as
 /// that value, in double quotes (XML 1.0, 2.4 and 3.3.3; Serialization, 5).
 pub fn written_texts_read_back()
     ensures texts { TextsReadBack }

@@ -4,9 +4,9 @@ use Rattle.xt_tree.specs.declared.trees.Tree.{Tree}
 use Rattle.doc_grammar.specs.Scopes.{opened}
 use Rattle.doc_grammar.specs.Lexing.{Lex, LexStep, on, makes, says, fails, lex_step}
 use Rattle.doc_grammar.specs.Machine.{Stack, State, content, marked, with_aside, with_text, in_marked, step}
-use Rattle.doc_reader.specs.Reading.{reads, Fails}
-use Rattle.doc_reader.specs.Asides.{LexEnd, made, said, stopped, lex_goes, lex_reads}
-use Rattle.doc_reader.proofs.ReadLemmas.{goes, stuck}
+use Rattle.xml_source.specs.Reading.{reads, Fails}
+use Rattle.xml_source.specs.Asides.{LexEnd, made, said, stopped, lex_goes, lex_reads}
+use Rattle.xml_source.proofs.ReadLemmas.{goes, stuck}
 
 -- how the reading ends in the state
 abbrev ends_in : LexEnd → List ℕ → Stack → List ℕ → State → Type 0

@@ -5,26 +5,29 @@ use Rattle.std.specs.Str.{chars}
 use Rattle.xt_names.specs.Allowed.{xml_uri}
 use Rattle.xt_names.specs.declared.names.Binding.{Binding}
 use Rattle.xt_tree.specs.declared.trees.Tree.{Tree}
-use Rattle.doc_grammar.specs.Characters.{is_space, starts_name, is_name_char, is_colon}
+use Rattle.doc_grammar.specs.Characters.{is_colon}
 use Rattle.doc_grammar.specs.RawNames.{RawName, RawAttribute, RawTag, plain_name, prefixed_name, written_name, tag_named}
 use Rattle.doc_grammar.specs.Scopes.{Opened, opened, declarations, top_scope}
-use Rattle.doc_grammar.specs.Lexemes.{Ends, Spaces, Named, NCName}
+use Rattle.doc_grammar.specs.Lexemes.{Spaces, Named, NCName}
 use Rattle.doc_grammar.specs.Lexemes as lexemes
 use Rattle.doc_grammar.specs.Document.{Level, QName, element_of}
 use Rattle.doc_grammar.specs.Document as doc
 use Rattle.doc_grammar.specs.Machine.{Stack, ground, element, reading, coloned, State, content, tag, naming, tagged, slashed, ending, ended, step, stop_at, Stop, stop_before_name, names, other, stops, behind, opens, closes, scope_of, may_open, with_text, with_child, with_declared}
-use Rattle.doc_grammar.proofs.CharacterFacts.{is_other, close_space, slash_space, slash_starts, bang_starts, mark_starts, colon_name}
+use Rattle.doc_grammar.proofs.CharacterFacts.{close_space, slash_space, slash_starts, bang_starts, mark_starts}
 use Rattle.doc_reader.specs.declared.readers.Frame as code
 use Rattle.doc_reader.specs.declared.scopes.OpenedTag.{OpenedTag}
-use Rattle.doc_reader.specs.Sources.{NotNext, NextIs, NoName, DiffersAt}
+use Rattle.xml_source.specs.Sources.{NextIs, NoName, DiffersAt}
 use Rattle.doc_reader.specs.Opening.{OpensTag}
-use Rattle.doc_reader.specs.Reading.{reads, Fails, Ran}
-use Rattle.doc_reader.specs.declared.steps.Step.{Step}
-use Rattle.doc_reader.specs.declared.steps.Step.TheVariants.{On, Stopped}
-use Rattle.doc_reader.specs.View.{name_of}
+use Rattle.xml_source.specs.Reading.{reads, Fails, Ran}
+use Rattle.xml_source.specs.declared.steps.Step.{Step}
+use Rattle.xml_source.specs.declared.steps.Step.TheVariants.{On, Stopped}
+use Rattle.xml_source.specs.View.{name_of}
 use Rattle.doc_reader.specs.Frames.{with_frame, outside, stack_of, Pushes, stop_before}
-use Rattle.doc_reader.proofs.ReadLemmas.{goes, stuck}
+use Rattle.xml_source.proofs.ReadLemmas.{goes, stuck}
 use Rattle.doc_reader.proofs.FrameLemmas.{popped, no_frames, declared_of, text_may_open, text_stop}
+use Rattle.xml_source.proofs.EqualsLemmas.{TakesSpaces}
+use Rattle.xt_names.specs.Characters.{is_space, starts_name, is_name_char, Ends, NotNext}
+use Rattle.xt_names.proofs.CharacterLemmas.{is_other, colon_name}
 
 -- end tags
 
@@ -57,9 +60,6 @@ space_step st c s = rw (is_other is_space c 62 s close_space, s) refl
 spaces_ended : {ts rest : List ℕ} (st : Stack) → Spaces ts rest → reads ts (ended st) ≡ reads rest (ended st)
 spaces_ended st lexemes.no_space = refl
 spaces_ended st (lexemes.a_space {c = c} {ts = ts} p s) = goes _ _ c ts (space_step st c p) ∙ spaces_ended st s
-
-abbrev pub TakesSpaces : Bool → List ℕ → List ℕ → Type 0
-TakesSpaces b old new = MatchBool b ((c : ℕ) × (ts : List ℕ) × (old ≡ c ∷ ts) × (is_space c ≡ true) × Spaces ts new) (new ≡ old)
 
 takes_ended : (b : Bool) (old new : List ℕ) (st : Stack) → TakesSpaces b old new → reads old (ended st) ≡ reads new (ended st)
 takes_ended true old new st s = ap (λ (x : List ℕ). reads x (ended st)) s.2 ∙ spaces_ended st (lexemes.a_space s.3 s.4)
@@ -239,7 +239,7 @@ if_ok (Err e) p f = tt
 
 -- the name of a start tag
 
-named_ends : {read ts name rest : List ℕ} → Named read ts name rest → Ends is_name_char rest
+pub named_ends : {read ts name rest : List ℕ} → Named read ts name rest → Ends is_name_char rest
 named_ends (lexemes.more p n) = named_ends n
 named_ends (lexemes.whole e) = e
 
@@ -259,7 +259,7 @@ coloned_step : (prefix : List ℕ) (st : Stack) (c : ℕ) → starts_name c ≡ 
 unfolding step
 coloned_step prefix st c p = rw p refl
 
--- after a whole name the reader stands after the tag of that name
+-- after a whole name the reader comes after the tag of that name
 plain_same : (name : List ℕ) (st : Stack) (c : ℕ) (cs : List ℕ) → is_name_char c ≡ false → (c == 58) ≡ false → reads (c ∷ cs) (naming (reading None name) st) ≡ reads (c ∷ cs) (tagged (tag_named (plain_name name)) st)
 unfolding step
 plain_same name st c cs p q = rw (p, q) refl

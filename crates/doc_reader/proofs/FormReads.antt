@@ -3,10 +3,10 @@ use Rattle.std.proofs.Common.{◌≡◌, ℕ, List, [], ◌∷◌, refl, ap, ◌
 use Rattle.doc_grammar.specs.Scopes.{opened}
 use Rattle.doc_grammar.specs.Forms.{Form, FormStep, goes as goes_on, done, fails, form_step, form_part}
 use Rattle.doc_grammar.specs.Machine.{Stack, State, content, forming, in_forming, step, stop_in_form, stops}
-use Rattle.doc_reader.specs.Reading.{reads}
-use Rattle.doc_reader.specs.Spelling.{FormEnd, stands, form_goes, spells}
-use Rattle.doc_reader.specs.Spelling as spelling
-use Rattle.doc_reader.proofs.ReadLemmas.{goes, stuck}
+use Rattle.xml_source.specs.Reading.{reads}
+use Rattle.xml_source.specs.Spelling.{FormEnd, stands, form_goes, spells}
+use Rattle.xml_source.specs.Spelling as spelling
+use Rattle.xml_source.proofs.ReadLemmas.{goes, stuck}
 
 -- how the reading ends in the state
 abbrev pub ends_in : FormEnd → Stack → List ℕ → State → Type 0

@@ -1,17 +1,15 @@
 -- The open elements of the code, as the machine sees them.
 use Rattle.std.proofs.Common.{◌≡◌, ℕ, suc, List, [], ◌∷◌, ◌++◌, length, reverse, true, false, Some, slice_get, ◌==◌, nat_lt, refl, sym, ap, ◌∙◌}
 use Rattle.std.proofs.lemmas.Bool.{ne_eqb}
-use Rattle.std.proofs.lemmas.List.{reverse-append, length-reverse}
+use Rattle.std.proofs.lemmas.List.{length-reverse}
 use Rattle.xt_names.specs.declared.names.Binding.{Binding}
 use Rattle.xt_tree.specs.declared.trees.Tree.{Tree}
 use Rattle.doc_grammar.specs.Document.{Level, limit}
-use Rattle.doc_grammar.specs.Characters.{starts_name}
 use Rattle.doc_grammar.specs.Machine.{Stack, ground, element, depth, may_open, scope_of, with_declared, with_text, stop_before_name, deep}
 use Rattle.doc_reader.specs.declared.readers.Frame as code
 use Rattle.doc_reader.specs.Frames.{with_frame, outside, stack_in, stack_of, stop_before}
-
-pub stack_of-push : (fs : List code.Frame) (f : code.Frame) (scope : List Binding) (base : Stack) → stack_of (fs ++ f ∷ []) scope base ≡ with_frame f scope (stack_of fs (outside f scope) base)
-stack_of-push fs f scope base = rw (reverse-append fs (f ∷ [])) refl
+use Rattle.doc_reader.proofs.ContentLemmas.{stack_of-push}
+use Rattle.xt_names.specs.Characters.{starts_name}
 
 -- the innermost element, and those around it
 pub popped : (old front : List code.Frame) (f : code.Frame) (scope : List Binding) (base : Stack) → old ≡ front ++ f ∷ [] → stack_of old scope base ≡ with_frame f scope (stack_of front (outside f scope) base)

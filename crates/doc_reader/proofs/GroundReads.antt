@@ -6,22 +6,21 @@ use Rattle.xt_tree.specs.Forest.{Forest}
 use Rattle.xt_tree.specs.TreeView.{forest_of}
 use Rattle.xt_tree.specs.declared.trees.Tree.{Tree}
 use Rattle.xt_tree.specs.declared.trees.Tree.TheVariants.{Doc}
-use Rattle.doc_grammar.specs.Characters.{is_space}
-use Rattle.doc_grammar.specs.Lexemes.{Ends, NCName}
+use Rattle.doc_grammar.specs.Lexemes.{NCName}
 use Rattle.doc_grammar.specs.Prolog.{xml_declaration, doctype_declaration}
 use Rattle.doc_grammar.specs.Document.{Level, blank, fresh, typed, rooted, begun, may_type}
 use Rattle.doc_grammar.specs.Machine.{ground, content, tag, bang, declares, with_begun, finish, finish_ground, whole, stops, other}
 use Rattle.doc_grammar.proofs.Sizes.{spaces_size}
-use Rattle.doc_reader.specs.Reading.{reads, Fails, Ran}
-use Rattle.doc_reader.specs.Sources.{NotNext}
-use Rattle.doc_reader.specs.Spelling.{Spells}
+use Rattle.xml_source.specs.Reading.{reads, Fails, Ran}
+use Rattle.xml_source.specs.Spelling.{Spells}
 use Rattle.doc_reader.specs.Frames.{stack_in, stack_of}
-use Rattle.doc_reader.specs.declared.steps.Step.{Step}
+use Rattle.xml_source.specs.declared.steps.Step.{Step}
 use Rattle.doc_reader.specs.declared.readers.Frame as code
-use Rattle.doc_reader.proofs.TagLemmas.{TakesSpaces}
+use Rattle.xml_source.proofs.EqualsLemmas.{TakesSpaces}
 use Rattle.doc_reader.proofs.TextReads.{around_goes, around_stops}
 use Rattle.doc_reader.proofs.MarkupReads.{doctype_ran, no_doctype, declaration_ran, target_ends, to_target}
 use Rattle.doc_reader.proofs.ReadLemmas.{ran_from, ran_to}
+use Rattle.xt_names.specs.Characters.{is_space, Ends, NotNext}
 
 pub around_fails : (old new text : List ℕ) (frames : List code.Frame) (scope : List Binding) (l : Level) (kids : List Tree) (ds : List (List Binding)) → frames ≡ [] → 0 < length old → NotNext 60 old → new ≡ old → Ends is_space new
     → Fails (reads old (content 0 text (stack_of frames scope (ground l kids ds)))) new

@@ -4,27 +4,27 @@ use Rattle.std.proofs.lemmas.Bool.{ne_eqb}
 use Rattle.xt_names.specs.declared.names.Binding.{Binding}
 use Rattle.xt_tree.specs.declared.trees.Tree.{Tree}
 use Rattle.xt_tree.specs.declared.trees.Tree.TheVariants.{Comment, Pi}
-use Rattle.doc_grammar.specs.Characters.{is_space, starts_name, is_name_char}
 use Rattle.doc_grammar.specs.Forms.{Form, FormStep, form_step, form_part}
 use Rattle.doc_grammar.specs.Forms as form
 use Rattle.doc_grammar.specs.Prolog.{xml_declaration, doctype_declaration}
-use Rattle.doc_grammar.specs.Lexemes.{Ends, Named, NCName, is_target}
+use Rattle.doc_grammar.specs.Lexemes.{Named, NCName, is_target}
 use Rattle.doc_grammar.specs.Lexemes as lexemes
 use Rattle.doc_grammar.specs.Lexing.{dash, section_open, target_space, target_mark}
 use Rattle.doc_grammar.specs.Scopes.{opened}
 use Rattle.doc_grammar.specs.Document.{Level, typed, may_type}
 use Rattle.doc_grammar.specs.Machine.{Stack, ground, element, State, content, tag, bang, question, targeting, marked, forming, declares, with_begun, with_aside, with_text, in_forming, stop_in_form, stops, other, step, stop_at}
-use Rattle.doc_reader.specs.Reading.{reads, Fails, Ran}
-use Rattle.doc_reader.specs.Sources.{NotNext}
-use Rattle.doc_reader.specs.Asides.{LexEnd, made, said, stopped, lex_reads, target_reads}
-use Rattle.doc_reader.specs.Spelling.{FormEnd, form_goes, stands, spells, Spells}
-use Rattle.doc_reader.specs.Spelling as spelling
-use Rattle.doc_reader.specs.declared.steps.Step.{Step}
-use Rattle.doc_reader.specs.declared.steps.Step.TheVariants.{On, Stopped}
-use Rattle.doc_reader.proofs.ReadLemmas.{goes, stuck}
+use Rattle.xml_source.specs.Reading.{reads, Fails, Ran}
+use Rattle.xml_source.specs.Asides.{LexEnd, made, said, stopped, lex_reads, target_reads}
+use Rattle.xml_source.specs.Spelling.{FormEnd, form_goes, stands, spells, Spells}
+use Rattle.xml_source.specs.Spelling as spelling
+use Rattle.xml_source.specs.declared.steps.Step.{Step}
+use Rattle.xml_source.specs.declared.steps.Step.TheVariants.{On, Stopped}
+use Rattle.xml_source.proofs.ReadLemmas.{goes, stuck}
 use Rattle.doc_reader.proofs.ContentLemmas.{IsElement}
 use Rattle.doc_reader.proofs.AsideReads.{made_in, said_in, stopped_in}
 use Rattle.doc_reader.proofs.FormReads.{ends_in, forming_reads}
+use Rattle.doc_reader.proofs.ElementLemmas.{named_ends}
+use Rattle.xt_names.specs.Characters.{is_space, starts_name, is_name_char, Ends, NotNext}
 
 -- `<`
 
@@ -150,10 +150,6 @@ named text st (lexemes.whole e) = refl
 
 target_of : {ts name rest : List ℕ} (text : List ℕ) (st : Stack) → NCName ts name rest → reads ts (question text st) ≡ reads rest (targeting name text st)
 target_of text st (lexemes.ncname {c = c} {ts = ts} s d) = goes _ _ c ts (target_step text st c s) ∙ named text st d
-
-named_ends : {read ts name rest : List ℕ} → Named read ts name rest → Ends is_name_char rest
-named_ends (lexemes.more p n) = named_ends n
-named_ends (lexemes.whole e) = e
 
 pub target_ends : {ts name rest : List ℕ} → NCName ts name rest → Ends is_name_char rest
 target_ends (lexemes.ncname s d) = named_ends d

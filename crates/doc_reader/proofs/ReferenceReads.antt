@@ -1,26 +1,14 @@
--- A reading of a reference, alone and in a state.
+-- A reading of a reference, in a state.
 use Rattle.std.proofs.Common.{◌≡◌, ℕ, List, [], ◌∷◌, ◌++◌, Option, Some, None, refl, ap, ◌∙◌, sym}
 use Rattle.doc_grammar.specs.Scopes.{opened}
 use Rattle.doc_grammar.specs.RawNames.{RawName, RawTag}
 use Rattle.doc_grammar.specs.Lexing.{Ref, RefStep, on, stands_for, fails, ref_step}
-use Rattle.doc_grammar.specs.Machine.{Stack, State, content, refers, valued, value_refers, Stop, stop_in_ref, stop_at, step, in_reference, in_value_reference, End, finish, other}
+use Rattle.doc_grammar.specs.Machine.{Stack, State, content, refers, valued, value_refers, Stop, stop_in_ref, stop_at, step, in_reference, in_value_reference, finish, other}
 use Rattle.doc_grammar.specs.Machine as machine
-use Rattle.doc_reader.specs.Reading.{reads}
-use Rattle.doc_reader.specs.References.{finds, stops, ref_goes, ref_reads}
-use Rattle.doc_reader.proofs.ReadLemmas.{goes, stuck}
-
--- alone
-
-pub ref_on : (r r' : Ref) (c : ℕ) (cs : List ℕ) → ref_step r c ≡ on r' → ref_reads (c ∷ cs) r ≡ ref_reads cs r'
-ref_on r r' c cs e = ap (λ (s : RefStep). ref_goes (ref_reads cs) cs (stops (stop_in_ref r c) (c ∷ cs)) s) e
-
-pub ref_ends : (r : Ref) (v c : ℕ) (cs : List ℕ) → ref_step r c ≡ stands_for v → ref_reads (c ∷ cs) r ≡ finds v cs
-ref_ends r v c cs e = ap (λ (s : RefStep). ref_goes (ref_reads cs) cs (stops (stop_in_ref r c) (c ∷ cs)) s) e
-
-pub ref_stuck : (r : Ref) (c : ℕ) (cs : List ℕ) → ref_step r c ≡ fails → ref_reads (c ∷ cs) r ≡ stops (stop_in_ref r c) (c ∷ cs)
-ref_stuck r c cs e = ap (λ (s : RefStep). ref_goes (ref_reads cs) cs (stops (stop_in_ref r c) (c ∷ cs)) s) e
-
--- in states
+use Rattle.xml_source.specs.Reading.{reads}
+use Rattle.xml_source.specs.References.{finds, stops, ref_reads}
+use Rattle.xml_source.proofs.ReadLemmas.{goes, stuck}
+use Rattle.xml_source.proofs.ReferenceReads.{ref_on, ref_ends, ref_stuck}
 
 abbrev step_in : (Ref → State) → (ℕ → State) → RefStep → Option State
 step_in k done (on r) = Some (k r)

@@ -1,18 +1,16 @@
 -- Scopes and start tags, taken apart from their front.
 use Rattle.std.proofs.Common.{◌≡◌, ℕ, ◌+◌, ◌<◌, ◌≤◌, List, [], ◌∷◌, ◌++◌, length, drop, map, get_or, not, ◌&&◌, ◌||◌, Option, Some, None, refl, sym, ap, ◌∙◌, append-nil, append_assoc}
-use Rattle.std.proofs.lemmas.Str.{chars-nil}
 use Rattle.std.specs.List.{list_any}
 use Rattle.std.specs.Str.{bytes_eq, chars}
 use Rattle.xt_names.specs.declared.names.Binding.{Binding}
 use Rattle.xt_tree.specs.declared.attributes.Attribute.{Attribute}
-use Rattle.xt_tree.specs.Sound.{names_differ, same_name}
+use Rattle.xt_tree.specs.Sound.{names_differ}
 use Rattle.xt_names.proofs.ListLemmas.{drop_at}
 use Rattle.name_scopes.proofs.LookupLemmas.{drop_past}
 use Rattle.doc_grammar.specs.RawNames.{RawAttribute}
 use Rattle.doc_grammar.specs.Scopes.{with_declaration, declarations, declared_by, one_named, behind_named, both_named, named_attributes, prefix_name, prefixes_differ}
-
-pub chars_empty : chars [] ≡ []
-chars_empty = chars-nil
+use Rattle.xt_names.specs.Names.{same_name}
+use Rattle.std.proofs.lemmas.Str.{chars-nil}
 
 declarations-cons : (a : RawAttribute) (more : List RawAttribute) → declarations (a ∷ more) ≡ with_declaration (declared_by a.name) a.value (declarations more)
 unfolding declarations
@@ -108,3 +106,6 @@ named_all view scope xs i old all h inv =
     let none : drop i xs ≡ [] = drop_past xs i h in
     let e : behind_named old (named_attributes scope []) ≡ all = rw none at inv in
     ap Some (sym (append-nil old)) ∙ ap (behind_named old) (sym (named_none scope)) ∙ e
+
+pub chars_empty : chars [] ≡ []
+chars_empty = chars-nil

@@ -5,24 +5,25 @@ use Rattle.std.specs.List.{list_all}
 use Rattle.xt_names.specs.Classes.{is_in_ranges}
 use Rattle.xt_tree.specs.declared.trees.Tree.{Tree}
 use Rattle.xt_names.specs.declared.names.Binding.{Binding}
-use Rattle.doc_grammar.specs.Characters.{is_space, is_char, is_text, may_stand, brackets_behind}
-use Rattle.doc_grammar.specs.Lexemes.{Ends}
+use Rattle.doc_grammar.specs.Characters.{is_text, may_stand, brackets_behind}
 use Rattle.doc_grammar.specs.Lexing.{ampersand}
 use Rattle.doc_grammar.specs.Scopes.{opened}
 use Rattle.doc_grammar.specs.Document.{Level, blank, fresh, typed, rooted, begun}
 use Rattle.doc_grammar.specs.Machine.{Stack, ground, element, State, content, refers, other, stops, step, or_stop, run}
-use Rattle.doc_grammar.proofs.CharacterFacts.{no, is_other, open_space}
-use Rattle.doc_reader.specs.Classes.{is_plain_text, is_bracket}
-use Rattle.doc_reader.specs.References.{RefEnd, finds, ref_reads}
-use Rattle.doc_reader.specs.References as refs
-use Rattle.doc_reader.specs.Reading.{reads, stop_of, Fails}
-use Rattle.doc_reader.specs.Sources.{NotNext, NextIs}
-use Rattle.doc_reader.specs.declared.steps.Stop as code
-use Rattle.doc_reader.proofs.ReadLemmas.{goes, stuck}
+use Rattle.doc_grammar.proofs.CharacterFacts.{open_space}
+use Rattle.xml_source.specs.Classes.{is_plain_text, is_bracket}
+use Rattle.xml_source.specs.References.{RefEnd, finds, ref_reads}
+use Rattle.xml_source.specs.References as refs
+use Rattle.xml_source.specs.Reading.{reads, stop_of, Fails}
+use Rattle.xml_source.specs.Sources.{NextIs}
+use Rattle.xml_source.specs.declared.steps.Stop as code
+use Rattle.xml_source.proofs.ReadLemmas.{goes, stuck}
 use Rattle.doc_reader.proofs.ReferenceReads.{found_in_content, stops_in_content}
-use Rattle.doc_reader.proofs.ValueLemmas.{not_true}
-use Rattle.doc_reader.proofs.TagLemmas.{TakesSpaces, spaces_in}
+use Rattle.xml_source.proofs.EqualsLemmas.{TakesSpaces, spaces_in}
 use Rattle.doc_reader.proofs.ContentLemmas.{IsElement}
+use Rattle.xt_names.specs.Characters.{is_space, is_char, Ends, NotNext}
+use Rattle.xt_names.proofs.BoolLemmas.{no, is_false}
+use Rattle.xt_names.proofs.CharacterLemmas.{is_other}
 
 -- white space around the root
 
@@ -101,10 +102,10 @@ plain_facts c h =
     let d = and_parts (is_char c && not (c == 60)) (not (c == 38)) b.0 in
     let e = and_parts (is_char c) (not (c == 60)) d.0 in
     record {
-      no_open = not_true (c == 60) e.1;
-      no_reference = not_true (c == 38) d.1;
-      stands = rw (b.0, not_true (c == 62) a.1) refl;
-      behind = rw (not_true (c == 93) b.1) refl;
+      no_open = is_false (c == 60) e.1;
+      no_reference = is_false (c == 38) d.1;
+      stands = rw (b.0, is_false (c == 62) a.1) refl;
+      behind = rw (is_false (c == 93) b.1) refl;
     }
 
 plain_run : (xs ts text : List ℕ) (st : Stack) → IsElement st → list_all is_plain_text xs ≡ true → reads (xs ++ ts) (content 0 text st) ≡ reads ts (content 0 (text ++ xs) st)

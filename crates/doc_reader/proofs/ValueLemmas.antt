@@ -1,27 +1,25 @@
 -- What the parts of a value, taken one after another, do to a reading.
-use Rattle.std.proofs.Common.{◌≡◌, ℕ, List, [], ◌∷◌, ◌++◌, Bool, true, false, not, ◌&&◌, ◌||◌, cond, Option, Some, None, Result, Ok, Err, MatchResult, ◌==◌, slice_get, refl, sym, ap, subst, ◌∙◌, append-nil, append_assoc, eq-eqb}
+use Rattle.std.proofs.Common.{◌≡◌, ℕ, List, [], ◌∷◌, ◌++◌, Bool, true, false, not, ◌&&◌, ◌||◌, cond, Option, Some, None, Result, Ok, Err, MatchResult, ◌==◌, slice_get, refl, sym, ap, ◌∙◌, append-nil, append_assoc, eq-eqb}
 use Rattle.std.proofs.lemmas.Bool.{and_parts, ne_eqb, eqb-true}
 use Rattle.std.specs.List.{list_all}
-use Rattle.doc_grammar.specs.Characters.{is_space, is_char, is_text, is_value, as_value, is_quote}
-use Rattle.doc_grammar.specs.Lexemes.{Ends}
+use Rattle.doc_grammar.specs.Characters.{is_text, is_value, as_value}
 use Rattle.doc_grammar.specs.Lexing.{ampersand}
 use Rattle.doc_grammar.specs.RawNames.{RawName, RawTag, with_attribute}
 use Rattle.doc_grammar.specs.Scopes.{opened}
 use Rattle.doc_grammar.specs.Machine.{Stack, tagged, valued, value_refers, other, step, stops}
-use Rattle.doc_grammar.proofs.CharacterFacts.{no, one_of, space_cases, space_text}
-use Rattle.doc_reader.specs.Classes.{is_plain_value}
-use Rattle.doc_reader.specs.References.{RefEnd, finds, ref_reads}
-use Rattle.doc_reader.specs.References as refs
-use Rattle.doc_reader.specs.Reading.{reads, stop_of}
-use Rattle.doc_reader.specs.Sources.{NotNext}
-use Rattle.doc_reader.specs.declared.steps.Stop as code
-use Rattle.doc_reader.proofs.ReadLemmas.{goes, stuck}
+use Rattle.doc_grammar.proofs.CharacterFacts.{space_text}
+use Rattle.xml_source.specs.Classes.{is_plain_value}
+use Rattle.xml_source.specs.References.{RefEnd, finds, ref_reads}
+use Rattle.xml_source.specs.References as refs
+use Rattle.xml_source.specs.Reading.{reads, stop_of}
+use Rattle.xml_source.specs.declared.steps.Stop as code
+use Rattle.xml_source.proofs.ReadLemmas.{goes, stuck}
 use Rattle.doc_reader.proofs.ReferenceReads.{found_in_value, stops_in_value}
-use Rattle.doc_reader.proofs.ReferenceLemmas.{Skips}
-
-pub not_true : (b : Bool) → not b ≡ true → b ≡ false
-not_true true e = cc
-not_true false e = refl
+use Rattle.xml_source.proofs.EqualsLemmas.{quote_cases}
+use Rattle.xml_source.proofs.ReferenceLemmas.{Skips}
+use Rattle.xt_names.proofs.BoolLemmas.{is_false, no}
+use Rattle.xt_names.specs.Characters.{is_space, is_char, is_quote, Ends, NotNext}
+use Rattle.xt_names.proofs.CharacterLemmas.{space_cases}
 
 -- what stands for itself
 pub record PlainFacts (q c : ℕ) : Type 0 where
@@ -44,7 +42,7 @@ plain_facts q c h =
     let a = and_parts (is_value q c) (not (is_space c && not (c == 32))) h in
     let b = and_parts (is_text c) (not (c == q)) a.0 in
     let d = and_parts (is_char c && not (c == 60)) (not (c == 38)) b.0 in
-    record { no_quote = not_true (c == q) b.1; no_reference = not_true (c == 38) d.1; value = a.0; itself = itself_of c a.1 }
+    record { no_quote = is_false (c == q) b.1; no_reference = is_false (c == 38) d.1; value = a.0; itself = itself_of c a.1 }
 
 value_step : (t : RawTag) (name : RawName) (q c : ℕ) (read : List ℕ) (st : Stack) → (c == q) ≡ false → (c == 38) ≡ false → is_value q c ≡ true → step opened (valued t name q read st) c ≡ Some (valued t name q (read ++ as_value c ∷ []) st)
 unfolding step
@@ -67,10 +65,6 @@ pub value_ends : (old new : List ℕ) (t : RawTag) (name : RawName) (q : ℕ) (r
 value_ends old new t name q read st e = ap (λ (x : List ℕ). reads x (valued t name q read st)) e ∙ goes _ _ q new (end_step t name q read st)
 
 -- a reference
-
-pub quote_cases : (P : ℕ → Type 0) (q : ℕ) → P 34 → P 39 → is_quote q ≡ true → P q
-unfolding is_quote
-quote_cases P q a b e = one_of (P q) (q == 34) (q == 39) (λ x. subst P (sym (eqb-true q 34 x)) a) (λ x. subst P (sym (eqb-true q 39 x)) b) e
 
 ampersand_no_quote : (q : ℕ) → is_quote q ≡ true → (38 == q) ≡ false
 ampersand_no_quote q e = let P : ℕ → Type 0 = λ x. (38 == x) ≡ false in quote_cases P q refl refl e

@@ -1,16 +1,16 @@
 -- What the open elements of the reader stand for.
 use Rattle.std.specs.Prelude.{◌≡◌, ℕ, ◌-◌, List, [], ◌∷◌, length, take, reverse, Some, if◌then◌else◌}
 use Rattle.xt_names.specs.declared.names.Binding.{Binding}
-use Rattle.doc_grammar.specs.Characters.{starts_name}
 use Rattle.doc_grammar.specs.RawNames.{RawTag}
 use Rattle.doc_grammar.specs.Scopes.{Opened, opened, declarations}
 use Rattle.doc_grammar.specs.Document.{Level, blank, fresh, typed, rooted}
 use Rattle.doc_grammar.specs.Machine.{Stack, ground, element, State, Stop, other, content, scope_of, stop_before_name, with_declared}
-use Rattle.doc_reader.specs.View.{name_of}
+use Rattle.xml_source.specs.View.{name_of}
 use Rattle.doc_reader.specs.declared.readers.Frame as code
 use Rattle.doc_reader.specs.declared.readers.Level as level
 use Rattle.doc_reader.specs.declared.readers.Level.TheVariants.{Blank, Fresh, Typed, Rooted}
 use Rattle.doc_reader.specs.declared.readers.Reader.{Reader}
+use Rattle.xt_names.specs.Characters.{starts_name}
 
 abbrev pub level_of : level.Level → Level
 level_of Blank = blank

@@ -1,13 +1,5 @@
-pub mod Reading
-pub mod Sources
-pub mod Classes
 pub mod View
-pub mod References
-pub mod Asides
-pub mod Spelling
 pub mod Pools
-pub mod PrologParts
 pub mod Opening
 pub mod Frames
-pub mod LineEnds
 pub mod Fault

@@ -4,20 +4,19 @@ ghost use Rattle.doc_grammar.specs.RawNames.{written_name, tag_named};
 ghost use Rattle.doc_grammar.specs.Scopes.{opened};
 ghost use Rattle.doc_grammar.specs.Document.{AtEnd, element_of};
 ghost use Rattle.doc_grammar.specs.Machine.{Stack, tag, tagged, slashed, ending, ended, may_open, scope_of, with_child};
-ghost use Rattle.doc_reader.specs.Reading.{reads, stop_of, Fails, Ran};
-ghost use Rattle.doc_reader.specs.Sources.{NextIs, NotNext};
-ghost use Rattle.doc_reader.specs.View.{name_of, tag_of};
+ghost use Rattle.xml_source.specs.Reading.{reads, stop_of, Fails, Ran};
+ghost use Rattle.xml_source.specs.Sources.{NextIs};
+ghost use Rattle.xt_names.specs.Characters.{NotNext};
+ghost use Rattle.xml_source.specs.View.{name_of};
+ghost use Rattle.doc_reader.specs.View.{tag_of};
 ghost use Rattle.doc_reader.specs.Frames.{open_in, here, base_of, stack_of, outside, stop_before, Pushes};
 ghost use Rattle.doc_grammar.specs.Signs as sign;
 
-use crate::classes::starts_name;
-use crate::names::RawName;
 use crate::readers::{Frame, LIMIT, Level, Reader};
 use crate::scopes::open_tag;
-use crate::sources::Source;
-use crate::steps::{Step, Stop};
-use crate::tags::RawTag;
+use crate::tags::{self, RawTag};
 use std::alloc::{AllocError, Global};
+use xml_source::{RawName, Source, Step, Stop, starts_name};
 use xt_names::{List, Text};
 use xt_tree::Tree;
 
@@ -71,7 +70,7 @@ impl<'a> Reader<'a> {
             name,
             attributes: Vec::new(alloc),
         };
-        match self.source.tag(alloc, &mut self.piece, &mut tag)? {
+        match tags::tag(&mut self.source, alloc, &mut self.piece, &mut tag)? {
             Step::On => self.open(alloc, tag),
             stopped => Ok(stopped),
         }
@@ -177,7 +176,7 @@ impl<'a> Reader<'a> {
             None => Ok(Step::Stopped(Stop::Other)),
             Some(frame) => {
                 let _slash = self.source.eat('/');
-                if self.source.end_tag(frame.name) {
+                if end_tag(&mut self.source, frame.name) {
                     self.close(alloc, frame)?;
                     Ok(Step::On)
                 } else {
@@ -227,16 +226,14 @@ impl<'a> Reader<'a> {
     }
 }
 
-impl<'a> Source<'a> {
-    /// Takes an end tag of the name, after its `/`.
-    fn end_tag(&mut self, name: RawName<'_>) -> bool
-        ensures ends { (st : Stack) → MatchBool result (reads self.old (ending (written_name (name_of name.entry)) st) ≡ reads (62 ∷ self.new) (ended st)) (Fails (reads self.old (ending (written_name (name_of name.entry)) st)) self.new) }
-        ensures shorter { length self.new ≤ length self.old }
-    {
-        if !self.end_name(name) {
-            return false;
-        }
-        let _space = self.spaces();
-        self.eat('>')
+/// Takes an end tag of the name, after its `/`.
+fn end_tag(source: &mut Source<'_>, name: RawName<'_>) -> bool
+    ensures ends { (st : Stack) → MatchBool result (reads source.old (ending (written_name (name_of name.entry)) st) ≡ reads (62 ∷ source.new) (ended st)) (Fails (reads source.old (ending (written_name (name_of name.entry)) st)) source.new) }
+    ensures shorter { length source.new ≤ length source.old }
+{
+    if !source.end_name(name) {
+        return false;
     }
+    let _space = source.spaces();
+    source.eat('>')
 }

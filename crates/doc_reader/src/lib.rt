@@ -18,33 +18,22 @@ ghost use Rattle.doc_grammar.specs.Document.{IsDocument};
 ghost use Rattle.doc_grammar.specs.Declarations.{IsDeclared};
 ghost use Rattle.doc_grammar.specs.Machine.{run, start, whole};
 ghost use Rattle.doc_grammar.specs.Faults.{first_fault, spot_at};
-ghost use Rattle.doc_reader.specs.Reading.{stop_of};
+ghost use Rattle.xml_source.specs.Reading.{stop_of};
 ghost use Rattle.doc_reader.specs.Fault.{HasReadCause, Refused};
 
-mod asides;
-mod buffers;
-mod classes;
 mod elements;
 mod faults;
-mod lines;
-mod names;
 mod pools;
-mod prolog;
 mod readers;
-mod references;
 mod scopes;
-mod sources;
-mod steps;
 mod tags;
 mod values;
 
 pub use doc_grammar::Spot;
 pub use faults::ReadFault;
-use lines::{has_return, with_line_feeds};
 use readers::{Reader, Whole};
-use sources::Source;
 use std::alloc::{AllocError, Global};
-use steps::Stop;
+use xml_source::{Source, Stop, has_return, offset, with_line_feeds};
 use xt_names::{Binding, List};
 use xt_tree::Tree;
 
@@ -119,7 +108,7 @@ fn read_text(alloc: Global, text: &str) -> Result<Result<Whole, Spot>, AllocErro
     }
 }
 
-/// Reads a text whose line ends have become line feeds; so many bytes stand before it.
+/// Reads a text whose line ends have become line feeds; so many bytes come before it.
 fn read_lines(
     alloc: Global,
     before: usize,
@@ -136,7 +125,7 @@ fn read_lines(
         Ok(whole) => Ok(Ok(whole)),
         Err(refusal) => {
             let taken = Source::new(fed).left() - refusal.left;
-            let at = before as u64 + lines::offset(text, taken);
+            let at = before as u64 + offset(text, taken);
             Ok(Err(spot(refusal.stop, at)))
         }
     }

@@ -1,24 +1,20 @@
 // The reader: what is open, and what comes next.
 ghost use Rattle.std.specs.Prelude.{◌≡◌, ◌<◌, ◌≤◌, [], true, false, length, List, ℕ, IfOk, OnOk, MatchBool, MatchResult, ◌⊎◌};
 ghost use Rattle.std.specs.Str.{chars};
-ghost use Rattle.doc_grammar.specs.Characters.{is_name_char};
+ghost use Rattle.xt_names.specs.Characters.{is_name_char, Ends, NotNext};
 ghost use Rattle.doc_grammar.specs.Lexing.{dash};
-ghost use Rattle.doc_grammar.specs.Lexemes.{Ends, is_target};
+ghost use Rattle.doc_grammar.specs.Lexemes.{is_target};
 ghost use Rattle.doc_grammar.specs.Document.{begun, blank, rooted, may_type};
 ghost use Rattle.doc_grammar.specs.Machine.{tag, bang, targeting, marked, content, with_aside, with_text, declares, start, finish, whole, stops, other};
-ghost use Rattle.doc_reader.specs.Reading.{reads, stop_of, Ran, OnStep};
-ghost use Rattle.doc_reader.specs.Sources.{NextIs, NotNext};
+ghost use Rattle.xml_source.specs.Reading.{reads, stop_of, Ran, OnStep};
+ghost use Rattle.xml_source.specs.Sources.{NextIs};
 ghost use Rattle.doc_reader.specs.Frames.{level_of, open_in, here};
 ghost use Rattle.doc_grammar.specs.Signs as sign;
 
-use crate::buffers::Buffer;
-use crate::classes::{Bracket, PlainText};
-use crate::names::RawName;
 use crate::pools::Pool;
-use crate::sources::Source;
-use crate::steps::{Step, Stop};
-use name_scopes::Scope;
+use name_scopes::NamespaceScope;
 use std::alloc::{AllocError, Global};
+use xml_source::{Bracket, Buffer, PlainText, RawName, Source, Step, Stop};
 use xt_names::{Binding, List, Name, Text, is_ascii_text};
 use xt_tree::{Attrs, Kids, Tree};
 
@@ -55,7 +51,7 @@ pub(crate) struct Reader<'a> {
     /// The elements that are open, the innermost last.
     pub(crate) frames: Vec<Frame<'a>>,
     /// The bindings in force, the innermost last.
-    pub(crate) scope: Scope,
+    pub(crate) scope: NamespaceScope,
     /// The text so far in the innermost element.
     pub(crate) text: Buffer,
     /// What is being read of a value, a comment or an instruction.
@@ -77,7 +73,7 @@ impl<'a> Reader<'a> {
         Ok(Reader {
             source: Source::new(text),
             frames: Vec::new(alloc),
-            scope: Scope::new(alloc),
+            scope: NamespaceScope::new(alloc),
             text: Buffer::new(alloc),
             piece: Buffer::new(alloc),
             level: Level::Blank,

@@ -5,14 +5,15 @@ ghost use Rattle.std.specs.Option.{option_map};
 ghost use Rattle.std.specs.Str.{chars};
 ghost use Rattle.name_scopes.specs.Scopes.{bound_uri};
 ghost use Rattle.doc_grammar.specs.Scopes.{declared_by, declarations, is_binding, prefixes_differ, prefix_name, are_declarations, element_name, attribute_name, named_attributes, opened, in_namespace, with_declaration, one_named, behind_named};
-ghost use Rattle.doc_reader.specs.View.{name_of, attribute_of, tag_of};
+ghost use Rattle.xml_source.specs.View.{name_of};
+ghost use Rattle.doc_reader.specs.View.{attribute_of, tag_of};
 ghost use Rattle.doc_reader.specs.Opening.{OpensTag};
 
-use crate::names::RawName;
 use crate::pools::Pool;
 use crate::tags::{RawAttribute, RawTag};
-use name_scopes::Scope;
+use name_scopes::NamespaceScope;
 use std::alloc::{AllocError, Global};
+use xml_source::RawName;
 use xt_names::{Binding, List, Name, Text, is_ascii_text, keeps_xml, keeps_xmlns};
 use xt_tree::{Attribute, Attrs, names_differ};
 
@@ -41,7 +42,7 @@ pub(crate) struct OpenedTag {
 pub(crate) fn open_tag(
     alloc: Global,
     pool: &mut Pool,
-    scope: &mut Scope,
+    scope: &mut NamespaceScope,
     tag: &RawTag<'_>,
 ) -> Result<Option<OpenedTag>, AllocError>
     ensures { IfOk result (λ o. MatchOption o (opened scope.old (tag_of tag.now) ≡ None) (λ t. OpensTag scope.old (tag_of tag.now) t scope.new)) }
@@ -164,7 +165,7 @@ fn prefix_name(pool: &Pool, binding: &Binding) -> Result<Attribute, AllocError>
 fn element_name(
     alloc: Global,
     pool: &mut Pool,
-    scope: &Scope,
+    scope: &NamespaceScope,
     name: RawName<'_>,
 ) -> Result<Option<Name>, AllocError>
     ensures { IfOk result (λ made. made ≡ element_name scope.now (name_of name.entry)) }
@@ -190,7 +191,7 @@ fn element_name(
 fn attribute_name(
     alloc: Global,
     pool: &mut Pool,
-    scope: &Scope,
+    scope: &NamespaceScope,
     name: RawName<'_>,
 ) -> Result<Option<Name>, AllocError>
     ensures { IfOk result (λ made. made ≡ attribute_name scope.now (name_of name.entry)) }
@@ -211,7 +212,7 @@ fn attribute_name(
 fn prefixed_name(
     alloc: Global,
     pool: &mut Pool,
-    scope: &Scope,
+    scope: &NamespaceScope,
     prefix: &str,
     local: &str,
 ) -> Result<Option<Name>, AllocError>
@@ -231,7 +232,7 @@ fn prefixed_name(
 fn named_attributes(
     alloc: Global,
     pool: &mut Pool,
-    scope: &Scope,
+    scope: &NamespaceScope,
     attributes: &[RawAttribute<'_>],
 ) -> Result<Option<List<Attribute>>, AllocError>
     ensures { IfOk result (λ made. made ≡ named_attributes scope.now (map attribute_of attributes.now)) }
@@ -249,7 +250,7 @@ fn named_attributes(
 fn name_one(
     alloc: Global,
     pool: &mut Pool,
-    scope: &Scope,
+    scope: &NamespaceScope,
     attribute: &RawAttribute<'_>,
     named: &mut List<Attribute>,
 ) -> Result<bool, AllocError>

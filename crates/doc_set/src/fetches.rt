@@ -5,11 +5,8 @@ ghost use Rattle.doc_set.specs.Fetches.{AreHeld, HasFetchCause, HasNameCause};
 ghost use Rattle.doc_set.specs.declared.fetches.FetchFault.TheVariants.{Memory};
 
 use std::alloc::{AllocError, Global};
-use xt_io::{Files, LoadFault};
+use xt_io::{Files, LoadFault, load_file};
 use xt_names::{List, Text};
-
-/// The greatest number of bytes of a file that is loaded.
-const FILE_LIMIT: u64 = 67_108_864;
 
 /// Why the files of a set are not fetched.
 #[derive(Drop)]
@@ -32,6 +29,7 @@ impl From<AllocError> for FetchFault {
 
 /// The bytes of the files of these names, in turn. A refusal tells the first name whose file cannot
 /// be read, or is longer than 67,108,864 bytes; nothing is loaded after it.
+#[tactic(auto, using(xt_io::proofs::LoadLemmas::keeps_none, xt_io::proofs::LoadLemmas::keeps_then))]
 pub fn fetch<F: Files>(
     alloc: Global,
     files: &mut F,
@@ -55,7 +53,7 @@ fn fetch_one<F: Files>(alloc: Global, files: &mut F, name: &Text) -> Result<List
     ensures refused { IfErr result (HasNameCause (F.state files.old) (F.state files.new) name.now) }
     ensures keeps { KeepsFiles (F.state files.old) (F.state files.new) }
 {
-    match files.load(alloc, name.as_str(), FILE_LIMIT) {
+    match load_file(alloc, files, name.as_str()) {
         Ok(bytes) => Ok(List::of_vec(bytes)),
         Err(LoadFault::Failed) => Err(FetchFault::Load(name.copy()?)),
         Err(LoadFault::TooLong(n)) => Err(FetchFault::TooLong(name.copy()?, n)),

@@ -10,6 +10,7 @@
 
 mod fetches;
 mod sets;
+pub mod white_space;
 
 pub use fetches::{FetchFault, fetch};
 pub use sets::{DocSet, documents_stay_sound};

@@ -6,7 +6,8 @@ use Rattle.xt_names.specs.Allowed.{is_empty_text}
 use Rattle.xt_names.specs.declared.names.Binding.{Binding}
 use Rattle.xt_names.specs.declared.names.Name.{Name}
 use Rattle.xt_tree.specs.declared.attributes.Attribute.{Attribute}
-use Rattle.name_scopes.specs.Scopes.{binding, binds_to, free_prefix}
+use Rattle.name_scopes.specs.Scopes.{binds_to, free_prefix}
+use Rattle.xt_names.specs.ExprNames.{binding}
 
 -- a start tag as far as it is settled
 pub record Head : Type 0 where

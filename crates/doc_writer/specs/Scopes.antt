@@ -2,7 +2,7 @@
 use Rattle.std.specs.Prelude.{List, [], ◌∷◌, codes}
 use Rattle.xt_names.specs.Allowed.{xml_uri}
 use Rattle.xt_names.specs.declared.names.Binding.{Binding}
-use Rattle.name_scopes.specs.Scopes.{binding}
+use Rattle.xt_names.specs.ExprNames.{binding}
 
 -- xml is bound from the start, and the empty prefix to no uri
 abbrev pub first_scope : List Binding

@@ -1,10 +1,10 @@
 ghost use Rattle.std.specs.Prelude.{◌≡◌, ℕ, ◌++◌, ◌∷◌, ◌≤◌, [], length, take, IfOk, OnOk};
 ghost use Rattle.doc_writer.specs.Heads.{head_of, keeps_prefix, may_declare, with_element, with_attribute};
 ghost use Rattle.doc_writer.specs.HeadView.{head_at};
-ghost use Rattle.name_scopes.specs.Scopes.{binding};
+ghost use Rattle.xt_names.specs.ExprNames.{binding};
 
 use crate::used::UsedPrefixes;
-use name_scopes::Scope;
+use name_scopes::NamespaceScope;
 use std::alloc::{AllocError, Global};
 use xt_names::{Name, Text};
 use xt_tree::Attribute;
@@ -12,7 +12,7 @@ use xt_tree::Attribute;
 /// The scope, and the prefixes that the present start tag writes.
 #[derive(Drop)]
 pub(crate) struct Heads {
-    pub scope: Scope,
+    pub scope: NamespaceScope,
     /// The prefix of the element, and then those of its attributes.
     pub used: UsedPrefixes,
 }

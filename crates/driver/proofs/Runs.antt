@@ -6,14 +6,15 @@ use Rattle.xt_io.specs.Files.{FilesState, IsMissing, HoldsAtLeast}
 use Rattle.xt_io.specs.Sink.{SinkState, Puts}
 use Rattle.xt_io.proofs.SinkLemmas.{Puts-none, Puts-whole}
 use Rattle.command_words.specs.Requests.{Asked, Transform, Query, Inputs, request_of}
-use Rattle.sheet_runs.specs.Texts.{IsNoSheetTextAs}
-use Rattle.query_runs.specs.Texts.{IsNoQueryTextAs}
+use Rattle.driver.specs.SheetRuns.Texts.{IsNoSheetTextAs}
+use Rattle.driver.specs.QueryRuns.Texts.{IsNoQueryTextAs}
 use Rattle.driver.specs.Meaning.{HasText, IsRefusedAs}
 use Rattle.run_parts.specs.Status.{Tells, Writes}
 use Rattle.driver.specs.Theorem.{Answers, Completes, IsClean, Notes}
 use Rattle.run_parts.specs.declared.status.Status.{Status}
 use Rattle.run_parts.specs.declared.status.Status.TheVariants.{Done, Usage, Load, TooLong, Malformed}
 use Rattle.run_parts.specs.declared.status.Status.TheVariants.{Static, Dynamic, Deep, Write, Memory}
+use Rattle.xt_names.proofs.ListLemmas.{some_same}
 
 -- there is no text of a stylesheet, as the request for it is refused
 pub sheet_refused : (sheet : List ℕ) (inputs : Inputs) (old new : FilesState) (status : Status)
@@ -85,9 +86,6 @@ notes_told notes notes' Done t =
 notes_told notes notes' Memory t =
     (Memory, elim t [ inl whole ↦ Puts-whole _ _ _ whole | inr part ↦ part.0 ])
 notes_told notes notes' _ t = t
-
-some_same : {A : Type 0} {x y : A} → Some x ≡ Some y → x ≡ y
-some_same e = cc
 
 held_same : (files : FilesState) (map : List ℕ → Option (List ℕ)) (name bytes : List ℕ)
     → files.held ≡ Some map → map name ≡ Some bytes → IsMissing files.held name → ⊥

@@ -1,2 +1,4 @@
 pub mod Meaning
 pub mod Theorem
+pub mod QueryRuns
+pub mod SheetRuns

@@ -6,13 +6,13 @@ use Rattle.xt_names.specs.declared.codes.Code.{Code}
 use Rattle.doc_grammar.specs.declared.spots.Spot.{Spot}
 use Rattle.command_words.specs.Requests.{Asked, Transform, Query, request_of}
 use Rattle.command_words.specs.Words.{Words}
-use Rattle.run_parts.specs.Inputs.{IsLoadFailure, IsTooLong}
-use Rattle.sheet_runs.specs.Sheets.{IsSheetBroken}
-use Rattle.sheet_runs.specs.Texts.{HasSheetText, IsSheetReached, IsSheetMalformed, IsSheetFailing}
-use Rattle.sheet_runs.specs.Texts.{IsSheetTooDeep}
-use Rattle.query_runs.specs.Queries.{HoldsNoQuery}
-use Rattle.query_runs.specs.Texts.{HasQueryText, IsQueryReached, IsQueryMalformed, IsQueryFailing}
-use Rattle.query_runs.specs.Texts.{IsQueryTooDeep}
+use Rattle.xt_io.specs.Loads.{IsLoadFailure, IsTooLong}
+use Rattle.driver.specs.SheetRuns.Sheets.{IsSheetBroken}
+use Rattle.driver.specs.SheetRuns.Texts.{HasSheetText, IsSheetReached, IsSheetMalformed, IsSheetFailing}
+use Rattle.driver.specs.SheetRuns.Texts.{IsSheetTooDeep}
+use Rattle.driver.specs.QueryRuns.Queries.{HoldsNoQuery}
+use Rattle.driver.specs.QueryRuns.Texts.{HasQueryText, IsQueryReached, IsQueryMalformed, IsQueryFailing}
+use Rattle.driver.specs.QueryRuns.Texts.{IsQueryTooDeep}
 use Rattle.run_parts.specs.declared.status.Status.{Status}
 use Rattle.run_parts.specs.declared.status.Status.TheVariants.{Load, TooLong, Malformed, Static}
 use Rattle.run_parts.specs.declared.status.Status.TheVariants.{Dynamic, Deep, Memory}

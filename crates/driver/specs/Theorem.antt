@@ -10,7 +10,7 @@ use Rattle.xt_io.specs.Sink.{SinkState, Puts, PutsPrefix}
 use Rattle.doc_grammar.specs.declared.spots.Spot.{Spot}
 use Rattle.command_words.specs.Requests.{Asked, request_of}
 use Rattle.command_words.specs.Words.{Words}
-use Rattle.run_parts.specs.Inputs.{file_limit}
+use Rattle.xt_io.specs.Loads.{file_limit}
 use Rattle.driver.specs.Meaning.{Means, IsRefusedAs, IsReached, IsBroken, IsMalformed, IsFailing}
 use Rattle.driver.specs.Meaning.{IsTooDeep}
 use Rattle.run_parts.specs.Status.{note_line, Tells}

@@ -18,6 +18,8 @@
 #![tactic(auto)]
 
 mod program;
+pub mod query_runs;
+pub mod sheet_runs;
 
 pub use program::run;
 pub use run_parts::{ProfileRule, Status};

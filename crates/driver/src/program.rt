@@ -7,10 +7,10 @@ ghost use Rattle.command_words.specs.Texts.{are_different};
 ghost use Rattle.driver.specs.Meaning.{HasText, IsRefusedAs};
 ghost use Rattle.driver.specs.Theorem.{Answers, Completes, Keeps, Notes};
 
+use crate::query_runs::query_text;
+use crate::sheet_runs::sheet_text;
 use command_words::{Request, read_request};
-use query_runs::query_text;
 use run_parts::{Status, tell, write};
-use sheet_runs::sheet_text;
 use std::alloc::{AllocError, Global};
 use xt_io::{Files, Sink};
 
@@ -46,7 +46,7 @@ pub fn run<F: Files, S: Sink, N: Sink>(
 }
 
 // All but the note.
-#[tactic(auto, using(run_parts::proofs::Loads::keeps_none))]
+#[tactic(auto, using(xt_io::proofs::LoadLemmas::keeps_none))]
 fn perform<F: Files, S: Sink>(alloc: Global, words: &[String], files: &mut F, out: &mut S) -> Status
     ensures answers { Answers (map string_bytes words.now) (F.state files.old) (F.state files.new)
         (S.state out.old) (S.state out.new) result }

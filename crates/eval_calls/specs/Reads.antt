@@ -1,7 +1,7 @@
 -- What a function reads of the focus (XPath 2.0, 3.1.5).
 use Rattle.std.specs.Prelude.{List, Option, Some, None}
 use Rattle.xdm_items.specs.declared.items.Item.{Item}
-use Rattle.sort_meaning.specs.Sorted.{Placed}
+use Rattle.expr_meaning.specs.SortMeaning.Sorted.{Placed}
 use Rattle.expr_meaning.specs.Calls.{position_of, size_of, text_of_item, item_of}
 use Rattle.eval_calls.specs.declared.arguments.Read.{Read}
 use Rattle.eval_calls.specs.declared.arguments.Read.TheVariants as read

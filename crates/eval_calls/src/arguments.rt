@@ -8,9 +8,9 @@ ghost use Rattle.eval_calls.specs.Reads.{reads, read_at};
 
 use eval_scopes::Focus;
 use eval_scopes::eval_values::{Place, one};
-use function_arguments::{integer_list, text_list};
 use function_table::Builtin;
 use std::alloc::{AllocError, Global};
+use xdm_items::function_arguments::{integer_list, text_list};
 use xdm_items::{Item, ItemList};
 use xt_atoms::{ValueFault, to_text};
 use xt_names::{Code, DynamicCode, List, Text};

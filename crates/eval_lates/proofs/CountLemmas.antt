@@ -9,10 +9,10 @@ use Rattle.xt_names.specs.declared.codes.Code.TheVariants.{Dynamic}
 use Rattle.xt_names.specs.declared.codes.DynamicCode.TheVariants.{FOAR0002}
 use Rattle.xdm_items.specs.declared.items.Item.{Item}
 use Rattle.function_table.specs.declared.builtins.Builtin.TheVariants.{Count, Exists, Empty}
-use Rattle.function_arguments.specs.Answers.{of_truth, of_integer}
-use Rattle.sequence_functions.specs.Cardinality.{counted, has_no_item}
-use Rattle.sequence_functions.specs.Cardinality.{has_item as has_one}
-use Rattle.eval_scopes.specs.ItemFunctions.OnSequences.{count_of, empty_of, exists_of}
+use Rattle.xdm_items.specs.FunctionArguments.Answers.{of_truth, of_integer}
+use Rattle.item_functions.specs.SequenceFunctions.Cardinality.{counted, has_no_item}
+use Rattle.item_functions.specs.SequenceFunctions.Cardinality.{has_item as has_one}
+use Rattle.item_functions.specs.OnSequences.{count_of, empty_of, exists_of}
 use Rattle.eval_scopes.specs.FnLib.Functions.{function_value, value_of}
 use Rattle.eval_scopes.specs.NodeWalks.Moves.{has_item}
 

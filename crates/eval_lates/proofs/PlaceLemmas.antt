@@ -10,11 +10,12 @@ use Rattle.xt_names.specs.declared.codes.Code.TheVariants.{Dynamic}
 use Rattle.xt_names.specs.declared.codes.DynamicCode.TheVariants.{FOAR0002}
 use Rattle.xdm_items.specs.declared.items.Item.{Item}
 use Rattle.eval_scopes.specs.LazySeq.Flow.{item_at}
-use Rattle.outcomes.specs.Outcome.{Outcome, Ends, Fails, for_each}
-use Rattle.sort_meaning.specs.Sorted.{placed_from}
-use Rattle.eval_scopes.specs.ExprMeaning.Env.{Env}
-use Rattle.eval_scopes.specs.ExprMeaning.Paths.{alone_if, kept, kept_item}
+use Rattle.expr_meaning.specs.Outcomes.Outcome.{Outcome, Ends, Fails, for_each}
+use Rattle.expr_meaning.specs.SortMeaning.Sorted.{placed_from}
+use Rattle.expr_meaning.specs.Env.{Env}
+use Rattle.expr_meaning.specs.Paths.{alone_if, kept, kept_item}
 use Rattle.eval_lates.specs.Late.{literal}
+use Rattle.std.proofs.lemmas.Bool.{false_from_ne_true}
 
 abbrev alone : Item → Bool → List Item
 alone x true = x ∷ []
@@ -41,13 +42,9 @@ abbrev nat_of : ℤ → ℕ
 nat_of (pos n) = n
 nat_of (negsuc n) = 0
 
-not_true : (b : Bool) → (b ≡ true → ⊥) → b ≡ false
-not_true true h = absurd (h refl)
-not_true false h = refl
-
 other_place : (a b : ℕ) → (a ≡ b → ⊥) → int_eq (pos a) (pos b) ≡ false
 other_place a b h =
-    not_true (int_eq (pos a) (pos b)) (λ e. h (ap nat_of ((Decides-int_eq (pos a) (pos b)).0 e)))
+    false_from_ne_true (int_eq (pos a) (pos b)) (λ e. h (ap nat_of ((Decides-int_eq (pos a) (pos b)).0 e)))
 
 later_place : (a b : ℕ) → a < b → int_eq (pos b) (pos a) ≡ false
 later_place a b h = other_place b a (λ e. absurd (omega (arith, h, e)))

@@ -5,9 +5,9 @@ use Rattle.xdm_items.specs.declared.items.Item.{Item}
 use Rattle.xdm_items.specs.declared.items.Item.TheVariants.{Atom}
 use Rattle.eval_scopes.specs.NodeWalks.Moves.{given}
 use Rattle.eval_scopes.specs.LazySeq.Flow.{Flow}
-use Rattle.outcomes.specs.Outcome.{Outcome, Ends}
-use Rattle.eval_scopes.specs.ExprMeaning.Env.{Meaning}
-use Rattle.eval_scopes.specs.ExprMeaning.Values.{just}
+use Rattle.expr_meaning.specs.Outcomes.Outcome.{Outcome, Ends}
+use Rattle.expr_meaning.specs.Env.{Meaning}
+use Rattle.expr_meaning.specs.Values.{just}
 use Rattle.eval_scopes.specs.declared.faults.EvalFault.{EvalFault}
 use Rattle.eval_scopes.specs.Answers.{IsFaultOf}
 

@@ -5,18 +5,18 @@ ghost use Rattle.xt_atoms.specs.Casts.{Answers};
 ghost use Rattle.eval_scopes.specs.NodeWalks.Moves.{given, has_item};
 ghost use Rattle.std.specs.Bool.{beq};
 ghost use Rattle.std.specs.Prelude.{Ok as is_ok};
-ghost use Rattle.function_arguments.specs.Answers.{of_truth};
-ghost use Rattle.eval_scopes.specs.ItemFunctions.OnSequences.{count_of};
+ghost use Rattle.xdm_items.specs.FunctionArguments.Answers.{of_truth};
+ghost use Rattle.item_functions.specs.OnSequences.{count_of};
 ghost use Rattle.eval_scopes.specs.FnLib.Functions.{function_value};
 
 use eval_scopes::fn_lib::{Builtin, call};
 use eval_scopes::lazy_seq::Seq;
-use function_arguments::{integer_list, truth_list};
 use node_axes::Steps;
 use std::alloc::{AllocError, Global};
 use std::marker::Brand;
 use std::sync::ledger::{Blank, Ledger};
 use xdm_items::ItemList;
+use xdm_items::function_arguments::{integer_list, truth_list};
 use xt_atoms::ValueFault;
 use xt_names::{Code, DynamicCode};
 

@@ -21,7 +21,7 @@ fn next_counted<L: Ledger>(blank: Blank, items: &mut Seq) -> Result<Option<Item>
     Ok(item)
 }
 
-/// Takes the first item out; None exactly where there is none. None behind it is looked for.
+/// Takes the first item out; None exactly where there is none. None after it is looked for.
 #[inline(never)]
 pub fn late_next(items: &mut Seq) -> Result<Option<Item>, AllocError>
     ensures { IfOk result (λ item. IsNext item (given items.old.moves) (given items.new.moves)) }

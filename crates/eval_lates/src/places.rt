@@ -3,9 +3,9 @@ ghost use Rattle.std.specs.Prelude.{◌≡◌, ◌<◌, ◌^◌, ℕ, ◌∷◌,
 ghost use Rattle.std.specs.Option.{option_to_list};
 ghost use Rattle.eval_scopes.specs.NodeWalks.Moves.{given};
 ghost use Rattle.eval_scopes.specs.LazySeq.Flow.{item_at};
-ghost use Rattle.outcomes.specs.Outcome.{Ends};
-ghost use Rattle.eval_scopes.specs.ExprMeaning.Env.{Env};
-ghost use Rattle.eval_scopes.specs.ExprMeaning.Paths.{kept};
+ghost use Rattle.expr_meaning.specs.Outcomes.Outcome.{Ends};
+ghost use Rattle.expr_meaning.specs.Env.{Env};
+ghost use Rattle.expr_meaning.specs.Paths.{kept};
 ghost use Rattle.eval_scopes.specs.Answers.{Answers};
 ghost use Rattle.eval_lates.specs.Late.{literal};
 
@@ -43,7 +43,7 @@ fn item_there(alloc: Global, items: Seq, place: i64) -> Result<ItemList, AllocEr
 }
 
 /// What a predicate that is an integer keeps of at most 2^63-1 items: the item at that position,
-/// which counts from 1 (XPath 2.0, 3.3.2). Those behind it are not looked for.
+/// which counts from 1 (XPath 2.0, 3.3.2). Those after it are not looked for.
 pub fn late_place(alloc: Global, items: Seq, place: i64) -> Result<ItemList, AllocError>
     requires { length (given items.moves) < 2 ^ 63 }
     ensures { (env : Env) (k : ℕ) → IfOk result (λ list.

@@ -1,8 +1,8 @@
 // Variables.
 ghost use Rattle.std.specs.Prelude.{ℕ};
 ghost use Rattle.eval_scopes.specs.NodeWalks.Moves.{given};
-ghost use Rattle.eval_scopes.specs.ExprMeaning.Env.{Calls, Keys};
-ghost use Rattle.eval_scopes.specs.ExprMeaning.Values.{variable};
+ghost use Rattle.expr_meaning.specs.Env.{Calls, Keys};
+ghost use Rattle.expr_meaning.specs.Values.{variable};
 ghost use Rattle.eval_scopes.specs.Scopes.{env_of, program_of};
 ghost use Rattle.eval_lates.specs.Late.{AnswersLate};
 

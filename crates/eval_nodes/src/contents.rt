@@ -59,7 +59,7 @@ fn close(alloc: Global, made: &mut ItemList, run: Option<TextBuilder>) -> Result
     }
 }
 
-/// Takes one more item; what is answered is the run behind it.
+/// Takes one more item; what is answered is the run after it.
 fn take(
     alloc: Global,
     made: &mut ItemList,
@@ -82,7 +82,7 @@ fn take(
     }
 }
 
-/// The items, with each longest run of atoms as one text node, in which a space stands between the
+/// The items, with each longest run of atoms as one text node, in which a space is between the
 /// atoms (XQuery 1.0, 3.7.1.3).
 #[tactic(auto, unfolding(expr_meaning::specs::Making::joined_atoms))]
 #[inline(never)]

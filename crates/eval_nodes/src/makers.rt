@@ -89,7 +89,7 @@ pub fn make_text(alloc: Global, next: &mut u64, value: &str) -> Result<ItemList,
     listed(alloc, next, builder, built)
 }
 
-/// A comment; XQDY0072 where the text may not stand in one (XQuery 1.0, 3.7.3.6).
+/// A comment; XQDY0072 where the text may not be in one (XQuery 1.0, 3.7.3.6).
 #[inline(never)]
 pub fn make_comment(alloc: Global, next: &mut u64, value: &str) -> Result<ItemList, EvalFault>
     ensures { Answers result next.new (made (comment_of (chars value.now)) next.old) }
@@ -99,7 +99,7 @@ pub fn make_comment(alloc: Global, next: &mut u64, value: &str) -> Result<ItemLi
     listed(alloc, next, builder, built)
 }
 
-/// A processing instruction; XQDY0026 where the text may not stand in one (XQuery 1.0, 3.7.3.5).
+/// A processing instruction; XQDY0026 where the text may not be in one (XQuery 1.0, 3.7.3.5).
 #[inline(never)]
 pub fn make_pi(
     alloc: Global,

@@ -2,10 +2,8 @@
 ghost use Rattle.std.specs.Prelude.{◌≡◌, []};
 ghost use Rattle.std.specs.Str.{chars};
 ghost use Rattle.xt_atoms.specs.Casts.{Answers};
-ghost use Rattle.function_arguments.specs.Arguments.{and_then};
-ghost use Rattle.expr_meaning.specs.Names.{in_namespace, without_prefix};
-ghost use Rattle.expr_meaning.specs.Names.{name_of_text, name_of_atom};
-ghost use Rattle.expr_meaning.specs.Names.{name_of_items, attribute_name};
+ghost use Rattle.xdm_items.specs.FunctionArguments.Arguments.{and_then};
+ghost use Rattle.expr_meaning.specs.Names.{in_namespace, without_prefix, name_of_text, name_of_atom, name_of_items, attribute_name};
 
 use crate::uris::namespace_of;
 use expr_meaning::operator_values::atom_of;
@@ -47,7 +45,7 @@ fn without_prefix(alloc: Global, default: &Text, text: &str) -> Result<Name, Val
     })
 }
 
-#[tactic(auto, using(crate::proofs::UriLemmas::colon_chars), unfolding(expr_meaning::specs::Names::name_of_text))]
+#[tactic(auto, using(xt_names::proofs::TextLemmas::colon_chars), unfolding(expr_meaning::specs::Names::name_of_text))]
 fn name_of_text(
     alloc: Global,
     namespaces: &[Binding],

@@ -5,12 +5,13 @@ use Rattle.std.proofs.Math.Seq.{take-length}
 use Rattle.std.specs.Prelude.{Bool, true, false, if◌then◌else◌, Option, Some, None}
 use Rattle.xt_names.specs.declared.names.ExprName.{ExprName}
 use Rattle.xdm_items.specs.declared.items.Item.{Item}
-use Rattle.eval_values.specs.NodeWalks.Moves.{given}
-use Rattle.expr_meaning.specs.Env.{Binding, look_up, same_name}
+use Rattle.eval_scopes.specs.NodeWalks.Moves.{given}
+use Rattle.expr_meaning.specs.Env.{Binding, look_up}
 use Rattle.eval_scopes.specs.declared.scopes.Variable.{Variable}
 use Rattle.eval_scopes.specs.declared.scopes.Scope.{Scope}
 use Rattle.eval_scopes.specs.declared.scopes.Scope.TheVariants.{Outermost}
 use Rattle.eval_scopes.specs.Scopes.{binding_of, bindings, pushed_on}
+use Rattle.xt_names.specs.ExprNames.{same_name}
 
 pushed_append : (outer : List Binding) (vs : List Variable) →
     pushed_on outer vs ≡ pushed_on [] vs ++ outer

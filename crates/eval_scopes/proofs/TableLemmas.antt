@@ -5,11 +5,12 @@ use Rattle.std.specs.Prelude.{Bool, true, false, if◌then◌else◌, Option, So
 use Rattle.indexmap.specs.IndexMap.{IndexMap, get}
 use Rattle.xt_names.specs.declared.names.ExprName.{ExprName}
 use Rattle.xdm_items.specs.declared.items.Item.{Item}
-use Rattle.eval_values.specs.NodeWalks.Moves.{given}
-use Rattle.expr_meaning.specs.Env.{Binding, look_up, same_name}
+use Rattle.eval_scopes.specs.NodeWalks.Moves.{given}
+use Rattle.expr_meaning.specs.Env.{Binding, look_up}
 use Rattle.eval_scopes.specs.declared.scopes.Variable.{Variable}
 use Rattle.eval_scopes.specs.Bindings.{binding_of, pushed_on}
 use Rattle.eval_scopes.specs.Tables.{IsTableOf, last_place, place_or, value_in, value_there}
+use Rattle.xt_names.specs.ExprNames.{same_name}
 
 placed_last : (found : Option ℕ) (n : ℕ) (vs : List Variable) (v : Variable) (name : ExprName) →
     last_place found n (vs ++ v ∷ []) name

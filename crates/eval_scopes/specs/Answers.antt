@@ -1,7 +1,7 @@
 -- When an answer stands for an outcome.
 use Rattle.std.specs.Prelude.{◌≡◌, ℕ, Result, Ok, Err}
-use Rattle.outcomes.specs.Outcome.{Outcome, Ends, Fails}
-use Rattle.outcomes.specs.Outcome.{Deep as NoCallLeft}
+use Rattle.expr_meaning.specs.Outcomes.Outcome.{Outcome, Ends, Fails}
+use Rattle.expr_meaning.specs.Outcomes.Outcome.{Deep as NoCallLeft}
 use Rattle.eval_scopes.specs.declared.faults.EvalFault.{EvalFault}
 use Rattle.eval_scopes.specs.declared.faults.EvalFault.TheVariants.{Error, Deep, Memory}
 

@@ -1,6 +1,6 @@
 -- What variables bind.
 use Rattle.std.specs.Prelude.{List, [], ◌∷◌}
-use Rattle.eval_values.specs.NodeWalks.Moves.{given}
+use Rattle.eval_scopes.specs.NodeWalks.Moves.{given}
 use Rattle.expr_meaning.specs.Env.{Binding}
 use Rattle.eval_scopes.specs.declared.scopes.Variable.{Variable}
 

@@ -4,8 +4,8 @@ use Rattle.std.specs.Borrow.{Bor}
 use Rattle.xt_names.specs.declared.codes.Code.{Code}
 use Rattle.xt_atoms.specs.declared.atoms.Atom.{Atom as AtomValue}
 use Rattle.xdm_items.specs.declared.items.Item.{Item}
-use Rattle.eval_values.specs.NodeWalks.Moves.{given}
-use Rattle.eval_values.specs.LazySeq.Flow.{Flow}
+use Rattle.eval_scopes.specs.NodeWalks.Moves.{given}
+use Rattle.eval_scopes.specs.LazySeq.Flow.{Flow}
 use Rattle.expr_meaning.specs.SortMeaning.Sorted.{Placed}
 use Rattle.expr_meaning.specs.Env as meaning
 use Rattle.expr_meaning.specs.Env.{Binding, Calls, Keys, Program}
@@ -23,7 +23,7 @@ abbrev pub bindings : Scope → List Binding
 bindings Outermost = []
 bindings (Inner' variables p outer) = pushed_on (bindings outer) variables.now
 
--- the items behind a reference
+-- the items after a reference
 abbrev pub value_behind : Option (Bor Flow) → Option (List Item)
 value_behind None = None
 value_behind (Some value) = Some (given value.now.moves)

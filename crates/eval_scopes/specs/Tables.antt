@@ -4,9 +4,9 @@ use Rattle.std.specs.Prelude.{slice_get}
 use Rattle.indexmap.specs.IndexMap.{IndexMap, get}
 use Rattle.xt_names.specs.declared.names.ExprName.{ExprName}
 use Rattle.xdm_items.specs.declared.items.Item.{Item}
-use Rattle.eval_values.specs.NodeWalks.Moves.{given}
-use Rattle.expr_meaning.specs.Env.{same_name}
+use Rattle.eval_scopes.specs.NodeWalks.Moves.{given}
 use Rattle.eval_scopes.specs.declared.scopes.Variable.{Variable}
+use Rattle.xt_names.specs.ExprNames.{same_name}
 
 -- the place of what has the first name, or what was found before
 abbrev pub place_or : ExprName → ℕ → Option ℕ → ExprName → Option ℕ

@@ -3,10 +3,10 @@ ghost use Rattle.std.specs.Prelude.{◌≡◌, []};
 ghost use Rattle.expr_meaning.specs.Env.{no_state as without_state};
 ghost use Rattle.eval_scopes.specs.Scopes.{bindings, state_of};
 
+use crate::eval_values::Place;
 use crate::globals::Globals;
 use crate::scopes::Scope;
 use doc_set::DocSet;
-use eval_values::Place;
 use xdm_items::{Item, ItemList};
 use xt_atoms::Atom;
 use xt_names::{Binding, Text};

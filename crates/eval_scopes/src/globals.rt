@@ -2,7 +2,8 @@
 ghost use Rattle.std.specs.Prelude.{◌≡◌, ◌∷◌, [], IfOk, OnOk, Some as there};
 ghost use Rattle.indexmap.specs.IndexMap.{get};
 ghost use Rattle.xt_names.specs.declared.names.ExprName.{ExprName as AName};
-ghost use Rattle.expr_meaning.specs.Env.{look_up, same_name};
+ghost use Rattle.expr_meaning.specs.Env.{look_up};
+ghost use Rattle.xt_names.specs.ExprNames.{same_name};
 ghost use Rattle.eval_scopes.specs.Bindings.{binding_of};
 ghost use Rattle.eval_scopes.specs.Scopes.{value_behind};
 ghost use Rattle.eval_scopes.specs.Tables.{place_or, value_there};

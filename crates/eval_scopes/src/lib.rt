@@ -10,13 +10,13 @@
 #![tactic(auto)]
 
 mod environments;
+pub mod eval_values;
 mod faults;
 mod globals;
 mod leaves;
 mod scopes;
 
 pub use environments::{Env, Fixed, Focus, Group, State, no_state};
-pub use eval_values;
 pub use expr_meaning::{fn_lib, lazy_seq, operator_values};
 pub use faults::EvalFault;
 pub use globals::Globals;
@@ -24,3 +24,4 @@ pub use leaves::{
     context_item, document_of, document_root, document_value, variable, variable_list,
 };
 pub use scopes::{Scope, Variable, copy_variables, look_up};
+pub use xdm_items;

@@ -6,11 +6,11 @@ use Rattle.xdm_items.specs.declared.items.Item.{Item}
 use Rattle.xt_syntax.specs.declared.exprs.Expr.TheVariants.{Int, rolls-Int}
 use Rattle.xt_syntax.specs.declared.exprs.Expr.{Expr}
 use Rattle.xt_syntax.specs.declared.exprs.Clause.TheFolds.{fold-roll-Expr}
-use Rattle.outcomes.specs.Outcome.{Outcome, Ends, Fails, Deep, and_then}
-use Rattle.eval_nodes.specs.ExprMeaning.Env.{Env, Meaning, Program}
-use Rattle.eval_nodes.specs.ExprMeaning.Calls.{call_of, call_value, called}
-use Rattle.eval_nodes.specs.ExprMeaning.Meaning.{outcome}
-use Rattle.eval_nodes.specs.ExprMeaning.Paths.{filter_of, kept}
+use Rattle.expr_meaning.specs.Outcomes.Outcome.{Outcome, Ends, Fails, Deep, and_then}
+use Rattle.expr_meaning.specs.Env.{Env, Meaning, Program}
+use Rattle.expr_meaning.specs.Calls.{call_of, call_value, called}
+use Rattle.expr_meaning.specs.Meaning.{outcome}
+use Rattle.expr_meaning.specs.Paths.{filter_of, kept}
 use Rattle.eval_lates.specs.Late.{literal}
 
 one_list : {B : Type 0} (o : Outcome (List Item)) (go : List (List Item) → ℕ → Outcome B) →

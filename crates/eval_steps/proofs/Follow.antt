@@ -3,7 +3,7 @@ use Rattle.std.proofs.Common.{◌≡◌, ℕ, refl, ap, ◌∙◌, sym, List, []
 use Rattle.std.proofs.Common.{◌<◌, ◌≤◌, suc, length, map, drop, get_or, add-one, drop-cons}
 use Rattle.std.proofs.lemmas.List.{drop_all, append-nil}
 use Rattle.std.specs.Prelude.{Result, Ok, Err}
-use Rattle.outcomes.specs.Outcome.{Outcome, Ends, Fails, Deep, and_then, for_each}
+use Rattle.expr_meaning.specs.Outcomes.Outcome.{Outcome, Ends, Fails, Deep, and_then, for_each}
 use Rattle.eval_lates.specs.EvalScopes.declared.faults.EvalFault.{EvalFault}
 use Rattle.eval_lates.specs.EvalScopes.declared.faults.EvalFault.TheVariants as fault
 use Rattle.eval_lates.specs.EvalScopes.Answers.{IsFaultOf, Answers}

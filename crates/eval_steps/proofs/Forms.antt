@@ -23,37 +23,38 @@ use Rattle.xt_syntax.specs.declared.exprs.Clause.TheFolds.{fold_out-Arm, fold_ou
 use Rattle.xt_syntax.specs.declared.exprs.Clause.TheFolds.{fold_out-Order, fold_out-DirectAttr}
 use Rattle.xt_syntax.specs.declared.exprs.Clause.TheFolds.{fold_out-Flwor}
 use Rattle.xdm_items.specs.declared.items.Item.{Item}
-use Rattle.outcomes.specs.Outcome.{Outcome, Ends, Fails, and_then, step_outcome}
-use Rattle.outcomes.specs.Outcome.{Deep as NoCallLeft}
-use Rattle.eval_nodes.specs.ExprMeaning.Env.{Binding, Env, Meaning, Program, bind, at_focus}
-use Rattle.eval_nodes.specs.ExprMeaning.Logic.{Bound, truth_at, unless, first_of, choice_of, either_of}
-use Rattle.eval_nodes.specs.ExprMeaning.Logic.{item_decides, quantified, typed}
-use Rattle.eval_nodes.specs.ExprMeaning.Paths.{kept, kept_in_turn, kept_item, kept_at, alone_if}
-use Rattle.eval_nodes.specs.ExprMeaning.Paths.{step_items, step_of}
+use Rattle.expr_meaning.specs.Outcomes.Outcome.{Outcome, Ends, Fails, and_then, step_outcome}
+use Rattle.expr_meaning.specs.Outcomes.Outcome.{Deep as NoCallLeft}
+use Rattle.expr_meaning.specs.Env.{Binding, Env, Meaning, Program, bind, at_focus}
+use Rattle.expr_meaning.specs.Logic.{Bound, truth_at, unless, first_of, choice_of, either_of}
+use Rattle.expr_meaning.specs.Logic.{item_decides, quantified, typed}
+use Rattle.expr_meaning.specs.Paths.{kept, kept_in_turn, kept_item, kept_at, alone_if}
+use Rattle.expr_meaning.specs.Paths.{step_items, step_of}
 use Rattle.eval_lates.specs.LazySeq.Orders.{in_document_order}
 use Rattle.xt_types.specs.declared.axes.Axis.{Axis}
 use Rattle.xt_types.specs.declared.types.SeqType.{SeqType}
 use Rattle.xt_types.specs.declared.node_tests.Test.{Test}
-use Rattle.eval_nodes.specs.ExprMeaning.Flow.{let_clause}
-use Rattle.eval_nodes.specs.ExprMeaning.Making.{attribute_text, direct_attribute}
-use Rattle.eval_nodes.specs.ExprMeaning.Making.{literal_node}
-use Rattle.eval_nodes.specs.ExprMeaning.Meaning.{outcome, placed_clause}
-use Rattle.eval_nodes.specs.ExprMeaning.Values.{variable, of_focus}
-use Rattle.eval_nodes.specs.ExprMeaning.Calls.{call_of}
+use Rattle.expr_meaning.specs.Flow.{let_clause}
+use Rattle.expr_meaning.specs.Making.{attribute_text, direct_attribute}
+use Rattle.expr_meaning.specs.Making.{literal_node}
+use Rattle.expr_meaning.specs.Meaning.{outcome, placed_clause}
+use Rattle.expr_meaning.specs.Values.{variable, of_focus}
+use Rattle.expr_meaning.specs.Calls.{call_of}
 use Rattle.eval_lates.specs.EvalScopes.declared.faults.EvalFault.{EvalFault}
 use Rattle.eval_lates.specs.EvalScopes.declared.faults.EvalFault.TheVariants as fault
 use Rattle.eval_lates.specs.EvalScopes.Answers.{IsFaultOf}
 use Rattle.eval_steps.specs.Parts.{arm_outcome, bind_outcome, order_outcome, attr_outcome}
 use Rattle.eval_steps.specs.Parts.{part_outcome, clause_outcome, flwor_outcome}
-use Rattle.eval_steps.specs.Sizes.{total, nodes, arm_nodes, bind_nodes, order_nodes, attr_nodes}
+use Rattle.eval_steps.specs.Sizes.{nodes, arm_nodes, bind_nodes, order_nodes, attr_nodes}
 use Rattle.eval_steps.specs.Sizes.{part_nodes, clause_nodes, flwor_nodes, or_0}
 use Rattle.eval_steps.specs.Lists.{first_bound}
 use Rattle.eval_steps.specs.Steps.{alone, bound_outcome, key_of_tuple}
 use Rattle.xt_tree.specs.declared.trees.Tree.TheVariants.{Attr}
 use Rattle.xt_atoms.specs.Casts.{wrong_type}
 use Rattle.order_group.specs.Rows.{Cell}
-use Rattle.sort_meaning.specs.Sorted.{Placed, key_cell}
+use Rattle.expr_meaning.specs.SortMeaning.Sorted.{Placed, key_cell}
 use Rattle.eval_steps.proofs.Follow.{fault_first}
+use Rattle.xt_names.specs.Lists.{total}
 
 -- an element has no more nodes than its list
 pub within : {A : Type 0} (f : A → ℕ) (xs : List A) (i : ℕ) (x d : A) → i < length xs →

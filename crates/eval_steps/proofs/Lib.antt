@@ -2,3 +2,4 @@ pub mod Follow
 pub mod Forms
 pub mod Places
 pub mod CallLemmas
+pub mod EvalInner

@@ -7,11 +7,11 @@ use Rattle.xt_names.specs.declared.codes.Code.TheVariants.{Dynamic}
 use Rattle.xt_names.specs.declared.codes.DynamicCode.TheVariants.{FOAR0002, XPTY0019}
 use Rattle.xdm_items.specs.declared.items.Item.{Item}
 use Rattle.eval_lates.specs.OperatorValues.Nodes.{is_node}
-use Rattle.function_arguments.specs.Arguments.{and_then as result_then}
-use Rattle.outcomes.specs.Outcome.{Outcome, Ends, Fails, Deep, and_then, for_each, step_outcome}
-use Rattle.sort_meaning.specs.Sorted.{Placed, placed, placed_from, places}
-use Rattle.eval_nodes.specs.ExprMeaning.Env.{Env, Meaning, at_focus}
-use Rattle.eval_nodes.specs.ExprMeaning.Paths.{path_places, path_value, slash_of}
+use Rattle.xdm_items.specs.FunctionArguments.Arguments.{and_then as result_then}
+use Rattle.expr_meaning.specs.Outcomes.Outcome.{Outcome, Ends, Fails, Deep, and_then, for_each, step_outcome}
+use Rattle.expr_meaning.specs.SortMeaning.Sorted.{Placed, placed, placed_from, places}
+use Rattle.expr_meaning.specs.Env.{Env, Meaning, at_focus}
+use Rattle.expr_meaning.specs.Paths.{path_places, path_value, slash_of}
 use Rattle.eval_lates.specs.EvalScopes.declared.faults.EvalFault.{EvalFault}
 use Rattle.eval_lates.specs.EvalScopes.Answers.{Answers, IsFaultOf}
 use Rattle.eval_steps.proofs.Follow.{fault_first}

@@ -3,8 +3,8 @@ use Rattle.std.specs.Prelude.{◌≡◌, ℕ, List, [], ◌∷◌, ◌++◌, Res
 use Rattle.std.specs.declared.vec.Vec.{Vec}
 use Rattle.std.specs.declared.alloc.Global.{Global}
 use Rattle.xdm_items.specs.declared.items.Item.{Item}
-use Rattle.outcomes.specs.Outcome.{Outcome, Ends, and_then}
-use Rattle.eval_nodes.specs.ExprMeaning.Env.{Binding}
+use Rattle.expr_meaning.specs.Outcomes.Outcome.{Outcome, Ends, and_then}
+use Rattle.expr_meaning.specs.Env.{Binding}
 use Rattle.eval_lates.specs.EvalScopes.declared.faults.EvalFault.{EvalFault}
 use Rattle.eval_lates.specs.EvalScopes.declared.scopes.Variable.{Variable}
 use Rattle.eval_lates.specs.EvalScopes.Answers.{IsFaultOf}
@@ -15,19 +15,19 @@ abbrev pub AnswersAs : {A B : Type 0} → (A → B) → Result A EvalFault → �
 AnswersAs view (Ok v) k o = o ≡ Ends (view v) k
 AnswersAs view (Err fault) k o = IsFaultOf fault o
 
--- .. the list of what stands in a vector
+-- .. the list of what is in a vector
 abbrev pub AnswersAll : {A : Type 0} → Result (Vec A Global) EvalFault → ℕ → Outcome (List A) →
     Type 0
 AnswersAll result k o = AnswersAs (λ v. v.items) result k o
 
--- .. the variable that is put behind those that are bound
+-- .. the variable that is put after those that are bound
 abbrev pub AnswersPushed : Result (Unit {0}) EvalFault → List Variable → List Variable → ℕ →
     Outcome Binding → Type 0
 AnswersPushed (Ok u) old new k o =
     (v : Variable) × (new ≡ old ++ v ∷ []) × (o ≡ Ends (binding_of v) k)
 AnswersPushed (Err fault) old new k o = IsFaultOf fault o
 
--- a variable with this binding is put behind those that are bound
+-- a variable with this binding is put after those that are bound
 abbrev pub IsPushed : Binding → List Variable → List Variable → Type 0
 IsPushed b old new = (v : Variable) × (new ≡ old ++ v ∷ []) × (binding_of v ≡ b)
 
@@ -36,7 +36,7 @@ abbrev pub first_bound : (Item → ℕ → Outcome Binding) → List Item → �
 first_bound bound [] k = Ends [] k
 first_bound bound (x ∷ xs) k = and_then (bound x k) (λ b j. Ends (b ∷ []) j)
 
--- the first item is taken out, and the variable that it gives is put behind those that are bound;
+-- the first item is taken out, and the variable that it gives is put after those that are bound;
 -- false where there is no item
 abbrev pub AnswersNext : (Item → ℕ → Outcome Binding) → Result Bool EvalFault → List Variable →
     List Variable → List Item → List Item → ℕ → Type 0

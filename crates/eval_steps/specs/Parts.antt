@@ -9,12 +9,12 @@ use Rattle.xt_syntax.specs.declared.exprs.Part.{Part}
 use Rattle.xt_syntax.specs.declared.exprs.Flwor.{Flwor}
 use Rattle.xt_syntax.specs.Layers.{arm_gives, bind_gives, clause_gives, order_gives, name_gives}
 use Rattle.xt_syntax.specs.Layers.{attr_gives, part_gives, flwor_gives}
-use Rattle.eval_nodes.specs.ExprMeaning.Env.{Program, Meaning}
-use Rattle.eval_nodes.specs.ExprMeaning.Logic.{Bound}
-use Rattle.eval_nodes.specs.ExprMeaning.Flow.{ClauseMeaning, OrderMeaning}
-use Rattle.eval_nodes.specs.ExprMeaning.Names.{NameMeaning}
-use Rattle.eval_nodes.specs.ExprMeaning.Making.{AttributeMeaning, PartMeaning}
-use Rattle.eval_nodes.specs.ExprMeaning.Meaning.{meanings, steps}
+use Rattle.expr_meaning.specs.Env.{Program, Meaning}
+use Rattle.expr_meaning.specs.Logic.{Bound}
+use Rattle.expr_meaning.specs.Flow.{ClauseMeaning, OrderMeaning}
+use Rattle.expr_meaning.specs.Names.{NameMeaning}
+use Rattle.expr_meaning.specs.Making.{AttributeMeaning, PartMeaning}
+use Rattle.expr_meaning.specs.Meaning.{meanings, steps}
 
 abbrev pub arm_outcome : Program → Arm → Meaning × Meaning
 arm_outcome p = arm_gives meanings (steps p)

@@ -1,5 +1,5 @@
 -- How many expressions and parts an expression has, for recursions over it.
-use Rattle.std.specs.Prelude.{ℕ, ◌+◌, List, [], ◌∷◌, map, option_map, Option, Some, None}
+use Rattle.std.specs.Prelude.{ℕ, ◌+◌, [], map, option_map, Option, Some, None}
 use Rattle.xt_syntax.specs.declared.exprs.Expr.{Expr}
 use Rattle.xt_syntax.specs.declared.exprs.Arm.{Arm}
 use Rattle.xt_syntax.specs.declared.exprs.Bind.{Bind}
@@ -21,6 +21,7 @@ use Rattle.xt_syntax.specs.declared.exprs.Clause.TheOpen.{Computed, Chars, Enclo
 use Rattle.xt_syntax.specs.Layers.{Kinds, Steps, ExprLayer, ClauseLayer, NameLayer, PartLayer}
 use Rattle.xt_syntax.specs.Layers.{expr_gives, arm_gives, bind_gives, clause_gives, order_gives}
 use Rattle.xt_syntax.specs.Layers.{name_gives, attr_gives, part_gives, flwor_gives}
+use Rattle.xt_names.specs.Lists.{total}
 
 abbrev pub counts : Kinds
 counts = record {
@@ -34,10 +35,6 @@ counts = record {
   Flwors = ℕ;
   Orders = ℕ;
 }
-
-abbrev pub total : List ℕ → ℕ
-total [] = 0
-total (n ∷ ns) = n + total ns
 
 abbrev pub or_0 : Option ℕ → ℕ
 or_0 None = 0
@@ -136,7 +133,7 @@ part_nodes = part_gives counts count_steps
 abbrev pub flwor_nodes : FlworOf → ℕ
 flwor_nodes = flwor_gives counts count_steps
 
--- those of what stands behind the clauses for each tuple
+-- those of what comes after the clauses for each tuple
 abbrev pub row_nodes : FlworOf → ℕ
 row_nodes f = or_0 (option_map nodes (out-Flwor f).test) + total
     (map order_nodes (out-Flwor f).orders)

@@ -4,15 +4,15 @@ use Rattle.std.specs.Prelude.{None}
 use Rattle.xt_names.specs.declared.codes.Code.{Code}
 use Rattle.xt_names.specs.declared.names.ExprName.{ExprName}
 use Rattle.xdm_items.specs.declared.items.Item.{Item}
-use Rattle.function_arguments.specs.Arguments.{and_then as result_then}
-use Rattle.outcomes.specs.Outcome.{Outcome, Ends, and_then, step_outcome, for_each}
+use Rattle.xdm_items.specs.FunctionArguments.Arguments.{and_then as result_then}
+use Rattle.expr_meaning.specs.Outcomes.Outcome.{Outcome, Ends, and_then, step_outcome, for_each}
 use Rattle.xt_atoms.specs.Casts.{wrong_type}
 use Rattle.order_group.specs.Rows.{Row}
-use Rattle.sort_meaning.specs.Sorted.{counted, key_cell}
-use Rattle.eval_nodes.specs.ExprMeaning.Env.{Binding, Env, Meaning}
-use Rattle.eval_nodes.specs.ExprMeaning.Logic.{truth_at}
-use Rattle.eval_nodes.specs.ExprMeaning.Paths.{path_nodes}
-use Rattle.eval_nodes.specs.ExprMeaning.Flow.{OrderMeaning}
+use Rattle.expr_meaning.specs.SortMeaning.Sorted.{counted, key_cell}
+use Rattle.expr_meaning.specs.Env.{Binding, Env, Meaning}
+use Rattle.expr_meaning.specs.Logic.{truth_at}
+use Rattle.expr_meaning.specs.Paths.{path_nodes}
+use Rattle.expr_meaning.specs.Flow.{OrderMeaning}
 
 -- a variable with its value
 abbrev pub bound_outcome : ExprName → Result (List Item) Code → ℕ → Outcome Binding

@@ -8,10 +8,12 @@
 //! Example: at the item 7 the clause `for $x in 7` binds `$x` to the list of 7.
 #![tactic(auto)]
 
+pub mod eval_inner;
 mod steps;
+pub mod value_slots;
 
 pub use eval_lates;
-pub use eval_lates::{eval_scopes, eval_values, operator_values};
+pub use eval_lates::{eval_scopes, operator_values};
 pub use eval_nodes;
 pub use steps::{
     WRONG_TYPE, bound_item, bound_list, bound_place, is_kept_at, list_size, literal_integer,

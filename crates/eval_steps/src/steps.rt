@@ -5,32 +5,34 @@ ghost use Rattle.xt_syntax.specs.declared.exprs.Expr.TheVariants.{Int};
 ghost use Rattle.xt_atoms.specs.declared.atoms.Atom.TheVariants.{Str};
 ghost use Rattle.xdm_items.specs.declared.items.Item.TheVariants.{Atom as as_atom};
 ghost use Rattle.xt_syntax.specs.declared.exprs.Clause.TheViews.{out-Bind};
-ghost use Rattle.function_arguments.specs.Answers.{of_integer};
+ghost use Rattle.xdm_items.specs.FunctionArguments.Answers.{of_integer};
 ghost use Rattle.eval_steps.specs.Lists.{AnswersAs, AnswersNext, AnswersPushed, IsPushed};
 ghost use Rattle.eval_lates.specs.NodeWalks.Moves.{given};
 ghost use Rattle.eval_steps.specs.Steps.{alone, bound_outcome, item_count, path_count};
 ghost use Rattle.xdm_items.specs.Truth.{truth_of};
-ghost use Rattle.outcomes.specs.Outcome.{Outcome, Ends, step_outcome, and_then};
-ghost use Rattle.sort_meaning.specs.Sorted.{key_cell as cell_of_key};
+ghost use Rattle.expr_meaning.specs.Outcomes.Outcome.{Outcome, Ends, step_outcome, and_then};
+ghost use Rattle.expr_meaning.specs.SortMeaning.Sorted.{key_cell as cell_of_key};
 ghost use Rattle.xt_atoms.specs.Casts.{wrong_type};
-ghost use Rattle.eval_nodes.specs.ExprMeaning.Logic.{as_items, typed};
-ghost use Rattle.eval_nodes.specs.ExprMeaning.Paths.{step_items, kept_at};
-ghost use Rattle.eval_nodes.specs.ExprMeaning.Paths.{path_value as value_of_path};
+ghost use Rattle.expr_meaning.specs.Logic.{as_items, typed};
+ghost use Rattle.expr_meaning.specs.Paths.{step_items, kept_at};
+ghost use Rattle.expr_meaning.specs.Paths.{path_value as value_of_path};
 ghost use Rattle.eval_lates.specs.LazySeq.Orders.{in_document_order};
-ghost use Rattle.eval_nodes.specs.ExprMeaning.Making.{literal_node};
-ghost use Rattle.eval_nodes.specs.ExprMeaning.Values.{of_focus};
+ghost use Rattle.expr_meaning.specs.Making.{literal_node};
+ghost use Rattle.expr_meaning.specs.Values.{of_focus};
 ghost use Rattle.xt_tree.specs.declared.trees.Tree.TheVariants.{Attr as attribute_tree};
 ghost use Rattle.eval_lates.specs.EvalScopes.Answers.{Answers};
 ghost use Rattle.eval_lates.specs.EvalScopes.Scopes.{binding_of, env_of};
 
+use eval_lates::eval_scopes::eval_values::{
+    Place, is_kept, key_cell, one, path_value, step, typed,
+};
 use eval_lates::eval_scopes::{Env, EvalFault, Focus, Variable};
-use eval_lates::eval_values::{Place, is_kept, key_cell, one, path_value, step, typed};
 use eval_lates::late_next;
 use eval_lates::lazy_seq::Seq;
 use eval_lates::operator_values::{are_nodes, in_order};
 use eval_nodes::attribute_node;
-use function_arguments::{integer_list, text_list, truth_list as list_of_truth};
 use std::alloc::{AllocError, Global};
+use xdm_items::function_arguments::{integer_list, text_list, truth_list as list_of_truth};
 use xdm_items::{Item, ItemList, ebv};
 use xt_atoms::Atom;
 use xt_names::{Code, DynamicCode, ExprName, List, Name, Text};
@@ -228,7 +230,7 @@ pub fn push_item(
 }
 
 /// Takes the first item of a sequence out, and binds the variable of a quantifier to it; false
-/// where there is none. None behind it is looked for (XPath 2.0, 3.9).
+/// where there is none. None after it is looked for (XPath 2.0, 3.9).
 #[inline(never)]
 pub fn push_next(
     alloc: Global,

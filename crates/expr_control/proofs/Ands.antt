@@ -4,8 +4,8 @@ use Rattle.std.proofs.lemmas.List.{append-nil}
 use Rattle.xt_syntax.specs.declared.exprs.Bind.{Bind}
 use Rattle.xt_syntax.specs.declared.exprs.Clause.{Clause}
 use Rattle.xt_syntax.specs.declared.exprs.Order.{Order}
-use Rattle.expr_rules.specs.ExprMeant.declared.meant.Meant.{Meant}
-use Rattle.expr_rules.specs.ExprMeant.declared.meant.Meant.TheVariants as meant
+use Rattle.expr_rules.specs.declared.expr_meant.meant.Meant.{Meant}
+use Rattle.expr_rules.specs.declared.expr_meant.meant.Meant.TheVariants as meant
 use Rattle.expr_control.specs.Lists.{bind_and}
 use Rattle.expr_control.specs.Bindings.{order_and, clause_and, clauses_and}
 

@@ -10,10 +10,10 @@ use Rattle.xt_syntax.specs.declared.exprs.Clause.{Clause}
 use Rattle.xt_syntax.specs.declared.exprs.Clause.TheVariants as clause
 use Rattle.xt_syntax.specs.declared.exprs.Order.{Order}
 use Rattle.xt_syntax.specs.declared.exprs.Clause.TheViews.{roll-Flwor}
-use Rattle.expr_terms.specs.declared.keys.Key.{Key}
-use Rattle.expr_terms.specs.declared.keys.Key.TheVariants.{DescendingWord as descending_word}
-use Rattle.expr_rules.specs.ExprMeant.declared.meant.Meant.{Meant}
-use Rattle.expr_rules.specs.ExprMeant.declared.meant.Meant.TheVariants as meant
+use Rattle.expr_keys.specs.declared.keys.Key.{Key}
+use Rattle.expr_keys.specs.declared.keys.Key.TheVariants.{DescendingWord as descending_word}
+use Rattle.expr_rules.specs.declared.expr_meant.meant.Meant.{Meant}
+use Rattle.expr_rules.specs.declared.expr_meant.meant.Meant.TheVariants as meant
 use Rattle.expr_rules.specs.ExprMeant.Parts.{expr_of, expr_in, key_of}
 use Rattle.expr_rules.specs.Known.{name_of}
 

@@ -4,10 +4,10 @@ use Rattle.xt_syntax.specs.declared.exprs.Expr.{Expr}
 use Rattle.xt_syntax.specs.declared.exprs.Expr.TheVariants as expr
 use Rattle.xt_syntax.specs.declared.exprs.Arm.{Arm}
 use Rattle.xt_syntax.specs.declared.exprs.Bind.{Bind}
-use Rattle.expr_terms.specs.declared.keys.Key.{Key}
-use Rattle.expr_terms.specs.declared.keys.Key.TheVariants.{EveryWord as every_word}
-use Rattle.expr_rules.specs.ExprMeant.declared.meant.Meant.{Meant}
-use Rattle.expr_rules.specs.ExprMeant.declared.meant.Meant.TheVariants as meant
+use Rattle.expr_keys.specs.declared.keys.Key.{Key}
+use Rattle.expr_keys.specs.declared.keys.Key.TheVariants.{EveryWord as every_word}
+use Rattle.expr_rules.specs.declared.expr_meant.meant.Meant.{Meant}
+use Rattle.expr_rules.specs.declared.expr_meant.meant.Meant.TheVariants as meant
 use Rattle.expr_rules.specs.ExprMeant.Parts.{expr_of, exprs_of, expr_in, key_of}
 
 -- a, b, ..

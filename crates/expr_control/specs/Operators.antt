@@ -7,12 +7,12 @@ use Rattle.xt_names.specs.declared.kinds.ArithOp.TheVariants as arith
 use Rattle.xt_types.specs.declared.types.SeqType.{SeqType}
 use Rattle.xt_syntax.specs.declared.exprs.Expr.{Expr}
 use Rattle.xt_syntax.specs.declared.exprs.Expr.TheVariants as expr
-use Rattle.expr_terms.specs.declared.keys.Key.{Key}
-use Rattle.expr_terms.specs.declared.keys.Key.TheVariants as key
-use Rattle.expr_terms.specs.declared.productions.Level.{Level}
-use Rattle.expr_terms.specs.declared.productions.Level.TheVariants as level
-use Rattle.expr_rules.specs.ExprMeant.declared.meant.Meant.{Meant}
-use Rattle.expr_rules.specs.ExprMeant.declared.meant.Meant.TheVariants as meant
+use Rattle.expr_keys.specs.declared.keys.Key.{Key}
+use Rattle.expr_keys.specs.declared.keys.Key.TheVariants as key
+use Rattle.expr_keys.specs.declared.productions.Level.{Level}
+use Rattle.expr_keys.specs.declared.productions.Level.TheVariants as level
+use Rattle.expr_rules.specs.declared.expr_meant.meant.Meant.{Meant}
+use Rattle.expr_rules.specs.declared.expr_meant.meant.Meant.TheVariants as meant
 use Rattle.expr_rules.specs.ExprMeant.Parts.{expr_of, exprs_of, key_of, expr_in}
 use Rattle.expr_control.specs.Types.{typed}
 
@@ -47,16 +47,16 @@ combined key.ToWord a b = expr.Range a b
 combined _ a b = expr.Union a b
 
 unfoldable pub operated_by : Level → Key → Expr → Expr → Expr
-operated_by level.Compares k a b = compared k a b
+operated_by level.Comparison k a b = compared k a b
 operated_by _ k a b = combined k a b
 
--- behind the operand stands a type
+-- after the operand stands a type
 unfoldable pub of_type : Level → Expr → SeqType → Expr
-of_type level.Treats a kind = expr.Treat a kind
+of_type level.Treat a kind = expr.Treat a kind
 of_type _ a kind = expr.InstanceOf a kind
 
 unfoldable pub of_single : Level → Expr → AtomType → Bool → Expr
-of_single level.Casts a kind empty = expr.Cast a kind empty
+of_single level.Cast a kind empty = expr.Cast a kind empty
 of_single _ a kind empty = expr.Castable a kind empty
 
 -- one more operator of the level
@@ -77,8 +77,8 @@ left_chain l (m ∷ ms) = chain_from l (expr_of m) ms
 
 -- .. but `or` and `and` make lists
 unfoldable pub chained : Level → List Meant → Expr
-chained level.Ors ms = expr.Or (exprs_of ms)
-chained level.Ands ms = expr.And (exprs_of ms)
+chained level.Or ms = expr.Or (exprs_of ms)
+chained level.And ms = expr.And (exprs_of ms)
 chained l ms = left_chain l ms
 
 -- an operator with the operand at its right
@@ -96,10 +96,10 @@ single_in [] = meant.Mark
 single_in (m ∷ ms) = single_of m
 
 unfoldable pub operated : List Binding → Level → List Meant → Meant
-operated bound level.Instances ms = meant.Sequence (typed bound ms)
-operated bound level.Treats ms = meant.Sequence (typed bound ms)
-operated bound level.Castables ms = single_in ms
-operated bound level.Casts ms = single_in ms
+operated bound level.InstanceOf ms = meant.Sequence (typed bound ms)
+operated bound level.Treat ms = meant.Sequence (typed bound ms)
+operated bound level.Castable ms = single_in ms
+operated bound level.Cast ms = single_in ms
 operated bound _ ms = tail ms
 
 unfoldable pub signed_by : Key → Expr → Expr

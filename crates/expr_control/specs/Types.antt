@@ -8,10 +8,10 @@ use Rattle.xt_types.specs.declared.types.ItemType.{ItemType}
 use Rattle.xt_types.specs.declared.types.ItemType.TheVariants as item
 use Rattle.xt_types.specs.declared.types.SeqType.{SeqType}
 use Rattle.xt_types.specs.declared.types.SeqType.TheVariants as sequence
-use Rattle.expr_terms.specs.declared.keys.Key.{Key}
-use Rattle.expr_terms.specs.declared.keys.Key.TheVariants as key
-use Rattle.expr_rules.specs.ExprMeant.declared.meant.Meant.{Meant}
-use Rattle.expr_rules.specs.ExprMeant.declared.meant.Meant.TheVariants as meant
+use Rattle.expr_keys.specs.declared.keys.Key.{Key}
+use Rattle.expr_keys.specs.declared.keys.Key.TheVariants as key
+use Rattle.expr_rules.specs.declared.expr_meant.meant.Meant.{Meant}
+use Rattle.expr_rules.specs.declared.expr_meant.meant.Meant.TheVariants as meant
 use Rattle.expr_rules.specs.ExprMeant.Parts.{key_of, has_parts}
 use Rattle.expr_rules.specs.Known.{type_of}
 
@@ -45,7 +45,7 @@ abbrev pub typed : List Binding → List Meant → SeqType
 typed bound [] = sequence.Empty
 typed bound (m ∷ ms) = sequence_of bound m
 
--- a type of a cast, and whether `?` stands behind it
+-- a type of a cast, and whether `?` comes after it
 abbrev pub single : List Binding → List Meant → Meant
 single bound [] = meant.Single atom.Any false
 single bound (m ∷ ms) = meant.Single (type_of bound m) (has_parts ms)

@@ -2,7 +2,7 @@
 ghost use Rattle.std.specs.Prelude.{◌≡◌, [], IfOk};
 ghost use Rattle.xt_syntax.specs.declared.exprs.Expr.TheVariants.{Comma, Or, And};
 ghost use Rattle.expr_rules.specs.ExprMeant.Parts.{exprs_of};
-ghost use Rattle.expr_rules.specs.ExprMeant.declared.meant.Meant.TheVariants.{Expr as as_expr};
+ghost use Rattle.expr_rules.specs.declared.expr_meant.meant.Meant.TheVariants.{Expr as as_expr};
 ghost use Rattle.expr_control.specs.Operators.{operated_by, of_type, joined, chain_from, left_chain, chained, tail, single_of, single_in, operated, signed};
 
 use crate::operators::{of_single, of_type, operated_by, signed_by};
@@ -114,8 +114,8 @@ pub fn chained(alloc: Global, level: Level, parts: &[Meant]) -> Result<Meant, Al
     ensures { IfOk result (λ made. made ≡ as_expr (chained level parts.now)) }
 {
     match level {
-        Level::Ors => ors(alloc, parts),
-        Level::Ands => ands(alloc, parts),
+        Level::Or => ors(alloc, parts),
+        Level::And => ands(alloc, parts),
         _ => Ok(Meant::Expr(left_chain(alloc, level, parts)?)),
     }
 }
@@ -154,7 +154,7 @@ fn single_in(parts: &[Meant]) -> Meant
     }
 }
 
-/// An operator of the level with what stands at its right.
+/// An operator of the level with what is at its right.
 #[tactic(auto, unfolding(crate::specs::Operators::operated))]
 pub fn operated(
     alloc: Global,
@@ -165,10 +165,10 @@ pub fn operated(
     ensures { IfOk result (λ made. made ≡ operated bound.now level parts.now) }
 {
     match level {
-        Level::Instances => Ok(Meant::Sequence(typed(alloc, bound, parts)?)),
-        Level::Treats => Ok(Meant::Sequence(typed(alloc, bound, parts)?)),
-        Level::Castables => Ok(single_in(parts)),
-        Level::Casts => Ok(single_in(parts)),
+        Level::InstanceOf => Ok(Meant::Sequence(typed(alloc, bound, parts)?)),
+        Level::Treat => Ok(Meant::Sequence(typed(alloc, bound, parts)?)),
+        Level::Castable => Ok(single_in(parts)),
+        Level::Cast => Ok(single_in(parts)),
         _ => tail(alloc, parts),
     }
 }

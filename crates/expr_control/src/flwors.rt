@@ -1,6 +1,6 @@
 // Clauses, and the whole that they stand in.
 ghost use Rattle.std.specs.Prelude.{◌≡◌, ◌++◌, ◌∷◌, [], IfOk};
-ghost use Rattle.expr_rules.specs.ExprMeant.declared.meant.Meant.TheVariants.{Expr as as_expr};
+ghost use Rattle.expr_rules.specs.declared.expr_meant.meant.Meant.TheVariants.{Expr as as_expr};
 ghost use Rattle.expr_control.specs.Bindings.{clause_and, clauses_in, clauses_and, all_clauses, where_or, where_in, flwor};
 
 use crate::orders::{all_orders, is_stable};

@@ -1,6 +1,6 @@
 // Lists, conditionals and quantifiers.
 ghost use Rattle.std.specs.Prelude.{◌≡◌, ◌++◌, ◌∷◌, [], IfOk};
-ghost use Rattle.expr_rules.specs.ExprMeant.declared.meant.Meant.TheVariants.{Expr as as_expr};
+ghost use Rattle.expr_rules.specs.declared.expr_meant.meant.Meant.TheVariants.{Expr as as_expr};
 ghost use Rattle.expr_control.specs.Lists.{listed, arm, arms_of, other_of, conditional, is_every, is_every_first, bind_and, binds_of, quantified};
 
 use expr_rules::expr_meant::{Meant, as_part, expr_in, expr_of, exprs_of, key_of, no_items};

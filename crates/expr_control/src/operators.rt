@@ -53,7 +53,7 @@ pub(crate) fn operated_by(level: Level, key: Key, a: Shared<Expr>, b: Shared<Exp
     ensures { result ≡ operated_by level key a b }
 {
     match level {
-        Level::Compares => compared(key, a, b),
+        Level::Comparison => compared(key, a, b),
         _ => combined(key, a, b),
     }
 }
@@ -64,7 +64,7 @@ pub(crate) fn of_type(level: Level, a: Shared<Expr>, kind: SeqType) -> Expr
     ensures { result ≡ of_type level a kind }
 {
     match level {
-        Level::Treats => Expr::Treat(a, kind),
+        Level::Treat => Expr::Treat(a, kind),
         _ => Expr::InstanceOf(a, kind),
     }
 }
@@ -75,7 +75,7 @@ pub(crate) fn of_single(level: Level, a: Shared<Expr>, kind: AtomType, empty: bo
     ensures { result ≡ of_single level a kind empty }
 {
     match level {
-        Level::Casts => Expr::Cast(a, kind, empty),
+        Level::Cast => Expr::Cast(a, kind, empty),
         _ => Expr::Castable(a, kind, empty),
     }
 }

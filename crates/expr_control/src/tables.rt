@@ -1,6 +1,6 @@
 // Which production means what.
 ghost use Rattle.std.specs.Prelude.{◌≡◌, IfOk};
-ghost use Rattle.expr_rules.specs.ExprMeant.declared.meant.Meant.TheVariants.{Clauses, Orders, Sequence, Where};
+ghost use Rattle.expr_rules.specs.declared.expr_meant.meant.Meant.TheVariants.{Clauses, Orders, Sequence, Where};
 ghost use Rattle.expr_rules.specs.ExprMeant.Parts.{expr_in};
 ghost use Rattle.expr_control.specs.Types.{marked, typed};
 ghost use Rattle.expr_control.specs.Bindings.{clauses_in, orders_in};
@@ -62,28 +62,28 @@ pub fn control_value(
 {
     let bound = &p.bound;
     match production {
-        Production::Listing => listed(alloc, parts),
-        Production::Conditional => conditional(alloc, parts),
-        Production::Flwor => flwor(alloc, parts),
-        Production::Quantified => quantified(alloc, parts),
+        Production::ExprList => listed(alloc, parts),
+        Production::IfExpr => conditional(alloc, parts),
+        Production::FlworExpr => flwor(alloc, parts),
+        Production::QuantifiedExpr => quantified(alloc, parts),
         Production::ForClause => clauses(alloc, parts),
         Production::LetClause => clauses(alloc, parts),
-        Production::Bind => for_bind(alloc, bound, parts),
-        Production::LetBind => let_bind(alloc, bound, parts),
-        Production::QuantBind => quant_bind(alloc, bound, parts),
-        Production::Typed => typed_part(alloc, bound, parts),
-        Production::Placed => placed(alloc, bound, parts),
+        Production::ForIn => for_bind(alloc, bound, parts),
+        Production::LetAssign => let_bind(alloc, bound, parts),
+        Production::QuantifiedIn => quant_bind(alloc, bound, parts),
+        Production::AsType => typed_part(alloc, bound, parts),
+        Production::AtVariable => placed(alloc, bound, parts),
         Production::WhereTest => where_test(alloc, parts),
-        Production::Ordered => orders(alloc, false, parts),
-        Production::Stable => orders(alloc, true, parts),
-        Production::KeySpec => key_spec(alloc, parts),
-        Production::Chain(level) => chained(alloc, level, parts),
-        Production::Operated(level) => operated(alloc, bound, level, parts),
+        Production::OrderBy => orders(alloc, false, parts),
+        Production::StableOrderBy => orders(alloc, true, parts),
+        Production::OrderKey => key_spec(alloc, parts),
+        Production::OperatorChain(level) => chained(alloc, level, parts),
+        Production::OperatorTail(level) => operated(alloc, bound, level, parts),
         Production::Signed => signed(alloc, parts),
         Production::EmptyType => Ok(Meant::Sequence(SeqType::Empty)),
         Production::ItemsType => marked_part(alloc, bound, parts),
         Production::AnyItem => Ok(Meant::AnyItem),
-        Production::OneType => single(alloc, bound, parts),
+        Production::SingleAtomicType => single(alloc, bound, parts),
         _ => Ok(Meant::Mark),
     }
 }

@@ -77,7 +77,7 @@ pub fn typed(alloc: Global, bound: &BoundPrefixes, parts: &[Meant]) -> Result<Se
     }
 }
 
-/// The type of a cast, and whether `?` stands behind it.
+/// The type of a cast, and whether `?` comes after it.
 pub fn single(alloc: Global, bound: &BoundPrefixes, parts: &[Meant]) -> Result<Meant, AllocError>
     ensures { IfOk result (λ made. made ≡ single bound.now parts.now) }
 {

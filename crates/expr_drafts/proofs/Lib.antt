@@ -1,2 +1,5 @@
 pub mod Pushed
 pub mod Turns
+pub mod ExprPlaces
+pub mod NamePrefixes
+pub mod NameTokens

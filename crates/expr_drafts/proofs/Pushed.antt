@@ -1,8 +1,8 @@
--- What is put onto a draft stands before the rest of it.
+-- What is put onto a draft comes before the rest of it.
 use Rattle.std.proofs.Common.{◌≡◌, Bool, true, false, List, [], ◌∷◌, ◌++◌, refl, ap, cond}
 use Rattle.std.proofs.lemmas.List.{reverse-append}
-use Rattle.expr_terms.specs.declared.tokens.Token.{Token}
-use Rattle.expr_terms.specs.declared.tokens.Token.TheVariants as token
+use Rattle.expr_keys.specs.declared.tokens.Token.{Token}
+use Rattle.expr_keys.specs.declared.tokens.Token.TheVariants as token
 use Rattle.query_pages.specs.Inner.{inner, with_inner}
 use Rattle.expr_drafts.specs.declared.drafts.Item.{Item}
 use Rattle.expr_drafts.specs.declared.drafts.Part.{Part}
@@ -12,7 +12,7 @@ pub pushed : (xs : List Item) (x : Item) → written (xs ++ x ∷ []) ≡ item_t
 pushed xs x = ap all_tokens (reverse-append xs (x ∷ []))
 
 inner_twice : (t : Token) → inner t ≡ inner (inner t)
-inner_twice (token.Outer p n) = refl
+inner_twice (token.StartTagOpen p n) = refl
 inner_twice _ = refl
 
 with_inner_twice : (ts : List Token) → with_inner ts ≡ with_inner (with_inner ts)

@@ -1,1 +1,4 @@
 pub mod Written
+pub mod ExprPlaces
+pub mod NamePrefixes
+pub mod NameTokens

@@ -1,6 +1,6 @@
 -- The tokens that a draft stands for, which is filled from its end.
 use Rattle.std.specs.Prelude.{ℕ, Option, Some, None, List, [], ◌∷◌, reverse, if◌then◌else◌}
-use Rattle.expr_terms.specs.declared.tokens.Token.{Token}
+use Rattle.expr_keys.specs.declared.tokens.Token.{Token}
 use Rattle.query_pages.specs.Inner.{with_inner}
 use Rattle.expr_raws.specs.PathRaws.Forms.{Form, said}
 use Rattle.expr_raws.specs.Raws.{form_of}

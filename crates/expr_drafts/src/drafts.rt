@@ -1,15 +1,15 @@
 // Drafts.
 ghost use Rattle.std.specs.Prelude.{◌≡◌, ◌∷◌, [], OnOk, MatchOption};
-ghost use Rattle.expr_terms.specs.declared.tokens.Token.TheVariants as token_of;
+ghost use Rattle.expr_keys.specs.declared.tokens.Token.TheVariants as token_of;
 ghost use Rattle.query_pages.specs.Inner.{inner, with_inner};
 ghost use Rattle.expr_raws.specs.PathRaws.Forms.{said};
 ghost use Rattle.expr_raws.specs.Raws.{form_of};
 ghost use Rattle.expr_drafts.specs.declared.drafts.Item.TheVariants as item_of;
 ghost use Rattle.expr_drafts.specs.Written.{item_tokens};
 
+use crate::name_prefixes::NamePrefixes;
 use crate::spots::Spot;
 use expr_terms::{Key, Token};
-use name_prefixes::NamePrefixes;
 use query_pages::Gap;
 use std::alloc::{AllocError, Global};
 use std::marker::Model;
@@ -20,7 +20,7 @@ use xt_syntax::Expr;
 pub struct Part<'a> {
     pub prefixes: &'a NamePrefixes,
     pub at: Spot,
-    /// The greatest place of what stands there without parentheses; None where all do.
+    /// The greatest place of what is there without parentheses; None where all do.
     pub place: Option<u8>,
     /// Whether it is an element within the content of another.
     pub inner: bool,
@@ -44,7 +44,7 @@ pub struct Draft<'a> {
 
 impl<'a> Model for Draft<'a> {
     ghost use Rattle.std.specs.Prelude.{List};
-    ghost use Rattle.expr_terms.specs.declared.tokens.Token.{Token};
+    ghost use Rattle.expr_keys.specs.declared.tokens.Token.{Token};
     ghost use Rattle.expr_drafts.specs.Written.{written};
 
     ghost Value = { List Token };
@@ -57,7 +57,7 @@ fn inner(token: Token) -> Token
     ensures { result ≡ inner token }
 {
     match token {
-        Token::Outer(prefix, local) => Token::Inner(prefix, local),
+        Token::StartTagOpen(prefix, local) => Token::ChildTagOpen(prefix, local),
         other => other,
     }
 }

@@ -12,6 +12,9 @@
 
 mod commas;
 mod drafts;
+pub mod expr_places;
+pub mod name_prefixes;
+pub mod name_tokens;
 mod spots;
 
 pub use commas::push_comma;

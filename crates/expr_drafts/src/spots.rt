@@ -7,7 +7,7 @@ const DEEPEST: u8 = 60;
 /// What is wanted before the first token of an expression, and how its lines are indented.
 #[derive(Clone, Copy)]
 pub struct Spot {
-    /// What stands before the first token.
+    /// What comes before the first token.
     pub first: Gap,
     /// By how many spaces a new line is indented.
     indent: u8,
@@ -25,7 +25,7 @@ impl Spot {
         }
     }
 
-    /// Behind a space, where lines are indented by so many spaces.
+    /// After a space, where lines are indented by so many spaces.
     pub fn behind_space(indent: u8) -> Spot {
         Spot {
             first: Gap::Space,
@@ -70,7 +70,7 @@ impl Spot {
         }
     }
 
-    /// A part that stands behind a space.
+    /// A part that comes after a space.
     pub fn part(self) -> Spot {
         Spot {
             first: Gap::Space,
@@ -97,7 +97,7 @@ impl Spot {
         }
     }
 
-    /// An item of a list, behind a space where it is the first.
+    /// An item of a list, after a space where it is the first.
     pub fn item(self, place: usize) -> Spot {
         if place == 0 {
             self.part()

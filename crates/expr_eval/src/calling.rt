@@ -1,13 +1,13 @@
 // Calls of functions.
 ghost use Rattle.std.specs.Prelude.{◌∷◌, [], map};
-ghost use Rattle.flow_eval.specs.ValueSlots.Slots.{Leaves};
+ghost use Rattle.eval_steps.specs.ValueSlots.Slots.{Leaves};
 ghost use Rattle.eval_steps.specs.Lists.{AnswersAll};
 ghost use Rattle.eval_scopes.specs.Scopes.{env_of, program_of};
 ghost use Rattle.expr_eval.specs.Serves.{Serves};
 ghost use Rattle.expr_meaning.specs.Meaning.{outcome};
 ghost use Rattle.expr_meaning.specs.Calls.{call_of, lists_of};
 ghost use Rattle.fn_lib.specs.Functions.{function_value};
-ghost use Rattle.outcomes.specs.Outcome.{and_then, step_outcome};
+ghost use Rattle.expr_meaning.specs.Outcomes.Outcome.{and_then, step_outcome};
 
 use crate::hosts::{Callee, Host};
 use eval_calls::{Called, find_called};

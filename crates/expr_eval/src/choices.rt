@@ -1,23 +1,20 @@
 // Expressions that decide.
 ghost use Rattle.std.specs.Prelude.{map};
 ghost use Rattle.eval_scopes.specs.Answers.{Answers};
-ghost use Rattle.flow_eval.specs.ValueSlots.Slots.{Leaves};
+ghost use Rattle.eval_steps.specs.ValueSlots.Slots.{Leaves};
 ghost use Rattle.eval_scopes.specs.Scopes.{env_of, program_of};
 ghost use Rattle.expr_eval.specs.Serves.{Serves};
 ghost use Rattle.expr_meaning.specs.Meaning.{outcome};
-ghost use Rattle.node_walks.specs.Moves.{given};
 ghost use Rattle.expr_meaning.specs.Logic.{truth_at, first_of, or_of, and_of, choice_of};
-ghost use Rattle.expr_meaning.specs.Logic.{quantifier_of, quantified, item_decides};
-ghost use Rattle.eval_steps.specs.Parts.{arm_outcome, bind_outcome};
+ghost use Rattle.eval_steps.specs.Parts.{arm_outcome};
 
 use crate::hosts::{Callee, Host};
-use eval_scopes::{Env, EvalFault, Scope};
-use eval_steps::{pop_variable, push_next, truth_of};
-use flow_eval::value_slots::put_truth;
-use lazy_seq::Seq;
+use eval_scopes::{Env, EvalFault};
+use eval_steps::truth_of;
+use eval_steps::value_slots::put_truth;
 use xdm_items::ItemList;
 use xt_names::ExprName;
-use xt_syntax::{Arm, Bind, Expr};
+use xt_syntax::{Arm, Expr};
 
 impl<'a, G: Callee, F: Fn(&ExprName, &[ItemList], &mut u64) -> Result<ItemList, EvalFault>> Host<
     'a,
@@ -130,102 +127,5 @@ impl<'a, G: Callee, F: Fn(&ExprName, &[ItemList], &mut u64) -> Result<ItemList, 
             }
         }
         self.eval_into(env, next, other, value)
-    }
-
-    /// A quantifier (XPath 2.0, 3.9).
-    #[cycle(eval)]
-    #[inline(never)]
-    pub(crate) fn eval_quantifier(
-        &self,
-        env: &Env,
-        next: &mut u64,
-        every: bool,
-        binds: &[Bind],
-        test: &Expr,
-        value: &mut ItemList,
-    ) -> Result<(), EvalFault>
-        requires callable { F.IsAlwaysCallable self.now.calls }
-        requires serves { Serves (F.post self.now.calls) (G.calls self.now.given) }
-        ensures { let p = program_of self.now.fixed (G.calls self.now.given)
-            (G.keys self.now.given) in
-            Leaves result value.new next.new (quantifier_of every
-            (map (bind_outcome p) binds.now) (outcome p test.now) (env_of env.now) next.old) }
-    {
-        put_truth(
-            self.alloc,
-            self.eval_binds(env, next, !every, binds, test),
-            value,
-        )
-    }
-
-    /// The bindings of a quantifier that are left. No item behind the one that decides is looked
-    /// for (XPath 2.0, 3.9).
-    #[cycle(eval)]
-    #[inline(never)]
-    pub(crate) fn eval_binds(
-        &self,
-        env: &Env,
-        next: &mut u64,
-        decisive: bool,
-        binds: &[Bind],
-        test: &Expr,
-    ) -> Result<bool, EvalFault>
-        requires callable { F.IsAlwaysCallable self.now.calls }
-        requires serves { Serves (F.post self.now.calls) (G.calls self.now.given) }
-        ensures { let p = program_of self.now.fixed (G.calls self.now.given)
-            (G.keys self.now.given) in
-            Answers result next.new (quantified decisive (map (bind_outcome p) binds.now)
-            (outcome p test.now) (env_of env.now) next.old) }
-    {
-        match binds {
-            [] => self.eval_truth(env, next, test),
-            [first, rest @ ..] => {
-                let mut items = self.eval_late(env, next, first.source.get())?;
-                let truth = self.eval_items(env, next, decisive, first, &mut items, rest, test);
-                drop(items);
-                truth
-            }
-        }
-    }
-
-    /// One item of a quantifier's binding after another, until the rest decides (XPath 2.0, 3.9).
-    #[cycle(eval)]
-    #[inline(never)]
-    pub(crate) fn eval_items(
-        &self,
-        env: &Env,
-        next: &mut u64,
-        decisive: bool,
-        bind: &Bind,
-        items: &mut Seq,
-        rest: &[Bind],
-        test: &Expr,
-    ) -> Result<bool, EvalFault>
-        requires callable { F.IsAlwaysCallable self.now.calls }
-        requires serves { Serves (F.post self.now.calls) (G.calls self.now.given) }
-        ensures { let p = program_of self.now.fixed (G.calls self.now.given)
-            (G.keys self.now.given) in
-            Answers result next.new (item_decides decisive (bind_outcome p bind.now)
-            (quantified decisive (map (bind_outcome p) rest.now) (outcome p test.now))
-            (env_of env.now) (given items.old.moves) next.old) }
-    {
-        let mut bound = Vec::new(self.alloc);
-        'turns: while push_next(self.alloc, &mut bound, bind, items)? {
-            let scope = Scope::Inner {
-                variables: bound.as_slice(),
-                outer: &*env.locals,
-            };
-            let inner = Env {
-                locals: &scope,
-                focus: &*env.focus,
-                state: &*env.state,
-            };
-            let truth = self.eval_binds(&inner, next, decisive, rest, test)?;
-            pop_variable(&mut bound);
-            if truth == decisive {
-                return Ok(decisive);
-            }
-        }
-        Ok(!decisive)
     }
 }

@@ -1,18 +1,18 @@
 // The value of an expression, form by form.
 ghost use Rattle.std.specs.Prelude.{map};
 ghost use Rattle.eval_scopes.specs.Answers.{Answers};
-ghost use Rattle.flow_eval.specs.ValueSlots.Slots.{Leaves};
+ghost use Rattle.eval_steps.specs.ValueSlots.Slots.{Leaves};
 ghost use Rattle.eval_scopes.specs.Scopes.{env_of, program_of};
 ghost use Rattle.expr_eval.specs.Serves.{Serves};
 ghost use Rattle.expr_meaning.specs.Meaning.{outcome};
 ghost use Rattle.expr_meaning.specs.Values.{comma_of, unary, binary};
 ghost use Rattle.operator_values.specs.Types.{instance_value, treated_value};
-ghost use Rattle.eval_steps.specs.EvalValues.Operators.{value_of_one, value_of_two};
+ghost use Rattle.eval_scopes.specs.EvalValues.Operators.{value_of_one, value_of_two};
 
 use crate::hosts::{Callee, Host};
+use eval_scopes::eval_values::{OneOperator, Operator, append};
 use eval_scopes::{Env, EvalFault};
-use eval_steps::eval_values::{OneOperator, Operator, append};
-use flow_eval::value_slots::{
+use eval_steps::value_slots::{
     apply_alone, apply_to, check_instance, put_context, put_integer, put_root, put_text,
     put_variable, treat,
 };
@@ -42,7 +42,7 @@ impl<'a, G: Callee, F: Fn(&ExprName, &[ItemList], &mut u64) -> Result<ItemList, 
         Ok(value)
     }
 
-    /// Puts the value of an expression in place of what stands there, form by form (XPath 2.0, 3;
+    /// Puts the value of an expression in place of what is there, form by form (XPath 2.0, 3;
     /// XQuery 1.0, 3).
     #[cycle(eval)]
     #[inline(never)]
@@ -73,9 +73,6 @@ impl<'a, G: Callee, F: Fn(&ExprName, &[ItemList], &mut u64) -> Result<ItemList, 
                 self.eval_if(env, next, arms.get().as_slice(), other.get(), value)
             }
             Expr::Flwor(parts) => self.eval_flwor(env, next, parts, value),
-            Expr::Quant(every, binds, test) => {
-                self.eval_quantifier(env, next, *every, binds.get().as_slice(), test.get(), value)
-            }
             Expr::General(op, a, b) => {
                 self.eval_two(env, next, Operator::General(*op), a.get(), b.get(), value)
             }
@@ -114,23 +111,11 @@ impl<'a, G: Callee, F: Fn(&ExprName, &[ItemList], &mut u64) -> Result<ItemList, 
             Expr::Cast(a, to, empty) => {
                 self.eval_one(env, next, OneOperator::Cast(*to, *empty), a.get(), value)
             }
-            Expr::Slash(a, b) => self.eval_slash(env, next, e, a.get(), b.get(), value),
-            Expr::Step(axis, test, tests) => {
-                self.eval_step(env, next, e, *axis, test, tests.get(), value)
-            }
-            Expr::Filter(of, tests) => {
-                self.eval_filter(env, next, of.get(), tests.get().as_slice(), value)
+            Expr::Slash(_, _) | Expr::Step(_, _, _) | Expr::Filter(_, _) | Expr::Quant(_, _, _) => {
+                self.eval_item_form(env, next, e, value)
             }
             Expr::Call(name, args) => self.eval_call(env, next, name, args.get().as_slice(), value),
-            Expr::ElemC(name, content) => self.eval_element(env, next, name, content.get(), value),
-            Expr::AttrC(name, of) => self.eval_attribute(env, next, name, of.get(), value),
-            Expr::DocC(content) => self.eval_document(env, next, content.get(), value),
-            Expr::TextC(of) => self.eval_text(env, next, of.get(), value),
-            Expr::CommentC(of) => self.eval_comment(env, next, of.get(), value),
-            Expr::PiC(name, of) => self.eval_pi(env, next, name, of.get(), value),
-            Expr::Direct(name, attributes, parts) => {
-                self.eval_direct(env, next, name, attributes.get(), parts.get(), value)
-            }
+            _ => self.eval_constructor(env, next, e, value),
         }
     }
 

@@ -1,6 +1,9 @@
 // The program that expressions stand in.
-ghost use Rattle.std.specs.Prelude.{◌≡◌, ◌≤◌, map, length, ℕ};
-ghost use Rattle.outcomes.specs.Outcome.{Ends, step_outcome};
+ghost use Rattle.std.specs.Prelude.{◌≡◌, ◌≤◌, ◌<◌, map, length, ℕ, true};
+ghost use Rattle.constructor_eval.specs.Constructors.{is_constructor};
+ghost use Rattle.path_eval.specs.Forms.{asks_at_items};
+ghost use Rattle.eval_steps.specs.EvalLates.Late.{AnswersLate};
+ghost use Rattle.expr_meaning.specs.Outcomes.Outcome.{Ends, step_outcome};
 ghost use Rattle.expr_meaning.specs.Env.{Calls, Keys};
 ghost use Rattle.expr_meaning.specs.Calls.{call_value, found_by_key, document_value};
 ghost use Rattle.fn_lib.specs.Values.{argument};
@@ -8,22 +11,25 @@ ghost use Rattle.expr_meaning.specs.Calls.{current_value, key_of, library_value,
 ghost use Rattle.operator_values.specs.Operands.{atom_of};
 ghost use Rattle.eval_calls.specs.Called.{called_as};
 ghost use Rattle.eval_scopes.specs.Answers.{Answers};
-ghost use Rattle.flow_eval.specs.ValueSlots.Slots.{Leaves};
+ghost use Rattle.eval_steps.specs.ValueSlots.Slots.{Leaves};
 ghost use Rattle.eval_scopes.specs.Scopes.{env_of, program_of};
 ghost use Rattle.eval_steps.specs.Parts.{flwor_outcome};
 ghost use Rattle.eval_steps.specs.Sizes.{flwor_nodes, nodes};
 ghost use Rattle.expr_eval.specs.Serves.{Serves};
 ghost use Rattle.expr_meaning.specs.Meaning.{outcome};
 
+use constructor_eval::Constructor;
 use eval_calls::{
     Called, call_library, current_item, group_key, group_members, key_name, key_root,
 };
 use eval_scopes::{Env, EvalFault, Fixed, document_value};
+use eval_steps::eval_inner::{Calling, Form, Within};
+use eval_steps::value_slots::put;
 use flow_eval::Flows;
-use flow_eval::eval_inner::Within;
-use flow_eval::value_slots::put;
 use fn_lib::argument;
 use function_table::Builtin;
+use lazy_seq::Seq;
+use path_eval::ItemForm;
 use std::alloc::Global;
 use xdm_items::ItemList;
 use xt_names::{ExprName, Text};
@@ -64,6 +70,12 @@ pub struct Host<'a, G, F> {
     pub given: G,
     /// What makes them: the name, the arguments, and the next number of a tree.
     pub calls: F,
+}
+
+impl<'a, G: Callee, F> Calling for Host<'a, G, F> {
+    ghost calls = { λ h. G.calls h.given };
+
+    ghost keys = { λ h. G.keys h.given };
 }
 
 impl<'a, G: Callee, F> Within for Host<'a, G, F> {
@@ -187,6 +199,100 @@ impl<'a, G: Callee, F: Fn(&ExprName, &[ItemList], &mut u64) -> Result<ItemList, 
             eval,
         };
         flows.eval_flwor(env, next, value)
+    }
+
+    /// A constructor, with what evaluates the expressions within it (XQuery 1.0, 3.7).
+    #[cycle(eval)]
+    #[inline(never)]
+    pub(crate) fn eval_constructor(
+        &self,
+        env: &Env,
+        next: &mut u64,
+        whole: &Expr,
+        value: &mut ItemList,
+    ) -> Result<(), EvalFault>
+        requires callable { F.IsAlwaysCallable self.now.calls }
+        requires serves { Serves (F.post self.now.calls) (G.calls self.now.given) }
+        requires form { is_constructor whole.now ≡ true }
+        ensures { let p = program_of self.now.fixed (G.calls self.now.given)
+            (G.keys self.now.given) in
+            Leaves result value.new next.new (outcome p whole.now (env_of env.now) next.old) }
+    {
+        let eval = |env: &Env, next: &mut u64, e: &Expr, value: &mut ItemList| -> Result<
+            (),
+            EvalFault,
+        >
+            requires callable { F.IsAlwaysCallable self.now.calls }
+            requires serves { Serves (F.post self.now.calls) (G.calls self.now.given) }
+            requires within { nodes e.now < nodes whole.now }
+            ensures { let host = self.entry.now in
+                let p = program_of host.fixed (G.calls host.given) (G.keys host.given) in
+                Leaves result value.new next.new (outcome p e.now (env_of env.now) next.old) }
+        {
+            let _whole = whole;
+            self.eval_into(env, next, e, value)
+        };
+        let form = Form {
+            alloc: self.alloc,
+            fixed: &self.fixed,
+            within: &*self,
+            whole: &*whole,
+            eval,
+        };
+        Constructor { form }.eval_constructor(env, next, value)
+    }
+
+    /// A path, a step, a filter or a quantifier, with what evaluates the expressions within it (XPath
+    /// 2.0, 3.2, 3.3.2 and 3.9).
+    #[cycle(eval)]
+    #[inline(never)]
+    pub(crate) fn eval_item_form(
+        &self,
+        env: &Env,
+        next: &mut u64,
+        whole: &Expr,
+        value: &mut ItemList,
+    ) -> Result<(), EvalFault>
+        requires callable { F.IsAlwaysCallable self.now.calls }
+        requires serves { Serves (F.post self.now.calls) (G.calls self.now.given) }
+        requires form { asks_at_items whole.now ≡ true }
+        ensures { let p = program_of self.now.fixed (G.calls self.now.given)
+            (G.keys self.now.given) in
+            Leaves result value.new next.new (outcome p whole.now (env_of env.now) next.old) }
+    {
+        let eval = |env: &Env, next: &mut u64, e: &Expr, value: &mut ItemList| -> Result<
+            (),
+            EvalFault,
+        >
+            requires callable { F.IsAlwaysCallable self.now.calls }
+            requires serves { Serves (F.post self.now.calls) (G.calls self.now.given) }
+            requires within { nodes e.now < nodes whole.now }
+            ensures { let host = self.entry.now in
+                let p = program_of host.fixed (G.calls host.given) (G.keys host.given) in
+                Leaves result value.new next.new (outcome p e.now (env_of env.now) next.old) }
+        {
+            let _whole = whole;
+            self.eval_into(env, next, e, value)
+        };
+        let late = |env: &Env, next: &mut u64, e: &Expr| -> Result<Seq, EvalFault>
+            requires callable { F.IsAlwaysCallable self.now.calls }
+            requires serves { Serves (F.post self.now.calls) (G.calls self.now.given) }
+            requires within { nodes e.now < nodes whole.now }
+            ensures { let host = self.entry.now in
+                let p = program_of host.fixed (G.calls host.given) (G.keys host.given) in
+                AnswersLate result next.new (outcome p e.now (env_of env.now) next.old) }
+        {
+            let _whole = whole;
+            self.eval_late(env, next, e)
+        };
+        let form = Form {
+            alloc: self.alloc,
+            fixed: &self.fixed,
+            within: &*self,
+            whole: &*whole,
+            eval,
+        };
+        ItemForm { form, late }.eval_form(env, next, value)
     }
 }
 

@@ -1,20 +1,17 @@
 // Values that are walked on demand.
-ghost use Rattle.eval_scopes.specs.Answers.{Answers};
 ghost use Rattle.eval_scopes.specs.Scopes.{env_of, program_of};
-ghost use Rattle.eval_steps.specs.EvalLates.Late.{AnswersLate, literal};
+ghost use Rattle.eval_steps.specs.EvalLates.Late.{AnswersLate};
 ghost use Rattle.expr_eval.specs.Serves.{Serves};
 ghost use Rattle.expr_meaning.specs.Meaning.{outcome};
-ghost use Rattle.expr_meaning.specs.Paths.{kept};
 ghost use Rattle.expr_meaning.specs.Values.{binary};
 ghost use Rattle.operator_values.specs.Numbers.{range_value};
-ghost use Rattle.outcomes.specs.Outcome.{and_then};
 
 use crate::hosts::{Callee, Host};
 use eval_scopes::{Env, EvalFault};
-use eval_steps::eval_lates::{late_item, late_variable};
+use eval_steps::eval_lates::late_variable;
 use lazy_seq::Seq;
 use operator_values::range;
-use quiet_steps::{has_late_walk, late_walk, late_walk_place};
+use quiet_steps::{has_late_walk, late_walk};
 use xdm_items::ItemList;
 use xt_names::ExprName;
 use xt_syntax::Expr;
@@ -69,29 +66,5 @@ impl<'a, G: Callee, F: Fn(&ExprName, &[ItemList], &mut u64) -> Result<ItemList, 
         let left = self.eval(env, next, a)?;
         let right = self.eval(env, next, b)?;
         Ok(range(self.alloc, &left, &right)?)
-    }
-
-    /// What a predicate that is an integer keeps (XPath 2.0, 3.3.2).
-    #[cycle(eval)]
-    #[inline(never)]
-    pub(crate) fn eval_place(
-        &self,
-        env: &Env,
-        next: &mut u64,
-        of: &Expr,
-        place: i64,
-    ) -> Result<ItemList, EvalFault>
-        requires callable { F.IsAlwaysCallable self.now.calls }
-        requires serves { Serves (F.post self.now.calls) (G.calls self.now.given) }
-        ensures { let p = program_of self.now.fixed (G.calls self.now.given)
-            (G.keys self.now.given) in
-            Answers result next.new (and_then (outcome p of.now (env_of env.now) next.old)
-            (kept (literal place) (env_of env.now))) }
-    {
-        if has_late_walk(self.alloc, env, of)? {
-            return late_walk_place(self.alloc, env, of, place);
-        }
-        let items = self.eval_late(env, next, of)?;
-        late_item(self.alloc, items, place)
     }
 }

@@ -10,12 +10,8 @@
 
 mod calling;
 mod choices;
-mod elements;
 mod evaluations;
 mod hosts;
 mod lates;
-mod making;
-mod naming;
-mod paths;
 
 pub use hosts::{Callee, Host};

@@ -1,14 +1,15 @@
--- The next token, and at a word the one behind it, tell the production.
+-- The next token, and at a word the one after it, tell the production.
 use Rattle.std.proofs.Common.{◌≡◌, ◌⊎◌, inl, inr, ◌≤◌, Bool, true, false, cond, List, [], ◌∷◌, Option, Some, None, refl, ◌∙◌, ap, subst, arith}
 use Rattle.std.proofs.lemmas.Bool.{or_cases, and_parts}
 use Rattle.expr_grammar.specs.Keys.{Key, open_paren, open_brace, colons, dollar, dot, dots, slash, slashes, at_sign, plus, minus, star, if_word, for_word, let_word, some_word, every_word, order_word, stable_word, node_word, text_word, comment_word, document_node_word, pi_word, element_word, attribute_word, document_word, item_word, empty_sequence_word}
-use Rattle.expr_terms.specs.Keys.{is_worded, is_reserved, place, is_axis}
-use Rattle.expr_terms.specs.Tokens.{force, fits_key, fits_name, fits_word, fits_function, fits_wild, fits_axis}
+use Rattle.expr_keys.specs.Keys.{is_worded, is_reserved, binding_power_of_key, is_axis}
+use Rattle.expr_keys.specs.Tokens.{binding_power, fits_key, fits_name, fits_word, fits_function, fits_wild, fits_axis}
 use Rattle.expr_grammar.specs.TokenNames.{Token}
-use Rattle.expr_grammar.specs.Terms.{Language, Level, ors, casts, Nonterminal, key, Symbol, tok, one, Production}
+use Rattle.expr_grammar.specs.Terms.{Language, Level, or_level, cast_level, Nonterminal, key, Symbol, tok, one, Production}
 use Rattle.expr_grammar.specs.RawNames.{Raw}
 use Rattle.expr_terms.specs.Raws.{build}
-use Rattle.expr_terms.specs.Productions.{speaks, fits, fits_any, body, head}
+use Rattle.expr_keys.specs.Classes.{fits, fits_any}
+use Rattle.expr_terms.specs.Productions.{speaks, body, head}
 use Rattle.expr_grammar.specs.Grammar.{Derives, by, Seq, end, taken, next, without, with, stop, again, bare, given}
 use Rattle.expr_grammar.specs.ChoiceNames.{Second, alone, before_named, before_paren, before_colons, before_dollar, before_brace, Starter}
 use Rattle.expr_terms.specs.Choices.{second_token, second_of, second_key, starter_of, with_paren, in_kinds, in_tests, in_primaries, in_direct, in_items, in_parts, in_closing, in_steps, in_paths, in_unaries, in_singles, in_clauses, in_more_steps, in_item_types, in_types, then_one, pick, choose}
@@ -34,39 +35,39 @@ of_tests : (s : Starter) → IsOf g.node_test (in_tests s)
 of_tests Machine.conditional = refl
 of_tests _ = refl
 
-of_primaries : (s : Starter) → IsOf g.primary (in_primaries s)
+of_primaries : (s : Starter) → IsOf g.primary_expr (in_primaries s)
 of_primaries Machine.conditional = refl
 of_primaries _ = refl
 
-of_direct : (s : Starter) → IsOf g.direct (in_direct s)
+of_direct : (s : Starter) → IsOf g.dir_elem_constructor (in_direct s)
 of_direct Machine.conditional = refl
 of_direct _ = refl
 
-of_items : (s : Starter) → IsOf g.item (in_items s)
+of_items : (s : Starter) → IsOf g.dir_elem_content (in_items s)
 of_items Machine.conditional = refl
 of_items _ = refl
 
-of_parts : (s : Starter) → IsOf g.part (in_parts s)
+of_parts : (s : Starter) → IsOf g.attr_value_content (in_parts s)
 of_parts Machine.conditional = refl
 of_parts _ = refl
 
-of_closing : (s : Starter) → IsOf g.closing (in_closing s)
+of_closing : (s : Starter) → IsOf g.dir_elem_closing (in_closing s)
 of_closing Machine.conditional = refl
 of_closing _ = refl
 
-of_steps : (s : Starter) → IsOf g.step (in_steps s)
+of_steps : (s : Starter) → IsOf g.step_expr (in_steps s)
 of_steps Machine.conditional = refl
 of_steps _ = refl
 
-of_paths : (s : Starter) → IsOf g.path (in_paths s)
+of_paths : (s : Starter) → IsOf g.path_expr (in_paths s)
 of_paths Machine.conditional = refl
 of_paths _ = refl
 
-of_unaries : (s : Starter) → IsOf g.unary (in_unaries s)
+of_unaries : (s : Starter) → IsOf g.unary_expr (in_unaries s)
 of_unaries Machine.conditional = refl
 of_unaries _ = refl
 
-of_singles : (s : Starter) → IsOf g.single (in_singles s)
+of_singles : (s : Starter) → IsOf g.expr_single (in_singles s)
 of_singles Machine.conditional = refl
 of_singles _ = refl
 
@@ -82,7 +83,7 @@ of_item_types : (s : Starter) → IsOf g.item_type (in_item_types s)
 of_item_types Machine.conditional = refl
 of_item_types _ = refl
 
-of_types : (s : Starter) → IsOf g.seq_type (in_types s)
+of_types : (s : Starter) → IsOf g.sequence_type (in_types s)
 of_types Machine.conditional = refl
 of_types _ = refl
 
@@ -90,38 +91,38 @@ of_then : (n : Nonterminal) (p : Production) (o : Option Production) → head p 
 of_then n p None e = refl
 of_then n p (Some q) e = e
 
-of_order : (b : Bool) → IsOf g.order_part (cond b (Some g.stable) (Some g.ordered))
+of_order : (b : Bool) → IsOf g.order_by_clause (cond b (Some g.stable_order_by) (Some g.order_by))
 of_order true = refl
 of_order false = refl
 
 of_pick : (n : Nonterminal) (s : Starter) → IsOf n (pick n s)
-of_pick g.expr s = of_then g.expr g.listing (in_singles s) refl
-of_pick g.arguments s = of_then g.arguments g.argued (in_singles s) refl
+of_pick g.expr s = of_then g.expr g.expr_list (in_singles s) refl
+of_pick g.arguments s = of_then g.arguments g.argument_list (in_singles s) refl
 of_pick g.after_root s = of_then g.after_root g.root_steps (in_steps s) refl
-of_pick g.single s = of_singles s
+of_pick g.expr_single s = of_singles s
 of_pick g.clause s = of_clauses s
-of_pick (g.level l) s = of_then (g.level l) (g.chain l) (in_unaries s) refl
-of_pick g.unary s = of_unaries s
-of_pick g.path s = of_paths s
-of_pick g.relative s = of_then g.relative g.steps (in_steps s) refl
+of_pick (g.level l) s = of_then (g.level l) (g.operator_chain l) (in_unaries s) refl
+of_pick g.unary_expr s = of_unaries s
+of_pick g.path_expr s = of_paths s
+of_pick g.relative_path_expr s = of_then g.relative_path_expr g.steps (in_steps s) refl
 of_pick g.step_more s = of_more_steps s
-of_pick g.step s = of_steps s
+of_pick g.step_expr s = of_steps s
 of_pick g.node_test s = of_tests s
 of_pick g.kind_test s = of_kinds s
-of_pick g.primary s = of_primaries s
-of_pick g.seq_type s = of_types s
+of_pick g.primary_expr s = of_primaries s
+of_pick g.sequence_type s = of_types s
 of_pick g.item_type s = of_item_types s
-of_pick g.direct s = of_direct s
-of_pick g.closing s = of_closing s
-of_pick g.part s = of_parts s
-of_pick g.item s = of_items s
+of_pick g.dir_elem_constructor s = of_direct s
+of_pick g.dir_elem_closing s = of_closing s
+of_pick g.attr_value_content s = of_parts s
+of_pick g.dir_elem_content s = of_items s
 of_pick _ s = refl
 
 pub of_choose : (n : Nonterminal) (t : Token) (ts : List Token) → IsOf n (choose n t (second_of ts))
-of_choose g.order_part t ts = of_order (fits_key stable_word t)
+of_choose g.order_by_clause t ts = of_order (fits_key stable_word t)
 of_choose n t ts = of_pick n (starter_of t (second_of ts))
 
--- what a nonterminal begins with, a production that it stands at the front of begins with
+-- what a nonterminal begins with, a production that it is at the front of begins with
 then_some : (o : Option Production) (p q : Production) → o ≡ Some q → then_one o p ≡ Some p
 then_some None p q e = cc
 then_some (Some r) p q e = refl
@@ -130,11 +131,11 @@ then_then : (o : Option Production) (a b q : Production) → then_one o a ≡ So
 then_then None a b q e = cc
 then_then (Some r) a b q e = refl
 
-up_flwor : (s : Starter) (q : Production) → in_clauses s ≡ Some q → in_singles s ≡ Some g.flwor
+up_flwor : (s : Starter) (q : Production) → in_clauses s ≡ Some q → in_singles s ≡ Some g.flwor_expr
 up_flwor Machine.conditional q e = cc
 up_flwor _ q e = cc
 
-up_plain : (s : Starter) (q : Production) → then_one (in_unaries s) (g.chain ors) ≡ Some q → in_singles s ≡ Some g.plain
+up_plain : (s : Starter) (q : Production) → then_one (in_unaries s) (g.operator_chain or_level) ≡ Some q → in_singles s ≡ Some g.operator_expr
 up_plain Machine.conditional q e = cc
 up_plain _ q e = cc
 
@@ -158,7 +159,7 @@ up_kind : (s : Starter) (q : Production) → in_kinds s ≡ Some q → in_tests 
 up_kind Machine.conditional q e = cc
 up_kind _ q e = cc
 
-up_direct : (s : Starter) (q : Production) → in_direct s ≡ Some q → in_primaries s ≡ Some g.directly
+up_direct : (s : Starter) (q : Production) → in_direct s ≡ Some q → in_primaries s ≡ Some g.direct_constructor
 up_direct Machine.conditional q e = cc
 up_direct _ q e = cc
 
@@ -190,28 +191,28 @@ behind : {l : Language} {k : Key} {ss : List Symbol} {ts mid : List Token} {us :
 behind {k = k} w (taken {t = t} {ts = ts} f s) = at_key k t (λ x. second_of (x ∷ ts) ≡ second_key k) f (rw w refl)
 
 abbrev binds : Nonterminal → Bool
-binds g.binding = true
+binds g.for_binding = true
 binds g.let_binding = true
-binds g.quant = true
+binds g.quantified_binding = true
 binds _ = false
 
 binds_dollar : {l : Language} (p : Production) {ts mid : List Token} {us : List Raw} → binds (head p) ≡ true → Seq l (body p) ts us mid → second_of ts ≡ before_dollar
-binds_dollar g.bind e s = behind refl s
-binds_dollar g.let_bind e s = behind refl s
-binds_dollar g.quant_bind e s = behind refl s
+binds_dollar g.for_in e s = behind refl s
+binds_dollar g.let_assign e s = behind refl s
+binds_dollar g.quantified_in e s = behind refl s
 binds_dollar _ e s = never e
 
 behind_bound : {l : Language} {n : Nonterminal} {ss : List Symbol} {ts mid : List Token} {us : List Raw} → binds n ≡ true → Seq l (one n ∷ ss) ts us mid → second_of ts ≡ before_dollar
 behind_bound h (next (by p a e q) s) = binds_dollar p (rw e h) q
 
-key_alone : (k : Key) → 1 ≤ place k → second_key k ≡ alone
+key_alone : (k : Key) → 1 ≤ binding_power_of_key k → second_key k ≡ alone
 key_alone open_paren e = absurd (omega arith)
 key_alone colons e = absurd (omega arith)
 key_alone dollar e = absurd (omega arith)
 key_alone open_brace e = absurd (omega arith)
 key_alone _ e = refl
 
-token_alone : (t : Token) → 1 ≤ force t → second_token t ≡ alone
+token_alone : (t : Token) → 1 ≤ binding_power t → second_token t ≡ alone
 token_alone (token.key k) a = key_alone k a
 token_alone _ a = refl
 
@@ -240,7 +241,7 @@ behind_alone (t ∷ ts) a = let e = a.1 in rw e (token_alone t a.0)
 last_alone : {l : Language} {ts mid : List Token} {us : List Raw} → Seq l [] ts us mid → Ahead 1 mid → second_of ts ≡ alone
 last_alone (end {ts = ts}) a = behind_alone ts a
 
--- a key and what is behind it
+-- a key and what is after it
 pair_key : (k : Key) (t : Token) (ts : List Token) (z : Second) → fits_key k t ≡ true → second_of ts ≡ z → starter_of t (second_of ts) ≡ starter_of (token.key k) z
 pair_key k t ts z f e = at_key k t (λ x. starter_of x (second_of ts) ≡ starter_of (token.key k) z) f (ap (λ y. starter_of (token.key k) y) e)
 
@@ -323,27 +324,27 @@ quoted_by : (t : Token) (z : Second) → fits g.quoted t ≡ true → in_primari
 quoted_by (token.quoted n) z f = refl
 quoted_by _ z f = never f
 
-outer_by : (t : Token) (z : Second) → fits g.outer t ≡ true → in_direct (starter_of t z) ≡ Some g.element
-outer_by (token.outer p m) z f = refl
+outer_by : (t : Token) (z : Second) → fits g.start_tag_open t ≡ true → in_direct (starter_of t z) ≡ Some g.direct_element
+outer_by (token.start_tag_open p m) z f = refl
 outer_by _ z f = never f
 
-inner_by : (t : Token) (z : Second) → fits g.inner t ≡ true → in_items (starter_of t z) ≡ Some g.child
-inner_by (token.inner p m) z f = refl
+inner_by : (t : Token) (z : Second) → fits g.child_tag_open t ≡ true → in_items (starter_of t z) ≡ Some g.child_element
+inner_by (token.child_tag_open p m) z f = refl
 inner_by _ z f = never f
 
 chars_by : (t : Token) (z : Second) → fits g.chars t ≡ true → starter_of t z ≡ Machine.chars
 chars_by (token.chars cs b) z f = refl
 chars_by _ z f = never f
 
-enter_by : (t : Token) (z : Second) → fits g.enter t ≡ true → starter_of t z ≡ Machine.enter
-enter_by token.enter z f = refl
+enter_by : (t : Token) (z : Second) → fits g.enclosed_open t ≡ true → starter_of t z ≡ Machine.enclosed_open
+enter_by token.enclosed_open z f = refl
 enter_by _ z f = never f
 
-full_by : (t : Token) (z : Second) → fits g.tag_end t ≡ true → in_closing (starter_of t z) ≡ Some g.full
+full_by : (t : Token) (z : Second) → fits g.tag_end t ≡ true → in_closing (starter_of t z) ≡ Some g.element_content
 full_by token.tag_end z f = refl
 full_by _ z f = never f
 
-empty_by : (t : Token) (z : Second) → fits g.empty_end t ≡ true → in_closing (starter_of t z) ≡ Some g.no_content
+empty_by : (t : Token) (z : Second) → fits g.empty_end t ≡ true → in_closing (starter_of t z) ≡ Some g.empty_element
 empty_by token.empty_end z f = refl
 empty_by _ z f = never f
 
@@ -352,32 +353,32 @@ Fronts p (tok c ∷ ss) = (l : Language) (t : Token) (ts mid : List Token) (us :
 Fronts p (one n ∷ ss) = (t : Token) (ts : List Token) (q : Production) → choose n t (second_of ts) ≡ Some q → choose (head p) t (second_of ts) ≡ Some p
 Fronts p _ = ⊥
 
-fronts_chain : (l : Level) → Fronts (g.chain l) (body (g.chain l))
-fronts_chain casts = λ t ts q e. then_some (in_unaries (starter_of t (second_of ts))) (g.chain casts) q e
+fronts_chain : (l : Level) → Fronts (g.operator_chain l) (body (g.operator_chain l))
+fronts_chain cast_level = λ t ts q e. then_some (in_unaries (starter_of t (second_of ts))) (g.operator_chain cast_level) q e
 fronts_chain _ = λ t ts q e. then_then (in_unaries (starter_of t (second_of ts))) _ _ q e
 
-fronts_operated : (l : Level) → Fronts (g.operated l) (body (g.operated l))
-fronts_operated ors = λ l t ts mid us f s a. refl
+fronts_operated : (l : Level) → Fronts (g.operator_tail l) (body (g.operator_tail l))
+fronts_operated or_level = λ l t ts mid us f s a. refl
 fronts_operated _ = λ l t ts mid us f s a. refl
 
 fronts : (p : Production) → Fronts p (body p)
-fronts g.top = λ t ts q e. refl
-fronts g.listing = λ t ts q e. then_some (in_singles (starter_of t (second_of ts))) g.listing q e
-fronts g.type_top = λ t ts q e. refl
-fronts g.argued = λ t ts q e. then_some (in_singles (starter_of t (second_of ts))) g.argued q e
+fronts g.whole_expr = λ t ts q e. refl
+fronts g.expr_list = λ t ts q e. then_some (in_singles (starter_of t (second_of ts))) g.expr_list q e
+fronts g.whole_sequence_type = λ t ts q e. refl
+fronts g.argument_list = λ t ts q e. then_some (in_singles (starter_of t (second_of ts))) g.argument_list q e
 fronts g.root_steps = λ t ts q e. then_some (in_steps (starter_of t (second_of ts))) g.root_steps q e
-fronts g.conditional = λ l t ts mid us f s a. ap in_singles (pair_key if_word t ts before_paren f (behind refl s))
-fronts g.flwor = λ t ts q e. up_flwor (starter_of t (second_of ts)) q e
-fronts g.quantified = λ l t ts mid us f s a. ap in_singles (pair_any (some_word ∷ every_word ∷ []) t ts before_dollar Machine.quantifying f (behind_bound refl s) (refl, (refl, tt)))
-fronts g.plain = λ t ts q e. up_plain (starter_of t (second_of ts)) q e
+fronts g.if_expr = λ l t ts mid us f s a. ap in_singles (pair_key if_word t ts before_paren f (behind refl s))
+fronts g.flwor_expr = λ t ts q e. up_flwor (starter_of t (second_of ts)) q e
+fronts g.quantified_expr = λ l t ts mid us f s a. ap in_singles (pair_any (some_word ∷ every_word ∷ []) t ts before_dollar Machine.quantifying f (behind_bound refl s) (refl, (refl, tt)))
+fronts g.operator_expr = λ t ts q e. up_plain (starter_of t (second_of ts)) q e
 fronts g.for_clause = λ l t ts mid us f s a. ap in_clauses (pair_key for_word t ts before_dollar f (behind_bound refl s))
 fronts g.let_clause = λ l t ts mid us f s a. ap in_clauses (pair_key let_word t ts before_dollar f (behind_bound refl s))
 fronts g.following_clause = λ t ts q e. refl
-fronts g.ordered = λ l t ts mid us f s a. at_key order_word t (λ x. choose g.order_part x (second_of ts) ≡ Some g.ordered) f refl
-fronts g.stable = λ l t ts mid us f s a. at_key stable_word t (λ x. choose g.order_part x (second_of ts) ≡ Some g.stable) f refl
-fronts g.key_spec = λ t ts q e. refl
-fronts (g.chain l) = fronts_chain l
-fronts (g.operated l) = fronts_operated l
+fronts g.order_by = λ l t ts mid us f s a. at_key order_word t (λ x. choose g.order_by_clause x (second_of ts) ≡ Some g.order_by) f refl
+fronts g.stable_order_by = λ l t ts mid us f s a. at_key stable_word t (λ x. choose g.order_by_clause x (second_of ts) ≡ Some g.stable_order_by) f refl
+fronts g.order_key = λ t ts q e. refl
+fronts (g.operator_chain l) = fronts_chain l
+fronts (g.operator_tail l) = fronts_operated l
 fronts g.signed = λ l t ts mid us f s a. at_any (plus ∷ minus ∷ []) t (λ x. in_unaries (starter_of x (second_of ts)) ≡ Some g.signed) f (refl, (refl, tt))
 fronts g.unsigned = λ t ts q e. up_unsigned (starter_of t (second_of ts)) q e
 fronts g.rooted = λ l t ts mid us f s a. at_key slash t (λ x. in_paths (starter_of x (second_of ts)) ≡ Some g.rooted) f refl
@@ -406,18 +407,18 @@ fronts g.computed = λ l t ts mid us f s a. ap in_primaries (pair_any (element_w
 fronts g.constructed = λ l t ts mid us f s a. ap in_primaries (pair_any (element_word ∷ attribute_word ∷ []) t ts before_named Machine.constructed f (behind_named s) (refl, (refl, tt)))
 fronts g.pi_constructed = λ l t ts mid us f s a. ap in_primaries (pair_key pi_word t ts before_named f (behind_word s))
 fronts g.enclosing = λ l t ts mid us f s a. ap in_primaries (pair_any (document_word ∷ text_word ∷ comment_word ∷ []) t ts before_brace Machine.enclosing f (behind refl s) (refl, (refl, (refl, tt))))
-fronts g.directly = λ t ts q e. up_direct (starter_of t (second_of ts)) q e
+fronts g.direct_constructor = λ t ts q e. up_direct (starter_of t (second_of ts)) q e
 fronts g.empty_type = λ l t ts mid us f s a. ap in_types (pair_key empty_sequence_word t ts before_paren f (behind refl s))
 fronts g.items_type = λ t ts q e. up_type (starter_of t (second_of ts)) q e
 fronts g.any_item = λ l t ts mid us f s a. ap in_item_types (pair_key item_word t ts before_paren f (behind refl s))
 fronts g.kind_item = λ t ts q e. up_kind_item (starter_of t (second_of ts)) q e
 fronts g.atomic_item = λ l t ts mid us f s a. ap in_item_types (named_by t ts (last_alone s a) f)
-fronts g.element = λ l t ts mid us f s a. outer_by t (second_of ts) f
-fronts g.full = λ l t ts mid us f s a. full_by t (second_of ts) f
-fronts g.no_content = λ l t ts mid us f s a. empty_by t (second_of ts) f
+fronts g.direct_element = λ l t ts mid us f s a. outer_by t (second_of ts) f
+fronts g.element_content = λ l t ts mid us f s a. full_by t (second_of ts) f
+fronts g.empty_element = λ l t ts mid us f s a. empty_by t (second_of ts) f
 fronts g.part_chars = λ l t ts mid us f s a. ap in_parts (chars_by t (second_of ts) f)
 fronts g.part_enclosed = λ l t ts mid us f s a. ap in_parts (enter_by t (second_of ts) f)
-fronts g.child = λ l t ts mid us f s a. inner_by t (second_of ts) f
+fronts g.child_element = λ l t ts mid us f s a. inner_by t (second_of ts) f
 fronts g.item_chars = λ l t ts mid us f s a. ap in_items (chars_by t (second_of ts) f)
 fronts g.item_enclosed = λ l t ts mid us f s a. ap in_items (enter_by t (second_of ts) f)
 fronts _ = λ l t ts mid us f s a. refl

@@ -4,3 +4,4 @@ pub mod Residue
 pub mod Choice
 pub mod Steps
 pub mod Run
+pub mod ExprNest

@@ -3,9 +3,10 @@ use Rattle.std.proofs.Common.{◌≡◌, ◌⊎◌, inl, inr, not, ◌||◌, sub
 use Rattle.std.proofs.lemmas.Bool.{leb-true, ltb-true, and_parts, or_cases, and_left, and_right, not-true}
 use Rattle.expr_grammar.specs.Keys.{open_brace}
 use Rattle.expr_grammar.specs.TokenNames.{Token}
-use Rattle.expr_terms.specs.Tokens.{force, fits_key, fits_name}
+use Rattle.expr_keys.specs.Tokens.{binding_power, fits_key, fits_name}
 use Rattle.expr_grammar.specs.Terms.{Language, Nonterminal, Class, Symbol, tok, maybe, many, Production}
-use Rattle.expr_terms.specs.Productions.{body, head, fits}
+use Rattle.expr_keys.specs.Classes.{fits}
+use Rattle.expr_terms.specs.Productions.{body, head}
 use Rattle.expr_grammar.specs.RawNames.{Raw}
 use Rattle.expr_terms.specs.Raws.{build}
 use Rattle.expr_grammar.specs.Grammar.{Derives, by, Seq, end, taken, next, without, with, stop, again, bare, given}
@@ -70,7 +71,7 @@ calm_class p c ss h g = go (or_cases _ _ (leads_token p c ss h).3)
     go (inl x) = let y = ltb-true _ _ x in absurd (omega arith)
     go (inr y) = y
 
--- what may be left out: what is behind it
+-- what may be left out: what is after it
 pub ok_maybe : (p : Production) (n : Nonterminal) (ss : List Symbol) → ok p (maybe n ∷ ss) ≡ true → (bound (grip n) p ss ≡ true) × (ok p ss ≡ true) × (bound (suc (last n)) p ss ≡ true)
 ok_maybe p n ss k =
     let parts = and_parts (bound (grip n) p ss) (bound (suc (last n)) p ss && ok p ss) k in
@@ -153,10 +154,10 @@ seq_brace h (again d s) a = no_brace d
 seq_brace h (bare e s) a = seq_brace h s a
 seq_brace h (given e d s) a = no_brace d
 
--- what comes has at least the place, and is not a name with '{' behind it
+-- what comes has at least the place, and is not a name with '{' after it
 abbrev pub Ahead : ℕ → List Token → Type 0
 Ahead g [] = Unit {0}
-Ahead g (t ∷ ts) = (g ≤ force t) × (named_open t ts ≡ false)
+Ahead g (t ∷ ts) = (g ≤ binding_power t) × (named_open t ts ≡ false)
 
 pub ahead_less : (g h : ℕ) (ts : List Token) → g ≤ h → Ahead h ts → Ahead g ts
 ahead_less g h [] e a = tt
@@ -168,31 +169,31 @@ ahead_brace (t ∷ ts) g h a = go (fits_key open_brace t) refl
   where
     go : (b : Bool) → fits_key open_brace t ≡ b → b ≡ false
     go true e =
-        let same = ap force (is_key open_brace t e) in
+        let same = ap binding_power (is_key open_brace t e) in
         let far = a.0 in
         absurd (omega arith)
     go false e = refl
 
 plain_name : (c : Class) (t : Token) → plain c ≡ true → fits c t ≡ true → fits_name t ≡ false
 plain_name (g.key k) t h f = subst (λ x. fits_name x ≡ false) (is_key k t f) (not-true _ h)
-plain_name g.inner (token.inner p m) h f = refl
-plain_name g.inner _ h f = never f
-plain_name g.outer (token.outer p m) h f = refl
-plain_name g.outer _ h f = never f
-plain_name g.shut (token.shut p m) h f = refl
-plain_name g.shut _ h f = never f
+plain_name g.child_tag_open (token.child_tag_open p m) h f = refl
+plain_name g.child_tag_open _ h f = never f
+plain_name g.start_tag_open (token.start_tag_open p m) h f = refl
+plain_name g.start_tag_open _ h f = never f
+plain_name g.end_tag (token.end_tag p m) h f = refl
+plain_name g.end_tag _ h f = never f
 plain_name g.attribute (token.attribute p m) h f = refl
 plain_name g.attribute _ h f = never f
-plain_name g.unquote token.unquote h f = refl
-plain_name g.unquote _ h f = never f
+plain_name g.attribute_end token.attribute_end h f = refl
+plain_name g.attribute_end _ h f = never f
 plain_name g.tag_end token.tag_end h f = refl
 plain_name g.tag_end _ h f = never f
 plain_name g.empty_end token.empty_end h f = refl
 plain_name g.empty_end _ h f = never f
 plain_name g.chars (token.chars m b) h f = refl
 plain_name g.chars _ h f = never f
-plain_name g.enter token.enter h f = refl
-plain_name g.enter _ h f = never f
+plain_name g.enclosed_open token.enclosed_open h f = refl
+plain_name g.enclosed_open _ h f = never f
 plain_name _ t h f = never h
 
 abbrev Calm : List Token → Type 0
@@ -203,7 +204,7 @@ ahead_from : (n : Nonterminal) (g : ℕ) (ts : List Token) → g ≤ first n →
 ahead_from n g [] e s c = tt
 ahead_from n g (t ∷ ts) e s c = let a = s.0 in (omega arith, c)
 
--- a token of the class, with what is behind it
+-- a token of the class, with what is after it
 token_calm : {l : Language} (p : Production) (c : Class) {ss : List Symbol} (t : Token) {ts mid : List Token} {us : List Raw} → (plain c || shuts ss) ≡ true → fits c t ≡ true → Seq l ss ts us mid → Ahead (grip (head p)) mid → named_open t ts ≡ false
 token_calm p c {ss = ss} t {ts = ts} {mid = mid} h f s a = go (or_cases _ _ h)
   where

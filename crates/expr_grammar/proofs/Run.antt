@@ -3,7 +3,7 @@ use Rattle.std.proofs.Common.{◌≡◌, Bool, true, false, cond, List, [], ◌�
 use Rattle.std.proofs.lemmas.Option.{none-some, same_Some}
 use Rattle.expr_terms.specs.Choices.{second_of}
 use Rattle.expr_grammar.specs.TokenNames.{Token}
-use Rattle.expr_grammar.specs.Terms.{Language, whole, Symbol, tok, one, maybe, many, longest, Production, top, xpath, xquery, whole_type, type_top}
+use Rattle.expr_grammar.specs.Terms.{Language, whole, Symbol, tok, one, maybe, many, longest, Production, whole_expr, xpath, xquery, whole_type, whole_sequence_type}
 use Rattle.expr_terms.specs.Productions.{body, head, speaks}
 use Rattle.expr_grammar.specs.RawNames.{Raw}
 use Rattle.expr_terms.specs.Raws.{build}
@@ -94,20 +94,20 @@ run_found l w (t ∷ ts) fs sound e = go (advance l t (second_of ts) fs) (steps 
     go None k d rec = absurd (none-some _ d)
     go (Some gs) k d rec = k.1 (rec gs k.2 d)
 
-speaks_top : (l : Language) → speaks l top ≡ true
+speaks_top : (l : Language) → speaks l whole_expr ≡ true
 speaks_top xpath = refl
 speaks_top xquery = refl
 
-speaks_type : (l : Language) → speaks l type_top ≡ true
+speaks_type : (l : Language) → speaks l whole_sequence_type ≡ true
 speaks_type xpath = refl
 speaks_type xquery = refl
 
-only_top : (p : Production) → head p ≡ whole → p ≡ top
-only_top top e = refl
+only_top : (p : Production) → head p ≡ whole → p ≡ whole_expr
+only_top whole_expr e = refl
 only_top _ e = cc
 
-only_type : (p : Production) → head p ≡ whole_type → p ≡ type_top
-only_type type_top e = refl
+only_type : (p : Production) → head p ≡ whole_type → p ≡ whole_sequence_type
+only_type whole_sequence_type e = refl
 only_type _ e = cc
 
 over_end : {l : Language} {w v : Raw} {ts : List Token} → Feeds l w [] v ts → (v ≡ w) × (ts ≡ [])
@@ -139,23 +139,23 @@ derives_runs {l = l} {ts = ts} {w = w} p o s = run_finds l w ts (start p) o.soun
 runs_derives : {l : Language} {ts : List Token} {w : Raw} (p : Production) → IsOnly l p → run l ts (start p) ≡ Some w → Derives l (head p) ts w []
 runs_derives {l = l} {ts = ts} {w = w} p o e = began p o (run_found l w ts (start p) o.sound e)
 
-top_only : (l : Language) → IsOnly l top
+top_only : (l : Language) → IsOnly l whole_expr
 top_only l = record { spoken = speaks_top l; only = only_top; sound = (refl, tt) }
 
-type_only : (l : Language) → IsOnly l type_top
+type_only : (l : Language) → IsOnly l whole_sequence_type
 type_only l = record { spoken = speaks_type l; only = only_type; sound = (refl, tt) }
 
 pub spells_runs : {l : Language} {ts : List Token} {w : Raw} → Spells l ts w → read_whole l ts ≡ Some w
-spells_runs {l = l} s = derives_runs top (top_only l) s
+spells_runs {l = l} s = derives_runs whole_expr (top_only l) s
 
 pub runs_spells : {l : Language} {ts : List Token} {w : Raw} → read_whole l ts ≡ Some w → Spells l ts w
-runs_spells {l = l} e = runs_derives top (top_only l) e
+runs_spells {l = l} e = runs_derives whole_expr (top_only l) e
 
 pub spells_type_runs : {l : Language} {ts : List Token} {w : Raw} → SpellsType l ts w → read_type l ts ≡ Some w
-spells_type_runs {l = l} s = derives_runs type_top (type_only l) s
+spells_type_runs {l = l} s = derives_runs whole_sequence_type (type_only l) s
 
 pub runs_spells_type : {l : Language} {ts : List Token} {w : Raw} → read_type l ts ≡ Some w → SpellsType l ts w
-runs_spells_type {l = l} e = runs_derives type_top (type_only l) e
+runs_spells_type {l = l} e = runs_derives whole_sequence_type (type_only l) e
 
 pub spells_one : {l : Language} {ts : List Token} {v w : Raw} → Spells l ts v → Spells l ts w → v ≡ w
 spells_one a b = same_Some _ _ (sym (spells_runs a) ∙ spells_runs b)

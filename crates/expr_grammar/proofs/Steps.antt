@@ -3,8 +3,9 @@ use Rattle.std.proofs.Common.{◌≡◌, ◌⊎◌, inl, inr, ℕ, zero, suc, �
 use Rattle.std.proofs.lemmas.Bool.{leb-true, ltb-true, and_parts}
 use Rattle.std.proofs.lemmas.Option.{none-some, same_Some}
 use Rattle.expr_grammar.specs.TokenNames.{Token}
-use Rattle.expr_grammar.specs.Terms.{Language, Nonterminal, Class, Symbol, tok, one, maybe, many, longest, Production, level, ors}
-use Rattle.expr_terms.specs.Productions.{body, head, fits, speaks, begins, keeps}
+use Rattle.expr_grammar.specs.Terms.{Language, Nonterminal, Class, Symbol, tok, one, maybe, many, longest, Production, level, or_level}
+use Rattle.expr_keys.specs.Classes.{fits, begins}
+use Rattle.expr_terms.specs.Productions.{body, head, speaks, keeps}
 use Rattle.expr_grammar.specs.Grammar.{Derives, by, Seq, end, taken, next, without, with, stop, again, bare, given}
 use Rattle.expr_grammar.specs.RawNames.{Raw, leaf}
 use Rattle.expr_terms.specs.Raws.{keep, build}
@@ -65,7 +66,7 @@ starts_less n m t a b s = (omega arith, omega arith)
 
 below_deep : (n : Nonterminal) → rank n < deep
 unfolding deep
-below_deep (level ors) = omega arith
+below_deep (level or_level) = omega arith
 below_deep _ = omega arith
 
 module _ (l : Language) (w : Raw) (t : Token) (ts : List Token) where

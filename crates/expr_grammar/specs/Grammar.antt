@@ -1,7 +1,8 @@
 -- The grammar of XPath expressions and of the expressions of queries: the relation that the table of productions gives.
 use Rattle.std.specs.Prelude.{◌≡◌, Bool, true, false, List, [], ◌∷◌}
 use Rattle.expr_grammar.specs.TokenNames.{Token}
-use Rattle.expr_terms.specs.Productions.{fits, body, head, speaks, begins}
+use Rattle.expr_keys.specs.Classes.{fits, begins}
+use Rattle.expr_terms.specs.Productions.{body, head, speaks}
 use Rattle.expr_grammar.specs.Terms.{Language, Nonterminal, whole, whole_type, Class, Symbol, tok, one, maybe, many, longest, Production}
 use Rattle.expr_grammar.specs.RawNames.{Raw}
 use Rattle.expr_terms.specs.Raws.{keep, build}
@@ -14,7 +15,7 @@ mutual
   pub data Derives (l : Language) : Nonterminal → List Token → Raw → List Token → Type 0 where
     by : {n : Nonterminal} (p : Production) {ts rest : List Token} {vs : List Raw} → speaks l p ≡ true → head p ≡ n → Seq l (body p) ts vs rest → Derives l n ts (build p vs) rest
 
-  -- the parts of a production, one behind the other
+  -- the parts of a production, one after the other
   pub data Seq (l : Language) : List Symbol → List Token → List Raw → List Token → Type 0 where
     end : {ts : List Token} → Seq l [] ts [] ts
     taken : {c : Class} {ss : List Symbol} {t : Token} {ts rest : List Token} {vs : List Raw} → fits c t ≡ true → Seq l ss ts vs rest → Seq l (tok c ∷ ss) (t ∷ ts) (keep c t vs) rest

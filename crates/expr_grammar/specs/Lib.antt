@@ -5,3 +5,4 @@ pub mod ChoiceNames
 pub mod RawNames
 pub mod Grammar
 pub mod Machine
+pub mod ExprNest

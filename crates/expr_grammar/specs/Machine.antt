@@ -1,8 +1,9 @@
--- A reader of tokens: the productions that are open, each with what it has and what it still wants. What stands behind the token is told by a `Second`.
+-- A reader of tokens: the productions that are open, each with what it has and what it still wants. What comes after the token is told by a `Second`.
 use Rattle.std.specs.Prelude.{ℕ, suc, zero, Bool, true, false, List, [], ◌∷◌, ◌++◌, Option, Some, None, if◌then◌else◌, option_and_then}
 use Rattle.expr_grammar.specs.TokenNames.{Token}
-use Rattle.expr_terms.specs.Productions.{fits, body, speaks, begins}
-use Rattle.expr_grammar.specs.Terms.{Language, Nonterminal, Symbol, tok, one, maybe, many, longest, Production, top, type_top}
+use Rattle.expr_keys.specs.Classes.{fits, begins}
+use Rattle.expr_terms.specs.Productions.{body, speaks}
+use Rattle.expr_grammar.specs.Terms.{Language, Nonterminal, Symbol, tok, one, maybe, many, longest, Production, whole_expr, whole_sequence_type}
 use Rattle.expr_grammar.specs.ChoiceNames.{Second}
 use Rattle.expr_terms.specs.Choices.{second_of, choose}
 use Rattle.expr_grammar.specs.RawNames.{Raw}
@@ -21,7 +22,7 @@ abbrev pub picked : (Nonterminal → List Frame → Option (List Frame)) → Lan
 picked go l t fs None = None
 picked go l t fs (Some p) = if speaks l p then entered go t p (body p) fs else None
 
--- opens the nonterminal and what stands at its front, down to the token
+-- opens the nonterminal and what is at its front, down to the token
 abbrev pub descend : Language → ℕ → Nonterminal → Token → Second → List Frame → Option (List Frame)
 descend l zero n t s fs = None
 descend l (suc d) n t s fs = picked (λ m gs. descend l d m t s gs) l t fs (choose n t s)
@@ -36,7 +37,7 @@ abbrev pub or_else : Option (List Frame) → Way → Way
 or_else None w = w
 or_else (Some fs) w = moved fs
 
--- more than the nonterminals that may stand at the front of one another
+-- more than the nonterminals that may be at the front of one another
 unfoldable pub deep : ℕ
 deep = 50
 
@@ -88,8 +89,8 @@ start p = doing p [] (body p) ∷ []
 
 -- the value of all of the tokens as an expression, where they spell one
 abbrev pub read_whole : Language → List Token → Option Raw
-read_whole l ts = run l ts (start top)
+read_whole l ts = run l ts (start whole_expr)
 
 -- .. and as a sequence type
 abbrev pub read_type : Language → List Token → Option Raw
-read_type l ts = run l ts (start type_top)
+read_type l ts = run l ts (start whole_sequence_type)

@@ -6,9 +6,11 @@
 //! pure function: `read_whole` and `read_type`. The laws say that the two are one.
 #![tactic(auto)]
 
+pub mod expr_nest;
+
 ghost use Rattle.std.specs.Prelude.{◌≡◌, ◌↔◌, List, Some, None};
-ghost use Rattle.expr_terms.specs.declared.tokens.Token.{Token};
-ghost use Rattle.expr_terms.specs.declared.productions.Language.{Language};
+ghost use Rattle.expr_keys.specs.declared.tokens.Token.{Token};
+ghost use Rattle.expr_keys.specs.declared.productions.Language.{Language};
 ghost use Rattle.expr_terms.specs.declared.raws.Raw.{Raw};
 ghost use Rattle.expr_grammar.specs.Grammar.{Spells, SpellsType};
 ghost use Rattle.expr_grammar.specs.Machine.{read_whole, read_type};

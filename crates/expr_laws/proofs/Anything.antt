@@ -4,16 +4,16 @@ use Rattle.std.specs.Prelude.{true, Result, Ok, Err}
 use Rattle.xt_names.specs.declared.codes.Code.{Code}
 use Rattle.xt_names.specs.declared.names.Name.{Name}
 use Rattle.xt_tree.specs.Sound.{is_sound_name}
-use Rattle.function_arguments.specs.Answers.{of_integer, of_truth}
+use Rattle.xdm_items.specs.FunctionArguments.Answers.{of_integer, of_truth}
 use Rattle.lazy_seq.specs.Orders.{in_document_order}
-use Rattle.outcomes.specs.Outcome.{Outcome, Ends, Fails, Deep, OnEnds, Every, Anything}
-use Rattle.outcomes.specs.Follow.{Relation, IsCarrying}
+use Rattle.expr_meaning.specs.Outcomes.Outcome.{Outcome, Ends, Fails, Deep, OnEnds, Every, Anything}
+use Rattle.expr_meaning.specs.Outcomes.Follow.{Relation, IsCarrying}
 use Rattle.expr_meaning.specs.Env.{bind_all, at_focus}
 use Rattle.expr_meaning.specs.Calls.{members_of, key_of}
 use Rattle.expr_meaning.specs.Making.{joined_atoms}
 use Rattle.expr_laws.specs.Carrier.{Carrier, OnValue, IsKept, IsMade, AreAlike}
 
-all_any : {A : Type 0} (xs : List A) → Every Anything xs
+pub all_any : {A : Type 0} (xs : List A) → Every Anything xs
 all_any [] = tt
 all_any (x ∷ xs) = (tt, all_any xs)
 
@@ -57,18 +57,6 @@ any_kept = record {
   library = λ f focus h args g. any_value _;
 }
 
-pub same_places : AreAlike Anything (λ e f. e ≡ f)
-same_places = record {
-  bound = λ e f h bs g. ap (λ x. bind_all bs x) h;
-  focused = λ e f h p g. ap (λ x. at_focus x p) h;
-  focus = λ e f h. ap (λ x. x.focus) h;
-  item = λ e f h p g. tt;
-  state = λ e f h. ap (λ x. x.state) h;
-  current = λ e f h. any_value _;
-  members = λ e f h. all_any (members_of e.state.group);
-  key = λ e f h. all_any (key_of e.state.group);
-}
-
 module _ (like : Code → Code → Type 0) (alike : (code : Code) → like code code) (rel : Relation)
     (carries : IsCarrying like rel) where
   -- the relation, looked at in the same place on both sides
@@ -81,8 +69,24 @@ module _ (like : Code → Code → Type 0) (alike : (code : Code) → like code 
     carries = carries;
     good = Anything;
     kept = any_kept;
-    at = λ e f. e ≡ f;
-    places = same_places;
+    own_variable = Anything;
+    own_function = Anything;
+    Sight = Unit {0};
+    inner = tt;
+    at = λ s e f. e ≡ f;
+    bound = λ s e f h bs g. ap (λ x. bind_all bs x) h;
+    focused = λ s e f h p g. ap (λ x. at_focus x p) h;
+  }
+
+  pub any_places : AreAlike in_one_place
+  any_places = record {
+    variables = λ name. tt;
+    functions = λ name. tt;
+    focus = λ s. record { same = λ e f h. ap (λ x. x.focus) h; item = λ e f h p g. tt };
+    state = λ s e f h. ap (λ x. x.state) h;
+    current = λ s e f h. any_value _;
+    members = λ s e f h. all_any (members_of e.state.group);
+    key = λ s e f h. all_any (key_of e.state.group);
   }
 
   pub any_made : IsMade in_one_place

@@ -7,10 +7,10 @@ use Rattle.xdm_items.specs.declared.items.Item.{Item}
 use Rattle.xt_syntax.specs.declared.exprs.Expr.{Expr}
 use Rattle.xt_syntax.specs.declared.queries.QueryFunction.{QueryFunction}
 use Rattle.xt_syntax.specs.declared.queries.QueryVar.{QueryVar}
-use Rattle.outcomes.specs.Outcome.{Outcome, Ends, Fails, Deep, step_outcome, OnEnds, Every}
-use Rattle.outcomes.specs.Outcome.{Anything}
-use Rattle.outcomes.specs.Follow.{Follows, FailsLike, same_code, deeper}
-use Rattle.outcomes.proofs.Relations.{carried_same, deeper_carries, nothing_known}
+use Rattle.expr_meaning.specs.Outcomes.Outcome.{Outcome, Ends, Fails, Deep, step_outcome, OnEnds, Every}
+use Rattle.expr_meaning.specs.Outcomes.Outcome.{Anything}
+use Rattle.expr_meaning.specs.Outcomes.Follow.{Follows, FailsLike, same_code, deeper}
+use Rattle.expr_meaning.proofs.OutcomesLemmas.Relations.{carried_same, deeper_carries, nothing_known}
 use Rattle.expr_meaning.specs.Env.{Binding, Env, variable_value}
 use Rattle.expr_meaning.specs.Logic.{typed}
 use Rattle.expr_meaning.specs.Meaning.{outcome}
@@ -18,14 +18,18 @@ use Rattle.expr_meaning.specs.Queries.{Run, converted_to, bound_params, find_fun
 use Rattle.expr_meaning.specs.Queries.{body_env, body_value, called_function, calls_at}
 use Rattle.expr_meaning.specs.Queries.{program_at, top_env}
 use Rattle.expr_meaning.specs.Queries.{initialised, globals_from, query_outcome}
-use Rattle.expr_laws.specs.Carrier.{Carrier, ProgramsMeet, IsMade}
+use Rattle.expr_laws.specs.Carrier.{Carrier, AreAlike, ProgramsAgree, IsMade}
 use Rattle.expr_laws.specs.Depth.{CallsChangeNothing}
-use Rattle.expr_laws.proofs.Anything.{any_list, any_made, any_name, any_value, in_one_place}
+use Rattle.expr_laws.proofs.Anything.{any_list, any_made, any_name, any_places, any_value}
+use Rattle.expr_laws.proofs.Anything.{in_one_place}
 use Rattle.expr_laws.proofs.Steps.{any_step}
 use Rattle.expr_laws.proofs.Whole.{whole_meets}
 
 abbrev depth : Carrier
 depth = in_one_place same_code (λ code. refl) deeper deeper_carries
+
+places : AreAlike depth
+places = any_places same_code (λ code. refl) deeper deeper_carries
 
 made : IsMade depth
 made = any_made same_code (λ code. refl) deeper deeper_carries
@@ -51,27 +55,30 @@ module _ (run : Run) where
       deeper (List Item) (Every Anything) (calls_at run globals n name args k)
       (calls_at run globals (suc n) name args k)
 
-  programs_meet : (globals : List Binding) (n : ℕ) → CallsMeet globals n →
-      ProgramsMeet depth (program_at run globals n) (program_at run globals (suc n))
-  programs_meet globals n h = record {
-    calls = λ name args g k. h name args k;
+  programs_agree : (globals : List Binding) (n : ℕ) → CallsMeet globals n →
+      ProgramsAgree depth (program_at run globals n) (program_at run globals (suc n))
+  programs_agree globals n h = record {
+    meet = record {
+      calls = λ name o args g k. h name args k;
+      document = λ xs. refl;
+      documents = λ xs. any_value _;
+      variables = λ v e f s name o.
+          ap (λ x. variable_value (program_at run globals n) x name) s;
+      variable = λ v e f s name o. any_value _;
+    };
     keys = λ name values root g k. unchanged (List Item) (Every Anything) (Ends [] k) tt;
-    document = λ xs. refl;
-    documents = λ xs. any_value _;
     namespaces = refl;
     element_default = refl;
     element_names = λ xs g. any_name _;
     attribute_names = λ xs g. any_name _;
-    variables = λ e f h name. ap (λ x. variable_value (program_at run globals n) x name) h;
-    variable = λ e f h name. any_value _;
   }
 
   expr_deeper : (globals : List Binding) (n : ℕ) → CallsMeet globals n → (x : Expr) (e : Env)
       (k : ℕ) → deeper (List Item) (Every Anything) (outcome (program_at run globals n) x e k)
       (outcome (program_at run globals (suc n)) x e k)
   expr_deeper globals n h x e k =
-      whole_meets depth made (program_at run globals n) (program_at run globals (suc n))
-      (programs_meet globals n h) x (λ s. absurd s) e e refl k
+      whole_meets depth places made (program_at run globals n) (program_at run globals (suc n))
+      (programs_agree globals n h) x (λ s. absurd s) tt e e refl k
 
   body_deeper : (globals : List Binding) (n : ℕ) → CallsMeet globals n → (f : QueryFunction)
       (bound : List Binding) (k : ℕ) → deeper (List Item) (Every Anything)

@@ -2,13 +2,14 @@
 use Rattle.std.proofs.Common.{ℕ, List, ap, refl}
 use Rattle.xdm_items.specs.declared.items.Item.{Item}
 use Rattle.xt_syntax.specs.declared.exprs.Expr.{Expr}
-use Rattle.outcomes.specs.Outcome.{Outcome, Ends, Fails, Deep, and_then, OnEnds, Every, Anything}
-use Rattle.outcomes.specs.Follow.{Relation, IsCarrying, any_code}
+use Rattle.expr_meaning.specs.Outcomes.Outcome.{Outcome, Ends, Fails, Deep, and_then, OnEnds, Every, Anything}
+use Rattle.expr_meaning.specs.Outcomes.Follow.{Relation, IsCarrying, any_code}
 use Rattle.expr_meaning.specs.Env.{Env, Program, variable_value}
 use Rattle.expr_meaning.specs.Meaning.{outcome}
-use Rattle.expr_laws.specs.Carrier.{ProgramsMeet}
+use Rattle.expr_laws.specs.Carrier.{ProgramsAgree}
 use Rattle.expr_laws.specs.Ended.{IsEnded, CallsEnd}
-use Rattle.expr_laws.proofs.Anything.{any_list, any_made, any_name, any_value, in_one_place}
+use Rattle.expr_laws.proofs.Anything.{any_list, any_made, any_name, any_places, any_value}
+use Rattle.expr_laws.proofs.Anything.{in_one_place}
 use Rattle.expr_laws.proofs.Whole.{whole_meets}
 
 abbrev ended : Relation
@@ -38,18 +39,22 @@ pub always_ended : (p : Program) → CallsEnd p → (x : Expr) (e : Env) (k : �
     IsEnded (outcome p x e k)
 always_ended p h x e k =
     (whole_meets (in_one_place any_code (λ code. tt) ended ended_carries)
-    (any_made any_code (λ code. tt) ended ended_carries) p p meets x (λ s. absurd s) e e refl k).0
+    (any_places any_code (λ code. tt) ended ended_carries)
+    (any_made any_code (λ code. tt) ended ended_carries) p p agree x (λ s. absurd s) tt e e refl
+    k).0
   where
-    meets : ProgramsMeet (in_one_place any_code (λ code. tt) ended ended_carries) p p
-    meets = record {
-      calls = λ name args g j. any_ended (p.calls name args j) (h.calls name args j);
+    agree : ProgramsAgree (in_one_place any_code (λ code. tt) ended ended_carries) p p
+    agree = record {
+      meet = record {
+        calls = λ name o args g j. any_ended (p.calls name args j) (h.calls name args j);
+        document = λ xs. refl;
+        documents = λ xs. any_value _;
+        variables = λ v e f s name o. ap (λ z. variable_value p z name) s;
+        variable = λ v e f s name o. any_value _;
+      };
       keys = λ name values root g j. any_ended (p.keys name values root j) (h.keys name values root j);
-      document = λ xs. refl;
-      documents = λ xs. any_value _;
       namespaces = refl;
       element_default = refl;
       element_names = λ xs g. any_name _;
       attribute_names = λ xs g. any_name _;
-      variables = λ e f s name. ap (λ z. variable_value p z name) s;
-      variable = λ e f s name. any_value _;
     }

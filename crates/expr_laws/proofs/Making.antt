@@ -18,13 +18,13 @@ use Rattle.xt_tree.specs.Sound.{is_sound_name, is_named_xmlns, is_xml_in_any_cas
 use Rattle.xt_tree.specs.declared.trees.Tree.{Tree}
 use Rattle.xt_tree.specs.declared.trees.Tree.TheVariants as tree
 use Rattle.xdm_items.specs.declared.items.Item.{Item}
-use Rattle.function_arguments.specs.Arguments.{and_then as result_then}
+use Rattle.xdm_items.specs.FunctionArguments.Arguments.{and_then as result_then}
 use Rattle.operator_values.specs.Operands.{atom_of}
 use Rattle.node_builder.specs.Made.{Made, Gives, Fails as Refuses}
 use Rattle.node_builder.specs.Trees.{numbered, element_of, document_of, comment_of, pi_of}
 use Rattle.node_builder.specs.declared.kinds.Duplicates.TheVariants.{Refuse}
-use Rattle.outcomes.specs.Outcome.{Ends, and_then, step_outcome, for_each, OnEnds, Every}
-use Rattle.outcomes.proofs.Relations.{every_append}
+use Rattle.expr_meaning.specs.Outcomes.Outcome.{Ends, and_then, step_outcome, for_each, OnEnds, Every}
+use Rattle.expr_meaning.proofs.OutcomesLemmas.Relations.{every_append}
 use Rattle.expr_meaning.specs.Env.{Env, Meaning, Program}
 use Rattle.expr_meaning.specs.Names.{NameMeaning, fixed, computed, name_of_items, attribute_name}
 use Rattle.expr_meaning.specs.Names.{target_of_items, target_of_text, target_of_atom}
@@ -36,42 +36,42 @@ use Rattle.expr_meaning.specs.Making.{PartMeaning, chars, enclosed, child, liter
 use Rattle.expr_meaning.specs.Making.{attribute_part, attribute_text}
 use Rattle.expr_meaning.specs.Making.{AttributeMeaning, direct_attribute, content_part}
 use Rattle.expr_meaning.specs.Making.{direct_made}
-use Rattle.expr_laws.specs.Carrier.{Carrier, Meet, ProgramsMeet, IsMade, OnValue, IsName}
+use Rattle.expr_laws.specs.Carrier.{Carrier, Meet, ProgramsAgree, IsMade, OnValue, IsName}
 use Rattle.expr_laws.specs.Carrier.{IsAttributeName, IsTarget, IsText}
 use Rattle.expr_laws.proofs.Steps.{same_step}
 
-abbrev pub NameMeets : Carrier → NameMeaning → NameMeaning → Type 0
-NameMeets c (fixed a) (fixed b) = (a ≡ b) × IsName c a
-NameMeets c (fixed a) (computed n) = ⊥
-NameMeets c (computed m) (fixed b) = ⊥
-NameMeets c (computed m) (computed n) = Meet c m n
+abbrev pub NameMeets : (c : Carrier) → c.Sight → NameMeaning → NameMeaning → Type 0
+NameMeets c sight (fixed a) (fixed b) = (a ≡ b) × IsName c a
+NameMeets c sight (fixed a) (computed n) = ⊥
+NameMeets c sight (computed m) (fixed b) = ⊥
+NameMeets c sight (computed m) (computed n) = Meet c sight m n
 
-abbrev pub PartMeets : Carrier → PartMeaning → PartMeaning → Type 0
-PartMeets c (chars a) (chars b) = (a ≡ b) × IsText c a
-PartMeets c (enclosed m) (enclosed n) = Meet c m n
-PartMeets c (child m) (child n) = Meet c m n
-PartMeets c (chars a) (enclosed n) = ⊥
-PartMeets c (chars a) (child n) = ⊥
-PartMeets c (enclosed m) (chars b) = ⊥
-PartMeets c (enclosed m) (child n) = ⊥
-PartMeets c (child m) (chars b) = ⊥
-PartMeets c (child m) (enclosed n) = ⊥
+abbrev pub PartMeets : (c : Carrier) → c.Sight → PartMeaning → PartMeaning → Type 0
+PartMeets c sight (chars a) (chars b) = (a ≡ b) × IsText c a
+PartMeets c sight (enclosed m) (enclosed n) = Meet c sight m n
+PartMeets c sight (child m) (child n) = Meet c sight m n
+PartMeets c sight (chars a) (enclosed n) = ⊥
+PartMeets c sight (chars a) (child n) = ⊥
+PartMeets c sight (enclosed m) (chars b) = ⊥
+PartMeets c sight (enclosed m) (child n) = ⊥
+PartMeets c sight (child m) (chars b) = ⊥
+PartMeets c sight (child m) (enclosed n) = ⊥
 
-abbrev pub PartsMeet : Carrier → List PartMeaning → List PartMeaning → Type 0
-PartsMeet c [] [] = Unit {0}
-PartsMeet c [] (y ∷ ys) = ⊥
-PartsMeet c (x ∷ xs) [] = ⊥
-PartsMeet c (x ∷ xs) (y ∷ ys) = PartMeets c x y × PartsMeet c xs ys
+abbrev pub PartsMeet : (c : Carrier) → c.Sight → List PartMeaning → List PartMeaning → Type 0
+PartsMeet c sight [] [] = Unit {0}
+PartsMeet c sight [] (y ∷ ys) = ⊥
+PartsMeet c sight (x ∷ xs) [] = ⊥
+PartsMeet c sight (x ∷ xs) (y ∷ ys) = PartMeets c sight x y × PartsMeet c sight xs ys
 
 -- attributes with the same name, whose parts are related
-abbrev pub AttributeMeets : Carrier → AttributeMeaning → AttributeMeaning → Type 0
-AttributeMeets c x y = (x.0 ≡ y.0) × IsAttributeName c x.0 × PartsMeet c x.1 y.1
+abbrev pub AttributeMeets : (c : Carrier) → c.Sight → AttributeMeaning → AttributeMeaning → Type 0
+AttributeMeets c sight x y = (x.0 ≡ y.0) × IsAttributeName c x.0 × PartsMeet c sight x.1 y.1
 
-abbrev pub AttributesMeet : Carrier → List AttributeMeaning → List AttributeMeaning → Type 0
-AttributesMeet c [] [] = Unit {0}
-AttributesMeet c [] (y ∷ ys) = ⊥
-AttributesMeet c (x ∷ xs) [] = ⊥
-AttributesMeet c (x ∷ xs) (y ∷ ys) = AttributeMeets c x y × AttributesMeet c xs ys
+abbrev pub AttributesMeet : (c : Carrier) → c.Sight → List AttributeMeaning → List AttributeMeaning → Type 0
+AttributesMeet c sight [] [] = Unit {0}
+AttributesMeet c sight [] (y ∷ ys) = ⊥
+AttributesMeet c sight (x ∷ xs) [] = ⊥
+AttributesMeet c sight (x ∷ xs) (y ∷ ys) = AttributeMeets c sight x y × AttributesMeet c sight xs ys
 
 -- a target is one that XML allows, or it is refused
 target_known : (text : List ℕ) → OnValue IsTarget (target_of_text text)
@@ -128,7 +128,7 @@ module _ (c : Carrier) where
   unfolding is_xml_text
   nothing_written s = refl
 
-module _ (c : Carrier) (makes : IsMade c) where
+module _ (c : Carrier) (sight : c.Sight) (makes : IsMade c) where
   same_made : (t : Made Tree) (k : ℕ) → OnEnds (Every c.good) (made t k) →
       c.rel (List Item) (Every c.good) (made t k) (made t k)
   same_made t k known = by (numbered k t) known
@@ -142,19 +142,19 @@ module _ (c : Carrier) (makes : IsMade c) where
   abbrev IsKnown : (List Item → Made Tree) → Type 0
   IsKnown t = (xs : List Item) → Every c.good xs → (k : ℕ) → OnEnds (Every c.good) (made (t xs) k)
 
-  content_meets : (t : List Item → Made Tree) → IsKnown t → (m n : Meaning) → Meet c m n →
-      (e f : Env) → c.at e f → (k : ℕ) →
+  content_meets : (t : List Item → Made Tree) → IsKnown t → (m n : Meaning) → Meet c sight m n →
+      (e f : Env) → c.at sight e f → (k : ℕ) →
       c.rel (List Item) (Every c.good) (and_then (m e k) (λ xs. made (t xs)))
       (and_then (n f k) (λ xs. made (t xs)))
   content_meets t known m n h e f s k =
       c.carries.next _ _ (Every c.good) (Every c.good) (m e k) (n f k) _ _ (h e f s k)
       (λ xs j g. same_made (t xs) j (known xs g j))
 
-  pub document_meets : (m n : Meaning) → Meet c m n → Meet c (document_made m) (document_made n)
+  pub document_meets : (m n : Meaning) → Meet c sight m n → Meet c sight (document_made m) (document_made n)
   document_meets m n h e f s k =
       content_meets (λ xs. document_of Refuse xs) makes.document m n h e f s k
 
-  pub comment_meets : (m n : Meaning) → Meet c m n → Meet c (comment_made m) (comment_made n)
+  pub comment_meets : (m n : Meaning) → Meet c sight m n → Meet c sight (comment_made m) (comment_made n)
   comment_meets m n h e f s k =
       content_meets (λ xs. comment_of (spaced_text xs))
       (λ xs g j. makes.comment (spaced_text xs) (makes.spaced xs g) j) m n h e f s k
@@ -166,12 +166,12 @@ module _ (c : Carrier) (makes : IsMade c) where
       same_made (Gives (tree.Text (spaced_text (x ∷ xs)))) k
       (makes.text (spaced_text (x ∷ xs)) (makes.spaced (x ∷ xs) g) k)
 
-  pub text_meets : (m n : Meaning) → Meet c m n → Meet c (text_made m) (text_made n)
+  pub text_meets : (m n : Meaning) → Meet c sight m n → Meet c sight (text_made m) (text_made n)
   text_meets m n h e f s k =
       c.carries.next _ _ (Every c.good) (Every c.good) (m e k) (n f k) _ _ (h e f s k)
       (λ xs j g. text_node_meets xs g j)
 
-  target_meets : (a b : NameMeaning) → NameMeets c a b → (e f : Env) → c.at e f → (k : ℕ) →
+  target_meets : (a b : NameMeaning) → NameMeets c sight a b → (e f : Env) → c.at sight e f → (k : ℕ) →
       c.rel (List ℕ) IsTarget (target_at a e k) (target_at b f k)
   target_meets (fixed a) (fixed b) h e f s k =
       subst (λ x. c.rel (List ℕ) IsTarget (target_at (fixed a) e k) (target_at (fixed x) f k)) h.0
@@ -182,8 +182,8 @@ module _ (c : Carrier) (makes : IsMade c) where
       c.carries.next _ _ (Every c.good) IsTarget (m e k) (n f k) _ _ (h e f s k)
       (λ xs j g. same_step c IsTarget (target_of_items xs) (targets_known xs) j)
 
-  pub pi_meets : (a b : NameMeaning) → NameMeets c a b → (m n : Meaning) → Meet c m n →
-      Meet c (pi_made a m) (pi_made b n)
+  pub pi_meets : (a b : NameMeaning) → NameMeets c sight a b → (m n : Meaning) → Meet c sight m n →
+      Meet c sight (pi_made a m) (pi_made b n)
   pi_meets a b h m n i e f s k =
       c.carries.next _ _ IsTarget (Every c.good) (target_at a e k) (target_at b f k) _ _
       (target_meets a b h e f s k)
@@ -191,7 +191,7 @@ module _ (c : Carrier) (makes : IsMade c) where
       (λ xs g l. makes.pi t (spaced_text xs) u (makes.spaced xs g) l) m n i e f s j)
 
   -- parts of attributes and of content
-  value_part_meets : (x y : PartMeaning) → PartMeets c x y → (e f : Env) → c.at e f → (k : ℕ) →
+  value_part_meets : (x y : PartMeaning) → PartMeets c sight x y → (e f : Env) → c.at sight e f → (k : ℕ) →
       c.rel (List ℕ) (IsText c) (attribute_part e x k) (attribute_part f y k)
   value_part_meets (chars a) (chars b) h e f s k =
       subst (λ t. c.rel (List ℕ) (IsText c) (Ends a k) (Ends t k)) h.0
@@ -208,7 +208,7 @@ module _ (c : Carrier) (makes : IsMade c) where
   value_part_meets (child m) (chars b) h e f s k = absurd h
   value_part_meets (child m) (enclosed n) h e f s k = absurd h
 
-  value_parts_meet : (xs ys : List PartMeaning) → PartsMeet c xs ys → (e f : Env) → c.at e f →
+  value_parts_meet : (xs ys : List PartMeaning) → PartsMeet c sight xs ys → (e f : Env) → c.at sight e f →
       (k : ℕ) → c.rel (List ℕ) (IsText c) (attribute_text xs e k) (attribute_text ys f k)
   value_parts_meet [] [] h e f s k = c.carries.ends _ (IsText c) [] k (nothing_written c)
   value_parts_meet [] (y ∷ ys) h e f s k = absurd h
@@ -220,7 +220,7 @@ module _ (c : Carrier) (makes : IsMade c) where
       (value_parts_meet xs ys h.1 e f s j)
       (λ v i w. c.carries.ends _ (IsText c) (t ++ v) i (joined_known c t v u w)))
 
-  content_part_meets : (x y : PartMeaning) → PartMeets c x y → (e f : Env) → c.at e f → (k : ℕ) →
+  content_part_meets : (x y : PartMeaning) → PartMeets c sight x y → (e f : Env) → c.at sight e f → (k : ℕ) →
       c.rel (List Item) (Every c.good) (content_part e x k) (content_part f y k)
   content_part_meets (chars a) (chars b) h e f s k =
       subst (λ t. c.rel (List Item) (Every c.good) (Ends (literal_node (tree.Text a) ∷ []) k)
@@ -237,7 +237,7 @@ module _ (c : Carrier) (makes : IsMade c) where
   content_part_meets (child m) (chars b) h e f s k = absurd h
   content_part_meets (child m) (enclosed n) h e f s k = absurd h
 
-  content_parts_meet : (xs ys : List PartMeaning) → PartsMeet c xs ys → (e f : Env) → c.at e f →
+  content_parts_meet : (xs ys : List PartMeaning) → PartsMeet c sight xs ys → (e f : Env) → c.at sight e f →
       (k : ℕ) → c.rel (List Item) (Every c.good) (for_each (content_part e) xs k)
       (for_each (content_part f) ys k)
   content_parts_meet [] [] h e f s k = c.carries.ends _ _ _ _ tt
@@ -250,8 +250,8 @@ module _ (c : Carrier) (makes : IsMade c) where
       (for_each (content_part f) ys j) _ _ (content_parts_meet xs ys h.1 e f s j)
       (λ vs i d. c.carries.ends _ _ _ _ (every_append c.good us vs g d)))
 
-  attributes_meet : (xs ys : List AttributeMeaning) → AttributesMeet c xs ys → (e f : Env) →
-      c.at e f → (k : ℕ) → c.rel (List Item) (Every c.good) (for_each (direct_attribute e) xs k)
+  attributes_meet : (xs ys : List AttributeMeaning) → AttributesMeet c sight xs ys → (e f : Env) →
+      c.at sight e f → (k : ℕ) → c.rel (List Item) (Every c.good) (for_each (direct_attribute e) xs k)
       (for_each (direct_attribute f) ys k)
   attributes_meet [] [] h e f s k = c.carries.ends _ _ _ _ tt
   attributes_meet [] (y ∷ ys) h e f s k = absurd h
@@ -268,9 +268,9 @@ module _ (c : Carrier) (makes : IsMade c) where
       (for_each (direct_attribute f) ys j) _ _ (attributes_meet xs ys h.1 e f s j)
       (λ vs i d. c.carries.ends _ _ _ _ (every_append c.good us vs g d)))
 
-  pub direct_meets : (name : Name) → IsName c name → (xs ys : List AttributeMeaning) → AttributesMeet c xs ys →
-      (us vs : List PartMeaning) → PartsMeet c us vs →
-      Meet c (direct_made name xs us) (direct_made name ys vs)
+  pub direct_meets : (name : Name) → IsName c name → (xs ys : List AttributeMeaning) → AttributesMeet c sight xs ys →
+      (us vs : List PartMeaning) → PartsMeet c sight us vs →
+      Meet c sight (direct_made name xs us) (direct_made name ys vs)
   direct_meets name known xs ys h us vs i e f s k =
       c.carries.next _ _ (Every c.good) (Every c.good) (for_each (direct_attribute e) xs k)
       (for_each (direct_attribute f) ys k) _ _ (attributes_meet xs ys h e f s k) (λ ws j g.
@@ -279,8 +279,8 @@ module _ (c : Carrier) (makes : IsMade c) where
       (λ zs l d. same_made (element_of Refuse name (ws ++ zs)) l
       (makes.element name (ws ++ zs) known (every_append c.good ws zs g d) l)))
 
-  module _ (p q : Program) (meet : ProgramsMeet c p q) where
-    element_name_meets : (a b : NameMeaning) → NameMeets c a b → (e f : Env) → c.at e f →
+  module _ (p q : Program) (meet : ProgramsAgree c p q) where
+    element_name_meets : (a b : NameMeaning) → NameMeets c sight a b → (e f : Env) → c.at sight e f →
         (k : ℕ) → c.rel Name (IsName c) (element_name_at p a e k) (element_name_at q b f k)
     element_name_meets (fixed a) (fixed b) h e f s k =
         subst (λ n. c.rel Name (IsName c) (Ends a k) (Ends n k)) h.0
@@ -293,7 +293,7 @@ module _ (c : Carrier) (makes : IsMade c) where
         (λ xs j g. same_step c (IsName c) (name_of_items p.namespaces p.element_default xs)
         (meet.element_names xs g) j))
 
-    attribute_name_meets : (a b : NameMeaning) → NameMeets c a b → (e f : Env) → c.at e f →
+    attribute_name_meets : (a b : NameMeaning) → NameMeets c sight a b → (e f : Env) → c.at sight e f →
         (k : ℕ) → c.rel Name (IsAttributeName c) (attribute_name_at p a e k)
         (attribute_name_at q b f k)
     attribute_name_meets (fixed a) (fixed b) h e f s k =
@@ -309,16 +309,16 @@ module _ (c : Carrier) (makes : IsMade c) where
         (result_then (name_of_items p.namespaces [] xs) attribute_name)
         (attributes_known c (name_of_items p.namespaces [] xs) (meet.attribute_names xs g)) j))
 
-    pub element_meets : (a b : NameMeaning) → NameMeets c a b → (m n : Meaning) → Meet c m n →
-        Meet c (element_made p a m) (element_made q b n)
+    pub element_meets : (a b : NameMeaning) → NameMeets c sight a b → (m n : Meaning) → Meet c sight m n →
+        Meet c sight (element_made p a m) (element_made q b n)
     element_meets a b h m n i e f s k =
         c.carries.next _ _ (IsName c) (Every c.good) (element_name_at p a e k)
         (element_name_at q b f k) _ _ (element_name_meets a b h e f s k)
         (λ name j u. content_meets (λ xs. element_of Refuse name xs)
         (λ xs g l. makes.element name xs u g l) m n i e f s j)
 
-    pub attribute_meets : (a b : NameMeaning) → NameMeets c a b → (m n : Meaning) → Meet c m n →
-        Meet c (attribute_made p a m) (attribute_made q b n)
+    pub attribute_meets : (a b : NameMeaning) → NameMeets c sight a b → (m n : Meaning) → Meet c sight m n →
+        Meet c sight (attribute_made p a m) (attribute_made q b n)
     attribute_meets a b h m n i e f s k =
         c.carries.next _ _ (IsAttributeName c) (Every c.good) (attribute_name_at p a e k)
         (attribute_name_at q b f k) _ _ (attribute_name_meets a b h e f s k)

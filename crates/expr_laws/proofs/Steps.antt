@@ -2,9 +2,9 @@
 use Rattle.std.proofs.Common.{ℕ}
 use Rattle.std.specs.Prelude.{Bool, true, false, if◌then◌else◌, Result, Ok, Err}
 use Rattle.xt_names.specs.declared.codes.Code.{Code}
-use Rattle.outcomes.specs.Outcome.{Outcome, step_outcome, OnEnds}
-use Rattle.outcomes.specs.Outcome.{Anything}
-use Rattle.outcomes.proofs.Relations.{nothing_known, step_carried}
+use Rattle.expr_meaning.specs.Outcomes.Outcome.{Outcome, step_outcome, OnEnds}
+use Rattle.expr_meaning.specs.Outcomes.Outcome.{Anything}
+use Rattle.expr_meaning.proofs.OutcomesLemmas.Relations.{nothing_known, step_carried}
 use Rattle.expr_laws.specs.Carrier.{Carrier, OnValue}
 
 pub step_known : {A : Type 0} (P : A → Type 0) (v : Result A Code) → OnValue P v → (k : ℕ) →

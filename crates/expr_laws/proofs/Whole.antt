@@ -62,8 +62,8 @@ use Rattle.closed_queries.specs.ExprTexts.{is_sound_place, has_sound_texts}
 use Rattle.closed_queries.specs.ExprTexts.{is_sound_arm, is_sound_clause, bound_of, is_sound_order}
 use Rattle.closed_queries.specs.ExprTexts.{is_sound_source, is_sound_attr, is_sound_part}
 use Rattle.closed_queries.specs.ExprTexts.{is_sound_flwor}
-use Rattle.expr_laws.specs.Carrier.{Carrier, Meet, AllMeet, ProgramsMeet, IsMade, IsName}
-use Rattle.expr_laws.specs.Carrier.{IsAttributeName}
+use Rattle.expr_laws.specs.Carrier.{Carrier, AreAlike, Meet, AllMeet, ProgramsAgree, IsMade}
+use Rattle.expr_laws.specs.Carrier.{IsName, IsAttributeName}
 use Rattle.expr_laws.proofs.Logic.{ArmsMeet, BoundMeet, AllBoundMeet, or_meets, and_meets}
 use Rattle.expr_laws.proofs.Logic.{choice_meets, quantifier_meets}
 use Rattle.expr_laws.proofs.Values.{just_meets, variable_meets, context_meets, comma_meets}
@@ -86,7 +86,8 @@ use Rattle.expr_laws.proofs.Rolled.{rolled_part}
 use Rattle.expr_laws.proofs.Texts.{ExprForm, ArmForm, BindForm, OrderForm, AttrForm}
 use Rattle.expr_laws.proofs.Texts.{FlworForm, ClauseForm, NameForm, PartForm}
 
-module _ (c : Carrier) (makes : IsMade c) (p q : Program) (meet : ProgramsMeet c p q) where
+module _ (c : Carrier) (places : AreAlike c) (makes : IsMade c) (p q : Program)
+    (agree : ProgramsAgree c p q) where
   -- what is asked where the relation is strict
   abbrev Asked : Bool → Type 0
   Asked b = c.strict → b ≡ true
@@ -106,40 +107,41 @@ module _ (c : Carrier) (makes : IsMade c) (p q : Program) (meet : ProgramsMeet c
   attribute_known n h = h
 
   abbrev ExprMeets : Expr → Type 0
-  ExprMeets e = Asked (has_sound_texts e) → Meet c (outcome p e) (outcome q e)
+  ExprMeets e = Asked (has_sound_texts e) → (sight : c.Sight) →
+      Meet c sight (outcome p e) (outcome q e)
 
   abbrev ClauseOf : Clause → Type 0
-  ClauseOf x = Asked (is_sound_clause x) → ClauseMeets c (clause_gives meanings (steps p) x)
+  ClauseOf x = Asked (is_sound_clause x) → (sight : c.Sight) → ClauseMeets c sight (clause_gives meanings (steps p) x)
       (clause_gives meanings (steps q) x)
 
   abbrev NameOf : NameSource → Type 0
-  NameOf x = Asked (is_sound_source x) →
-      NameMeets c (name_gives meanings (steps p) x) (name_gives meanings (steps q) x)
+  NameOf x = Asked (is_sound_source x) → (sight : c.Sight) →
+      NameMeets c sight (name_gives meanings (steps p) x) (name_gives meanings (steps q) x)
 
   abbrev PartOf : Part → Type 0
-  PartOf x = Asked (is_sound_part x) →
-      PartMeets c (part_gives meanings (steps p) x) (part_gives meanings (steps q) x)
+  PartOf x = Asked (is_sound_part x) → (sight : c.Sight) →
+      PartMeets c sight (part_gives meanings (steps p) x) (part_gives meanings (steps q) x)
 
   abbrev ArmOf : Arm → Type 0
-  ArmOf x = Asked (is_sound_arm x) →
-      Meet c (arm_gives meanings (steps p) x).0 (arm_gives meanings (steps q) x).0
-      × Meet c (arm_gives meanings (steps p) x).1 (arm_gives meanings (steps q) x).1
+  ArmOf x = Asked (is_sound_arm x) → (sight : c.Sight) →
+      Meet c sight (arm_gives meanings (steps p) x).0 (arm_gives meanings (steps q) x).0
+      × Meet c sight (arm_gives meanings (steps p) x).1 (arm_gives meanings (steps q) x).1
 
   abbrev BindOf : Bind → Type 0
-  BindOf x = Asked (bound_of x).sound →
-      BoundMeet c (bind_gives meanings (steps p) x) (bind_gives meanings (steps q) x)
+  BindOf x = Asked (bound_of x).sound → (sight : c.Sight) →
+      BoundMeet c sight (bind_gives meanings (steps p) x) (bind_gives meanings (steps q) x)
 
   abbrev AttrOf : DirectAttr → Type 0
-  AttrOf x = Asked (is_sound_attr x) →
-      AttributeMeets c (attr_gives meanings (steps p) x) (attr_gives meanings (steps q) x)
+  AttrOf x = Asked (is_sound_attr x) → (sight : c.Sight) →
+      AttributeMeets c sight (attr_gives meanings (steps p) x) (attr_gives meanings (steps q) x)
 
   abbrev FlworMeets : FlworOf → Type 0
-  FlworMeets x = Asked (is_sound_flwor x) →
-      Meet c (flwor_gives meanings (steps p) x) (flwor_gives meanings (steps q) x)
+  FlworMeets x = Asked (is_sound_flwor x) → (sight : c.Sight) →
+      Meet c sight (flwor_gives meanings (steps p) x) (flwor_gives meanings (steps q) x)
 
   abbrev OrderOf : Order → Type 0
-  OrderOf x = Asked (is_sound_order x) →
-      Meet c (order_gives meanings (steps p) x).0 (order_gives meanings (steps q) x).0
+  OrderOf x = Asked (is_sound_order x) → (sight : c.Sight) →
+      Meet c sight (order_gives meanings (steps p) x).0 (order_gives meanings (steps q) x).0
       × ((order_gives meanings (steps p) x).1 ≡ (order_gives meanings (steps q) x).1)
 
   -- parts, each with what is known of it
@@ -158,66 +160,66 @@ module _ (c : Carrier) (makes : IsMade c) (p q : Program) (meet : ProgramsMeet c
 
   -- lists of parts
   all_meet : (ys : List known.Exprs) →
-      Asked (every (map has_sound_texts (map (λ y. y.0) ys))) →
-      AllMeet c (map (outcome p) (map (λ y. y.0) ys)) (map (outcome q) (map (λ y. y.0) ys))
-  all_meet [] h = tt
-  all_meet (y ∷ ys) h =
+      Asked (every (map has_sound_texts (map (λ y. y.0) ys))) → (sight : c.Sight) →
+      AllMeet c sight (map (outcome p) (map (λ y. y.0) ys)) (map (outcome q) (map (λ y. y.0) ys))
+  all_meet [] h sight = tt
+  all_meet (y ∷ ys) h sight =
       let a = has_sound_texts y.0 in let b = every (map has_sound_texts (map (λ y. y.0) ys)) in
-      (y.1 (first a b h), all_meet ys (second a b h))
+      (y.1 (first a b h) sight, all_meet ys (second a b h) sight)
 
   arms_meet : (ys : List known.Arms) →
-      Asked (every (map is_sound_arm (map (λ y. y.0) ys))) →
-      ArmsMeet c (map (arm_gives meanings (steps p)) (map (λ y. y.0) ys))
+      Asked (every (map is_sound_arm (map (λ y. y.0) ys))) → (sight : c.Sight) →
+      ArmsMeet c sight (map (arm_gives meanings (steps p)) (map (λ y. y.0) ys))
       (map (arm_gives meanings (steps q)) (map (λ y. y.0) ys))
-  arms_meet [] h = tt
-  arms_meet (y ∷ ys) h =
+  arms_meet [] h sight = tt
+  arms_meet (y ∷ ys) h sight =
       let a = is_sound_arm y.0 in let b = every (map is_sound_arm (map (λ y. y.0) ys)) in
-      (y.1 (first a b h), arms_meet ys (second a b h))
+      (y.1 (first a b h) sight, arms_meet ys (second a b h) sight)
 
   binds_meet : (ys : List known.Binds) →
-      Asked (every_bound (map bound_of (map (λ y. y.0) ys))) →
-      AllBoundMeet c (map (bind_gives meanings (steps p)) (map (λ y. y.0) ys))
+      Asked (every_bound (map bound_of (map (λ y. y.0) ys))) → (sight : c.Sight) →
+      AllBoundMeet c sight (map (bind_gives meanings (steps p)) (map (λ y. y.0) ys))
       (map (bind_gives meanings (steps q)) (map (λ y. y.0) ys))
-  binds_meet [] h = tt
-  binds_meet (y ∷ ys) h =
+  binds_meet [] h sight = tt
+  binds_meet (y ∷ ys) h sight =
       let a = (bound_of y.0).sound in let b = every_bound (map bound_of (map (λ y. y.0) ys)) in
-      (y.1 (first a b h), binds_meet ys (second a b h))
+      (y.1 (first a b h) sight, binds_meet ys (second a b h) sight)
 
   clauses_meet : (ys : List known.Clauses) →
-      Asked (every (map is_sound_clause (map (λ y. y.0) ys))) →
-      ClausesMeet c (map (clause_gives meanings (steps p)) (map (λ y. y.0) ys))
+      Asked (every (map is_sound_clause (map (λ y. y.0) ys))) → (sight : c.Sight) →
+      ClausesMeet c sight (map (clause_gives meanings (steps p)) (map (λ y. y.0) ys))
       (map (clause_gives meanings (steps q)) (map (λ y. y.0) ys))
-  clauses_meet [] h = tt
-  clauses_meet (y ∷ ys) h =
+  clauses_meet [] h sight = tt
+  clauses_meet (y ∷ ys) h sight =
       let a = is_sound_clause y.0 in let b = every (map is_sound_clause (map (λ y. y.0) ys)) in
-      (y.1 (first a b h), clauses_meet ys (second a b h))
+      (y.1 (first a b h) sight, clauses_meet ys (second a b h) sight)
 
   orders_meet : (ys : List known.Orders) →
-      Asked (every (map is_sound_order (map (λ y. y.0) ys))) →
-      OrdersMeet c (map (order_gives meanings (steps p)) (map (λ y. y.0) ys))
+      Asked (every (map is_sound_order (map (λ y. y.0) ys))) → (sight : c.Sight) →
+      OrdersMeet c sight (map (order_gives meanings (steps p)) (map (λ y. y.0) ys))
       (map (order_gives meanings (steps q)) (map (λ y. y.0) ys))
-  orders_meet [] h = tt
-  orders_meet (y ∷ ys) h =
+  orders_meet [] h sight = tt
+  orders_meet (y ∷ ys) h sight =
       let a = is_sound_order y.0 in let b = every (map is_sound_order (map (λ y. y.0) ys)) in
-      (y.1 (first a b h), orders_meet ys (second a b h))
+      (y.1 (first a b h) sight, orders_meet ys (second a b h) sight)
 
   parts_meet : (ys : List known.Parts) →
-      Asked (every (map is_sound_part (map (λ y. y.0) ys))) →
-      PartsMeet c (map (part_gives meanings (steps p)) (map (λ y. y.0) ys))
+      Asked (every (map is_sound_part (map (λ y. y.0) ys))) → (sight : c.Sight) →
+      PartsMeet c sight (map (part_gives meanings (steps p)) (map (λ y. y.0) ys))
       (map (part_gives meanings (steps q)) (map (λ y. y.0) ys))
-  parts_meet [] h = tt
-  parts_meet (y ∷ ys) h =
+  parts_meet [] h sight = tt
+  parts_meet (y ∷ ys) h sight =
       let a = is_sound_part y.0 in let b = every (map is_sound_part (map (λ y. y.0) ys)) in
-      (y.1 (first a b h), parts_meet ys (second a b h))
+      (y.1 (first a b h) sight, parts_meet ys (second a b h) sight)
 
   attrs_meet : (ys : List known.Attrs) →
-      Asked (every (map is_sound_attr (map (λ y. y.0) ys))) →
-      AttributesMeet c (map (attr_gives meanings (steps p)) (map (λ y. y.0) ys))
+      Asked (every (map is_sound_attr (map (λ y. y.0) ys))) → (sight : c.Sight) →
+      AttributesMeet c sight (map (attr_gives meanings (steps p)) (map (λ y. y.0) ys))
       (map (attr_gives meanings (steps q)) (map (λ y. y.0) ys))
-  attrs_meet [] h = tt
-  attrs_meet (y ∷ ys) h =
+  attrs_meet [] h sight = tt
+  attrs_meet (y ∷ ys) h sight =
       let a = is_sound_attr y.0 in let b = every (map is_sound_attr (map (λ y. y.0) ys)) in
-      (y.1 (first a b h), attrs_meet ys (second a b h))
+      (y.1 (first a b h) sight, attrs_meet ys (second a b h) sight)
 
   abbrev plain : ExprLayer known → ExprForm
   plain = map-Expr known.Clauses known.Exprs known.Names known.Parts known.Arms known.Binds known.Attrs known.Flwors known.Orders
@@ -231,88 +233,92 @@ module _ (c : Carrier) (makes : IsMade c) (p q : Program) (meet : ProgramsMeet c
   -- an operator on two values
   operands_meet : (value : List Item → List Item → Result (List Item) Code) →
       KeepsBoth c.good value → (a b : known.Exprs) →
-      Asked (has_sound_texts a.0 && has_sound_texts b.0) →
-      Meet c (binary value (outcome p a.0) (outcome p b.0))
+      Asked (has_sound_texts a.0 && has_sound_texts b.0) → (sight : c.Sight) →
+      Meet c sight (binary value (outcome p a.0) (outcome p b.0))
       (binary value (outcome q a.0) (outcome q b.0))
-  operands_meet value w a b h =
+  operands_meet value w a b h sight =
       let t = has_sound_texts a.0 in let u = has_sound_texts b.0 in
-      binary_meets c value w _ _ _ _ (a.1 (first t u h)) (b.1 (second t u h))
+      binary_meets c sight value w _ _ _ _ (a.1 (first t u h) sight) (b.1 (second t u h) sight)
 
-  form_meets : (y : ExprLayer known) → Asked (texts_of (plain y)) →
-      Meet c (means p (plain y)) (means q (plain y))
-  form_meets (Int n) h = just_meets c (Atom (atom.Int n) ∷ []) (makes.integer n, tt)
-  form_meets (Str t) h = just_meets c (Atom (atom.Str t) ∷ []) (makes.string t h, tt)
-  form_meets (Var name) h = variable_meets c p q meet name
-  form_meets Context h = context_meets c
-  form_meets Root h = root_meets c
-  form_meets (Comma all) h = comma_meets c _ _ (all_meet all h)
-  form_meets (Or all) h = or_meets c _ _ (all_meet all h)
-  form_meets (And all) h = and_meets c _ _ (all_meet all h)
-  form_meets (If arms other) h =
+  form_meets : (y : ExprLayer known) → Asked (texts_of (plain y)) → (sight : c.Sight) →
+      Meet c sight (means p (plain y)) (means q (plain y))
+  form_meets (Int n) h sight = just_meets c sight (Atom (atom.Int n) ∷ []) (makes.integer n, tt)
+  form_meets (Str t) h sight = just_meets c sight (Atom (atom.Str t) ∷ []) (makes.string t h, tt)
+  form_meets (Var name) h sight = variable_meets c sight p q agree.meet name (places.variables name)
+  form_meets Context h sight = context_meets c sight (places.focus sight)
+  form_meets Root h sight = root_meets c sight (places.focus sight)
+  form_meets (Comma all) h sight = comma_meets c sight _ _ (all_meet all h sight)
+  form_meets (Or all) h sight = or_meets c sight _ _ (all_meet all h sight)
+  form_meets (And all) h sight = and_meets c sight _ _ (all_meet all h sight)
+  form_meets (If arms other) h sight =
       let a = every (map is_sound_arm (map (λ y. y.0) arms)) in let b = has_sound_texts other.0 in
-      choice_meets c _ _ (arms_meet arms (first a b h)) _ _ (other.1 (second a b h))
-  form_meets (Flwor f) h = f.1 h
-  form_meets (Quant every_one binds test) h =
+      choice_meets c sight _ _ (arms_meet arms (first a b h) sight) _ _
+      (other.1 (second a b h) sight)
+  form_meets (Flwor f) h sight = f.1 h sight
+  form_meets (Quant every_one binds test) h sight =
       let a = every_bound (map bound_of (map (λ y. y.0) binds)) in
       let b = has_sound_texts test.0 in
-      quantifier_meets c every_one _ _ (binds_meet binds (first a b h)) _ _ (test.1 (second a b h))
-  form_meets (General op a b) h = operands_meet (general_value op) (c.kept.general op) a b h
-  form_meets (Value op a b) h = operands_meet (single_value op) (c.kept.single op) a b h
-  form_meets (Is a b) h = operands_meet is_value c.kept.is a b h
-  form_meets (Before a b) h = operands_meet before_value c.kept.before a b h
-  form_meets (After a b) h = operands_meet after_value c.kept.after a b h
-  form_meets (Range a b) h = operands_meet range_value c.kept.range a b h
-  form_meets (Arith op a b) h = operands_meet (arithmetic_value op) (c.kept.arithmetic op) a b h
-  form_meets (Minus a) h = unary_meets c negated_value c.kept.negated _ _ (a.1 h)
-  form_meets (Plus a) h = unary_meets c signed_value c.kept.signed _ _ (a.1 h)
-  form_meets (Union a b) h = operands_meet union_value c.kept.union a b h
-  form_meets (Intersect a b) h = operands_meet intersect_value c.kept.intersect a b h
-  form_meets (Except a b) h = operands_meet except_value c.kept.except a b h
-  form_meets (InstanceOf a kind) h =
+      quantifier_meets c sight every_one _ _ (binds_meet binds (first a b h) sight) _ _
+      (test.1 (second a b h) sight)
+  form_meets (General op a b) h sight = operands_meet (general_value op) (c.kept.general op) a b h sight
+  form_meets (Value op a b) h sight = operands_meet (single_value op) (c.kept.single op) a b h sight
+  form_meets (Is a b) h sight = operands_meet is_value c.kept.is a b h sight
+  form_meets (Before a b) h sight = operands_meet before_value c.kept.before a b h sight
+  form_meets (After a b) h sight = operands_meet after_value c.kept.after a b h sight
+  form_meets (Range a b) h sight = operands_meet range_value c.kept.range a b h sight
+  form_meets (Arith op a b) h sight = operands_meet (arithmetic_value op) (c.kept.arithmetic op) a b h sight
+  form_meets (Minus a) h sight = unary_meets c sight negated_value c.kept.negated _ _ (a.1 h sight)
+  form_meets (Plus a) h sight = unary_meets c sight signed_value c.kept.signed _ _ (a.1 h sight)
+  form_meets (Union a b) h sight = operands_meet union_value c.kept.union a b h sight
+  form_meets (Intersect a b) h sight = operands_meet intersect_value c.kept.intersect a b h sight
+  form_meets (Except a b) h sight = operands_meet except_value c.kept.except a b h sight
+  form_meets (InstanceOf a kind) h sight =
       let t = has_sound_texts a.0 in let u = is_sound_type kind in
-      unary_meets c (instance_value kind) (c.kept.instance kind) _ _ (a.1 (first t u h))
-  form_meets (Treat a kind) h =
+      unary_meets c sight (instance_value kind) (c.kept.instance kind) _ _ (a.1 (first t u h) sight)
+  form_meets (Treat a kind) h sight =
       let t = has_sound_texts a.0 in let u = is_sound_type kind in
-      unary_meets c (treated_value kind) (c.kept.treated kind) _ _ (a.1 (first t u h))
-  form_meets (Castable a kind empty) h =
-      unary_meets c (castable_value kind empty) (c.kept.castable kind empty) _ _ (a.1 h)
-  form_meets (Cast a kind empty) h =
-      unary_meets c (cast_value kind empty) (c.kept.cast kind empty) _ _ (a.1 h)
-  form_meets (Slash a b) h =
+      unary_meets c sight (treated_value kind) (c.kept.treated kind) _ _ (a.1 (first t u h) sight)
+  form_meets (Castable a kind empty) h sight =
+      unary_meets c sight (castable_value kind empty) (c.kept.castable kind empty) _ _ (a.1 h sight)
+  form_meets (Cast a kind empty) h sight =
+      unary_meets c sight (cast_value kind empty) (c.kept.cast kind empty) _ _ (a.1 h sight)
+  form_meets (Slash a b) h sight =
       let t = has_sound_texts a.0 in let u = has_sound_texts b.0 in
-      slash_meets c _ _ _ _ (a.1 (first t u h)) (b.1 (second t u h))
-  form_meets (Step axis wanted tests) h =
+      slash_meets c sight _ _ _ _ (a.1 (first t u h) sight) (b.1 (second t u h) c.inner)
+  form_meets (Step axis wanted tests) h sight =
       let t = is_sound_test wanted in let u = all_of tests in
-      step_meets c axis wanted _ _ (all_meet tests (second t u h))
-  form_meets (Filter of tests) h =
+      step_meets c sight (places.focus sight) axis wanted _ _ (all_meet tests (second t u h) c.inner)
+  form_meets (Filter of tests) h sight =
       let t = has_sound_texts of.0 in let u = all_of tests in
-      filter_meets c _ _ (of.1 (first t u h)) _ _ (all_meet tests (second t u h))
-  form_meets (Call name args) h =
+      filter_meets c sight _ _ (of.1 (first t u h) sight) _ _ (all_meet tests (second t u h) c.inner)
+  form_meets (Call name args) h sight =
       let t = is_sound_expr_name name in let u = all_of args in
-      call_meets c p q meet name _ _ (all_meet args (second t u h))
-  form_meets (ElemC name content) h =
+      call_meets c sight places p q agree name _ _ (all_meet args (second t u h) sight)
+  form_meets (ElemC name content) h sight =
       let t = is_sound_source name.0 in let u = has_sound_texts content.0 in
-      element_meets c makes p q meet _ _ (name.1 (first t u h)) _ _ (content.1 (second t u h))
-  form_meets (AttrC name content) h =
+      element_meets c sight makes p q agree _ _ (name.1 (first t u h) sight) _ _
+      (content.1 (second t u h) sight)
+  form_meets (AttrC name content) h sight =
       let t = is_sound_source name.0 in let u = has_sound_texts content.0 in
-      attribute_meets c makes p q meet _ _ (name.1 (first t u h)) _ _ (content.1 (second t u h))
-  form_meets (DocC content) h = document_meets c makes _ _ (content.1 h)
-  form_meets (TextC content) h = text_meets c makes _ _ (content.1 h)
-  form_meets (CommentC content) h = comment_meets c makes _ _ (content.1 h)
-  form_meets (PiC name content) h =
+      attribute_meets c sight makes p q agree _ _ (name.1 (first t u h) sight) _ _
+      (content.1 (second t u h) sight)
+  form_meets (DocC content) h sight = document_meets c sight makes _ _ (content.1 h sight)
+  form_meets (TextC content) h sight = text_meets c sight makes _ _ (content.1 h sight)
+  form_meets (CommentC content) h sight = comment_meets c sight makes _ _ (content.1 h sight)
+  form_meets (PiC name content) h sight =
       let t = is_sound_source name.0 in let u = has_sound_texts content.0 in
-      pi_meets c makes _ _ (name.1 (first t u h)) _ _ (content.1 (second t u h))
-  form_meets (Direct name attrs parts) h =
+      pi_meets c sight makes _ _ (name.1 (first t u h) sight) _ _ (content.1 (second t u h) sight)
+  form_meets (Direct name attrs parts) h sight =
       let t = is_name name in
       let u = every (map is_sound_attr (map (λ y. y.0) attrs)) in
       let v = every (map is_sound_part (map (λ y. y.0) parts)) in
       let r = second t (u && v) h in
-      direct_meets c makes name (name_known name (first t (u && v) h)) _ _
-      (attrs_meet attrs (first u v r)) _ _ (parts_meet parts (second u v r))
+      direct_meets c sight makes name (name_known name (first t (u && v) h)) _ _
+      (attrs_meet attrs (first u v r) sight) _ _ (parts_meet parts (second u v r) sight)
 
   expr_step : (x : ExprForm) (y : ExprLayer known) → plain y ≡ x → ExprMeets (roll-Expr x)
-  expr_step x y is h = rw (← is, rolled p (plain y), rolled q (plain y)) (form_meets y
-      (λ s. sym (texts_rolled (plain y)) ∙ ap (λ z. has_sound_texts (roll-Expr z)) is ∙ h s))
+  expr_step x y is h sight = rw (← is, rolled p (plain y), rolled q (plain y)) (form_meets y
+      (λ s. sym (texts_rolled (plain y)) ∙ ap (λ z. has_sound_texts (roll-Expr z)) is ∙ h s) sight)
 
   abbrev plain_arm : ArmLayer known → ArmForm
   plain_arm = map-Arm known.Clauses known.Exprs known.Names known.Parts known.Arms known.Binds known.Attrs known.Flwors known.Orders
@@ -321,12 +327,12 @@ module _ (c : Carrier) (makes : IsMade c) (p q : Program) (meet : ProgramsMeet c
       (λ y. y.0)
 
   arm_step : (x : ArmForm) (y : ArmLayer known) → plain_arm y ≡ x → ArmOf (roll-Arm x)
-  arm_step x y is h =
+  arm_step x y is h sight =
       let r : Asked (has_sound_texts y.test.0 && has_sound_texts y.then.0) =
       (λ s. sym (arm_texts_rolled (plain_arm y)) ∙ ap (λ z. is_sound_arm (roll-Arm z)) is ∙ h s) in
       let t = has_sound_texts y.test.0 in let u = has_sound_texts y.then.0 in
       rw (← is, rolled_arm p (plain_arm y), rolled_arm q (plain_arm y))
-      (y.test.1 (first t u r), y.then.1 (second t u r))
+      (y.test.1 (first t u r) sight, y.then.1 (second t u r) sight)
 
   abbrev plain_bind : BindLayer known → BindForm
   plain_bind = map-Bind known.Clauses known.Exprs known.Names known.Parts known.Arms known.Binds known.Attrs known.Flwors known.Orders
@@ -335,14 +341,14 @@ module _ (c : Carrier) (makes : IsMade c) (p q : Program) (meet : ProgramsMeet c
       (λ y. y.0)
 
   bind_step : (x : BindForm) (y : BindLayer known) → plain_bind y ≡ x → BindOf (roll-Bind x)
-  bind_step x y is h =
+  bind_step x y is h sight =
       let v = is_sound_expr_name y.var in let t = is_sound_kind y.kind in
       let u = has_sound_texts y.source.0 in
       let r : Asked (v && (t && u)) =
       (λ s. sym (ap (λ b. b.sound) (bind_texts_rolled (plain_bind y)))
       ∙ ap (λ z. (bound_of (roll-Bind z)).sound) is ∙ h s) in
       rw (← is, rolled_bind p (plain_bind y), rolled_bind q (plain_bind y))
-      (refl, (refl, y.source.1 (second t u (second v (t && u) r))))
+      (refl, refl, places.variables y.var, y.source.1 (second t u (second v (t && u) r)) sight)
 
   abbrev plain_order : OrderLayer known → OrderForm
   plain_order = map-Order known.Clauses known.Exprs known.Names known.Parts known.Arms known.Binds known.Attrs known.Flwors known.Orders
@@ -351,9 +357,9 @@ module _ (c : Carrier) (makes : IsMade c) (p q : Program) (meet : ProgramsMeet c
       (λ y. y.0)
 
   order_step : (x : OrderForm) (y : OrderLayer known) → plain_order y ≡ x → OrderOf (roll-Order x)
-  order_step x y is h =
+  order_step x y is h sight =
       rw (← is, rolled_order p (plain_order y), rolled_order q (plain_order y))
-      (y.key.1 (λ s. sym (order_texts_rolled (plain_order y)) ∙ ap (λ z. is_sound_order (roll-Order z)) is ∙ h s), refl)
+      (y.key.1 (λ s. sym (order_texts_rolled (plain_order y)) ∙ ap (λ z. is_sound_order (roll-Order z)) is ∙ h s) sight, refl)
 
   abbrev plain_attr : AttrLayer known → AttrForm
   plain_attr = map-DirectAttr known.Clauses known.Exprs known.Names known.Parts known.Arms known.Binds known.Attrs known.Flwors known.Orders
@@ -362,13 +368,13 @@ module _ (c : Carrier) (makes : IsMade c) (p q : Program) (meet : ProgramsMeet c
       (λ y. y.0)
 
   attr_step : (x : AttrForm) (y : AttrLayer known) → plain_attr y ≡ x → AttrOf (roll-DirectAttr x)
-  attr_step x y is h =
+  attr_step x y is h sight =
       let t = is_sound_attribute_name y.name in
       let u = every (map is_sound_part (map (λ y. y.0) y.parts)) in
       let r : Asked (t && u) =
       (λ s. sym (attr_texts_rolled (plain_attr y)) ∙ ap (λ z. is_sound_attr (roll-DirectAttr z)) is ∙ h s) in
       rw (← is, rolled_attr p (plain_attr y), rolled_attr q (plain_attr y))
-      (refl, attribute_known y.name (first t u r), parts_meet y.parts (second t u r))
+      (refl, attribute_known y.name (first t u r), parts_meet y.parts (second t u r) sight)
 
   abbrev plain_flwor : FlworLayer known → FlworForm
   plain_flwor = map-Flwor known.Clauses known.Exprs known.Names known.Parts known.Arms known.Binds known.Attrs known.Flwors known.Orders
@@ -384,8 +390,8 @@ module _ (c : Carrier) (makes : IsMade c) (p q : Program) (meet : ProgramsMeet c
         orders = orders;
         stable = stable;
         body = body;
-      }))) →
-      Meet c
+      }))) → (sight : c.Sight) →
+      Meet c sight
       (flwor_value p (plain_flwor (record {
         clauses = clauses;
         test = test;
@@ -400,31 +406,31 @@ module _ (c : Carrier) (makes : IsMade c) (p q : Program) (meet : ProgramsMeet c
         stable = stable;
         body = body;
       })))
-  flwor_known clauses None orders stable body h =
+  flwor_known clauses None orders stable body h sight =
       let t = every (map is_sound_clause (map (λ y. y.0) clauses)) in
       let v = every (map is_sound_order (map (λ y. y.0) orders)) in
       let w = has_sound_texts body.0 in
       let r = second true (v && w) (second t (true && (v && w)) h) in
-      flwor_meets c _ _ (clauses_meet clauses (first t (true && (v && w)) h)) None None tt _ _
-      (orders_meet orders (first v w r)) _ _ (body.1 (second v w r))
-  flwor_known clauses (Some test) orders stable body h =
+      flwor_meets c sight _ _ (clauses_meet clauses (first t (true && (v && w)) h) sight) None None tt
+      _ _ (orders_meet orders (first v w r) sight) _ _ (body.1 (second v w r) sight)
+  flwor_known clauses (Some test) orders stable body h sight =
       let t = every (map is_sound_clause (map (λ y. y.0) clauses)) in
       let u = has_sound_texts test.0 in
       let v = every (map is_sound_order (map (λ y. y.0) orders)) in
       let w = has_sound_texts body.0 in
       let r = second t (u && (v && w)) h in
       let e = second u (v && w) r in
-      flwor_meets c _ _ (clauses_meet clauses (first t (u && (v && w)) h)) (Some _) (Some _)
-      (test.1 (first u (v && w) r)) _ _ (orders_meet orders (first v w e)) _ _
-      (body.1 (second v w e))
+      flwor_meets c sight _ _ (clauses_meet clauses (first t (u && (v && w)) h) sight) (Some _)
+      (Some _) (test.1 (first u (v && w) r) sight) _ _ (orders_meet orders (first v w e) sight) _ _
+      (body.1 (second v w e) sight)
 
   flwor_step : (x : FlworForm)
       (y : FlworLayer known) →
       plain_flwor y ≡ x → FlworMeets (roll-Flwor x)
-  flwor_step x y is h =
+  flwor_step x y is h sight =
       rw (← is, rolled_flwor p (plain_flwor y), rolled_flwor q (plain_flwor y))
       (flwor_known y.clauses y.test y.orders y.stable y.body
-      (λ s. sym (flwor_texts_rolled (plain_flwor y)) ∙ ap (λ z. is_sound_flwor (roll-Flwor z)) is ∙ h s))
+      (λ s. sym (flwor_texts_rolled (plain_flwor y)) ∙ ap (λ z. is_sound_flwor (roll-Flwor z)) is ∙ h s) sight)
 
   abbrev plain_clause : ClauseLayer known → ClauseForm
   plain_clause = map-Clause known.Clauses known.Exprs known.Names known.Parts known.Arms known.Binds known.Attrs known.Flwors known.Orders
@@ -432,22 +438,22 @@ module _ (c : Carrier) (makes : IsMade c) (p q : Program) (meet : ProgramsMeet c
       (λ y. y.0) (λ y. y.0) (λ y. y.0) (λ y. y.0) (λ y. y.0) (λ y. y.0) (λ y. y.0) (λ y. y.0)
       (λ y. y.0)
 
-  clause_meets : (y : ClauseLayer known) → Asked (clause_texts (plain_clause y)) →
-      ClauseMeets c (clause_value p (plain_clause y)) (clause_value q (plain_clause y))
-  clause_meets (For b None) h =
+  clause_meets : (y : ClauseLayer known) → Asked (clause_texts (plain_clause y)) → (sight : c.Sight) →
+      ClauseMeets c sight (clause_value p (plain_clause y)) (clause_value q (plain_clause y))
+  clause_meets (For b None) h sight =
       let t = (bound_of b.0).sound in let u = is_sound_place (bound_of b.0).var None in
-      for_meets c _ _ (b.1 (first t u h))
-  clause_meets (For b (Some at)) h =
+      for_meets c sight _ _ (b.1 (first t u h) sight)
+  clause_meets (For b (Some at)) h sight =
       let t = (bound_of b.0).sound in let u = is_sound_place (bound_of b.0).var (Some at) in
-      at_meets c _ _ (b.1 (first t u h)) at
-  clause_meets (Let b) h = let_meets c _ _ (b.1 h)
+      at_meets c sight _ _ (b.1 (first t u h) sight) at (places.variables at)
+  clause_meets (Let b) h sight = let_meets c sight _ _ (b.1 h sight)
 
   clause_step : (x : ClauseForm)
       (y : ClauseLayer known) →
       plain_clause y ≡ x → ClauseOf (roll-Clause x)
-  clause_step x y is h =
+  clause_step x y is h sight =
       rw (← is, rolled_clause p (plain_clause y), rolled_clause q (plain_clause y))
-      (clause_meets y (λ s. sym (clause_texts_rolled (plain_clause y)) ∙ ap (λ z. is_sound_clause (roll-Clause z)) is ∙ h s))
+      (clause_meets y (λ s. sym (clause_texts_rolled (plain_clause y)) ∙ ap (λ z. is_sound_clause (roll-Clause z)) is ∙ h s) sight)
 
   abbrev plain_name : NameLayer known → NameForm
   plain_name = map-NameSource known.Clauses known.Exprs known.Names known.Parts known.Arms known.Binds known.Attrs known.Flwors known.Orders
@@ -455,15 +461,15 @@ module _ (c : Carrier) (makes : IsMade c) (p q : Program) (meet : ProgramsMeet c
       (λ y. y.0) (λ y. y.0) (λ y. y.0) (λ y. y.0) (λ y. y.0) (λ y. y.0) (λ y. y.0) (λ y. y.0)
       (λ y. y.0)
 
-  name_meets : (y : NameLayer known) → Asked (name_texts (plain_name y)) →
-      NameMeets c (name_value p (plain_name y)) (name_value q (plain_name y))
-  name_meets (Fixed n) h = (refl, name_known n h)
-  name_meets (Computed e) h = e.1 h
+  name_meets : (y : NameLayer known) → Asked (name_texts (plain_name y)) → (sight : c.Sight) →
+      NameMeets c sight (name_value p (plain_name y)) (name_value q (plain_name y))
+  name_meets (Fixed n) h sight = (refl, name_known n h)
+  name_meets (Computed e) h sight = e.1 h sight
 
   name_step : (x : NameForm) (y : NameLayer known) → plain_name y ≡ x → NameOf (roll-NameSource x)
-  name_step x y is h =
+  name_step x y is h sight =
       rw (← is, rolled_name p (plain_name y), rolled_name q (plain_name y))
-      (name_meets y (λ s. sym (name_texts_rolled (plain_name y)) ∙ ap (λ z. is_sound_source (roll-NameSource z)) is ∙ h s))
+      (name_meets y (λ s. sym (name_texts_rolled (plain_name y)) ∙ ap (λ z. is_sound_source (roll-NameSource z)) is ∙ h s) sight)
 
   abbrev plain_part : PartLayer known → PartForm
   plain_part = map-Part known.Clauses known.Exprs known.Names known.Parts known.Arms known.Binds known.Attrs known.Flwors known.Orders
@@ -471,16 +477,16 @@ module _ (c : Carrier) (makes : IsMade c) (p q : Program) (meet : ProgramsMeet c
       (λ y. y.0) (λ y. y.0) (λ y. y.0) (λ y. y.0) (λ y. y.0) (λ y. y.0) (λ y. y.0) (λ y. y.0)
       (λ y. y.0)
 
-  part_meets : (y : PartLayer known) → Asked (part_texts (plain_part y)) →
-      PartMeets c (part_value p (plain_part y)) (part_value q (plain_part y))
-  part_meets (Chars t) h = (refl, h)
-  part_meets (Enclosed e) h = e.1 h
-  part_meets (Child e) h = e.1 h
+  part_meets : (y : PartLayer known) → Asked (part_texts (plain_part y)) → (sight : c.Sight) →
+      PartMeets c sight (part_value p (plain_part y)) (part_value q (plain_part y))
+  part_meets (Chars t) h sight = (refl, h)
+  part_meets (Enclosed e) h sight = e.1 h sight
+  part_meets (Child e) h sight = e.1 h sight
 
   part_step : (x : PartForm) (y : PartLayer known) → plain_part y ≡ x → PartOf (roll-Part x)
-  part_step x y is h =
+  part_step x y is h sight =
       rw (← is, rolled_part p (plain_part y), rolled_part q (plain_part y))
-      (part_meets y (λ s. sym (part_texts_rolled (plain_part y)) ∙ ap (λ z. is_sound_part (roll-Part z)) is ∙ h s))
+      (part_meets y (λ s. sym (part_texts_rolled (plain_part y)) ∙ ap (λ z. is_sound_part (roll-Part z)) is ∙ h s) sight)
 
   pub whole_meets : (e : Expr) → ExprMeets e
   whole_meets = ind-Expr ClauseOf ExprMeets NameOf PartOf ArmOf BindOf AttrOf FlworMeets OrderOf

@@ -18,7 +18,7 @@ use Rattle.xt_atoms.specs.declared.atoms.Atom.{Atom as AtomValue}
 use Rattle.xdm_items.specs.declared.items.Item.{Item}
 use Rattle.xdm_items.specs.declared.items.Item.TheVariants.{Node, Atom}
 use Rattle.xt_atoms.specs.declared.atoms.Atom.TheVariants as atom
-use Rattle.function_arguments.specs.Answers.{of_integer, of_truth}
+use Rattle.xdm_items.specs.FunctionArguments.Answers.{of_integer, of_truth}
 use Rattle.function_table.specs.declared.builtins.Builtin.{Builtin}
 use Rattle.lazy_seq.specs.Orders.{in_document_order}
 use Rattle.operator_values.specs.Comparisons.{general_value, single_value}
@@ -31,9 +31,9 @@ use Rattle.node_builder.specs.Made.{Gives}
 use Rattle.node_builder.specs.Trees.{element_of, document_of, comment_of, pi_of}
 use Rattle.node_builder.specs.declared.kinds.Duplicates.TheVariants.{Refuse}
 use Rattle.xt_tree.specs.declared.trees.Tree.TheVariants as tree
-use Rattle.outcomes.specs.Outcome.{OnEnds, Every}
-use Rattle.outcomes.specs.Follow.{Relation, IsCarrying}
-use Rattle.sort_meaning.specs.Sorted.{Placed}
+use Rattle.expr_meaning.specs.Outcomes.Outcome.{OnEnds, Every}
+use Rattle.expr_meaning.specs.Outcomes.Follow.{Relation, IsCarrying}
+use Rattle.expr_meaning.specs.SortMeaning.Sorted.{Placed}
 use Rattle.expr_meaning.specs.Env.{Binding, Env, Meaning, Program, bind_all, at_focus}
 use Rattle.expr_meaning.specs.Env.{variable_value}
 use Rattle.expr_meaning.specs.Paths.{document_root, step_items}
@@ -87,21 +87,15 @@ pub record IsKept (good : Item → Type 0) : Type 0 where
       ((p : Placed Item) → focus ≡ Some p → good p.value) → (args : List (List Item)) →
       Every (Every good) args → OnValue (Every good) (library_value f focus args)
 
--- two places in a run at which expressions are looked at
-pub record AreAlike (good : Item → Type 0) (at : Env → Env → Type 0) : Type 0 where
-  pub bound : (e f : Env) → at e f → (bs : List Binding) → AreGood good bs →
-      at (bind_all bs e) (bind_all bs f)
-  pub focused : (e f : Env) → at e f → (p : Placed Item) → good p.value →
-      at (at_focus e p) (at_focus f p)
-  pub focus : (e f : Env) → at e f → e.focus ≡ f.focus
-  pub item : (e f : Env) → at e f → (p : Placed Item) → e.focus ≡ Some p → good p.value
-  pub state : (e f : Env) → at e f → e.state ≡ f.state
-  pub current : (e f : Env) → at e f → OnValue (Every good) (current_value e.state.current)
-  pub members : (e f : Env) → at e f → Every good (members_of e.state.group)
-  pub key : (e f : Env) → at e f → Every good (key_of e.state.group)
+-- bindings of such names to lists of which this is known
+abbrev pub AreBound : (ExprName → Type 0) → (Item → Type 0) → List Binding → Type 0
+AreBound own good bs = Every (λ b. own b.0 × Every good b.1) bs
 
 -- A relation with all that is known of it. Where it is strict, names and texts are those that XML
--- allows.
+-- allows. The two expressions that are related are looked at in two places of a run, each place in a
+-- sight of the other: `inner` is the sight after a focus that the expressions made themselves, in a
+-- predicate or right of `/`. They bind and read variables, and call declared functions, whose names
+-- are their own.
 pub record Carrier : Type 1 where
   pub strict : Type 0
   pub like : Code → Code → Type 0
@@ -110,8 +104,32 @@ pub record Carrier : Type 1 where
   pub carries : IsCarrying like rel
   pub good : Item → Type 0
   pub kept : IsKept good
-  pub at : Env → Env → Type 0
-  pub places : AreAlike good at
+  pub own_variable : ExprName → Type 0
+  pub own_function : ExprName → Type 0
+  pub Sight : Type 0
+  pub inner : Sight
+  pub at : Sight → Env → Env → Type 0
+  pub bound : (s : Sight) (e f : Env) → at s e f → (bs : List Binding) →
+      AreBound own_variable good bs → at s (bind_all bs e) (bind_all bs f)
+  pub focused : (s : Sight) (e f : Env) → at s e f → (p : Placed Item) → good p.value →
+      at inner (at_focus e p) (at_focus f p)
+
+-- a sight in which both places have the same focus
+pub record SeesFocus (c : Carrier) (s : c.Sight) : Type 0 where
+  pub same : (e f : Env) → c.at s e f → e.focus ≡ f.focus
+  pub item : (e f : Env) → c.at s e f → (p : Placed Item) → e.focus ≡ Some p → c.good p.value
+
+-- Places with the same focus and the same state, where all names are their own: there an expression
+-- is related to itself.
+pub record AreAlike (c : Carrier) : Type 0 where
+  pub variables : (name : ExprName) → c.own_variable name
+  pub functions : (name : ExprName) → c.own_function name
+  pub focus : (s : c.Sight) → SeesFocus c s
+  pub state : (s : c.Sight) (e f : Env) → c.at s e f → e.state ≡ f.state
+  pub current : (s : c.Sight) (e f : Env) → c.at s e f →
+      OnValue (Every c.good) (current_value e.state.current)
+  pub members : (s : c.Sight) (e f : Env) → c.at s e f → Every c.good (members_of e.state.group)
+  pub key : (s : c.Sight) (e f : Env) → c.at s e f → Every c.good (key_of e.state.group)
 
 -- what is known of names of elements and of attributes, of targets and of texts
 abbrev pub IsName : Carrier → Name → Type 0
@@ -126,35 +144,42 @@ IsTarget text = (is_ncname_text text ≡ true) × (is_xml_in_any_case text ≡ f
 abbrev pub IsText : Carrier → List ℕ → Type 0
 IsText c text = c.strict → is_xml_text text ≡ true
 
--- two meanings are related wherever they are looked at
-abbrev pub Meet : Carrier → Meaning → Meaning → Type 0
-Meet c m n = (e f : Env) → c.at e f → (k : ℕ) → c.rel (List Item) (Every c.good) (m e k) (n f k)
+-- two meanings are related wherever they are looked at in this sight
+abbrev pub Meet : (c : Carrier) → c.Sight → Meaning → Meaning → Type 0
+Meet c s m n = (e f : Env) → c.at s e f → (k : ℕ) →
+    c.rel (List Item) (Every c.good) (m e k) (n f k)
 
-abbrev pub AllMeet : Carrier → List Meaning → List Meaning → Type 0
-AllMeet c [] [] = Unit {0}
-AllMeet c [] (n ∷ ns) = ⊥
-AllMeet c (m ∷ ms) [] = ⊥
-AllMeet c (m ∷ ms) (n ∷ ns) = Meet c m n × AllMeet c ms ns
+abbrev pub AllMeet : (c : Carrier) → c.Sight → List Meaning → List Meaning → Type 0
+AllMeet c s [] [] = Unit {0}
+AllMeet c s [] (n ∷ ns) = ⊥
+AllMeet c s (m ∷ ms) [] = ⊥
+AllMeet c s (m ∷ ms) (n ∷ ns) = Meet c s m n × AllMeet c s ms ns
 
--- two programs: what calls, key() and doc() do is related, and computed names mean the same
+-- two programs: what calls of their own functions and doc() do is related, and so are the variables
+-- that they read
 pub record ProgramsMeet (c : Carrier) (p q : Program) : Type 0 where
-  pub calls : (name : ExprName) (args : List (List Item)) → Every (Every c.good) args → (k : ℕ) →
+  pub calls : (name : ExprName) → c.own_function name → (args : List (List Item)) →
+      Every (Every c.good) args → (k : ℕ) →
       c.rel (List Item) (Every c.good) (p.calls name args k) (q.calls name args k)
+  pub document : (xs : List Item) → document_value p xs ≡ document_value q xs
+  pub documents : (xs : List Item) → OnValue (Every c.good) (document_value p xs)
+  pub variables : (s : c.Sight) (e f : Env) → c.at s e f → (name : ExprName) →
+      c.own_variable name → variable_value p e name ≡ variable_value q f name
+  pub variable : (s : c.Sight) (e f : Env) → c.at s e f → (name : ExprName) →
+      c.own_variable name → OnValue (Every c.good) (variable_value p e name)
+
+-- .. and also what key() does, and computed names mean the same
+pub record ProgramsAgree (c : Carrier) (p q : Program) : Type 0 where
+  pub meet : ProgramsMeet c p q
   pub keys : (name : List ℕ) (values : List AtomValue) (root : Place) → c.good (Node root) →
       (k : ℕ) →
       c.rel (List Item) (Every c.good) (p.keys name values root k) (q.keys name values root k)
-  pub document : (xs : List Item) → document_value p xs ≡ document_value q xs
-  pub documents : (xs : List Item) → OnValue (Every c.good) (document_value p xs)
   pub namespaces : p.namespaces ≡ q.namespaces
   pub element_default : p.element_default ≡ q.element_default
   pub element_names : (xs : List Item) → Every c.good xs →
       OnValue (IsName c) (name_of_items p.namespaces p.element_default xs)
   pub attribute_names : (xs : List Item) → Every c.good xs →
       OnValue (IsName c) (name_of_items p.namespaces [] xs)
-  pub variables : (e f : Env) → c.at e f → (name : ExprName) →
-      variable_value p e name ≡ variable_value q f name
-  pub variable : (e f : Env) → c.at e f → (name : ExprName) →
-      OnValue (Every c.good) (variable_value p e name)
 
 -- literals, and what constructors make, have the property where their names and texts are allowed
 pub record IsMade (c : Carrier) : Type 0 where

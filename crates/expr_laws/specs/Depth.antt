@@ -1,7 +1,7 @@
 -- More calls left.
 use Rattle.std.specs.Prelude.{◌+◌, ℕ}
 use Rattle.xdm_items.specs.declared.items.Item.{Item}
-use Rattle.outcomes.specs.Follow.{Follows, same_code}
+use Rattle.expr_meaning.specs.Outcomes.Follow.{Follows, same_code}
 use Rattle.expr_meaning.specs.Queries.{Run, query_outcome}
 
 -- with more calls a query does what it does with these, unless these were too few

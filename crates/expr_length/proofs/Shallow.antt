@@ -4,13 +4,13 @@ use Rattle.expr_terms.specs.declared.raws.Raw.TheViews.{out-Raw}
 use Rattle.expr_terms.specs.declared.raws.Raw.TheFolds.{map-Raw}
 use Rattle.expr_terms.specs.declared.raws.Raw.TheOpen.{Raw-F, Leaf, Node}
 use Rattle.expr_length.specs.TokenNames.{Token}
-use Rattle.expr_length.specs.Terms.{Language, step, primary, direct, Production, axis_step, attribute_step, test_step, parent_step, filter_step, number, literal, variable, parens, context, call, computed, constructed, pi_constructed, enclosing, directly, element}
+use Rattle.expr_length.specs.Terms.{Language, step_expr, primary_expr, dir_elem_constructor, Production, axis_step, attribute_step, test_step, parent_step, filter_step, number, literal, variable, parens, context, call, computed, constructed, pi_constructed, enclosing, direct_constructor, direct_element}
 use Rattle.expr_length.specs.RawNames.{Raw, node}
 use Rattle.expr_terms.specs.Productions.{body, head, passes}
 use Rattle.expr_terms.specs.Raws.{build, build_plain, in_parens, is_parens, is_otherwise, is_conditional}
 use Rattle.expr_terms.specs.Nest.{Mark, plain, deep, Levels, levels_step, levels_of, mark_of}
 use Rattle.expr_grammar.specs.Grammar.{Derives, by, Seq, end, taken, next, without, with, stop, again}
-use Rattle.expr_nest.proofs.Levels.{levels-out, levels-node}
+use Rattle.expr_grammar.proofs.ExprNest.Levels.{levels-out, levels-node}
 
 abbrev pub Shallow : Raw → Type 0
 Shallow v = (levels_of v).mark ≡ deep → ⊥
@@ -50,11 +50,11 @@ parens_shallow v (Node p vs) e = go (is_parens p) refl
     go true h = rw (e, h) (plain_shallow v (mark_of p) marked (parens_mark p h))
     go false h = rw (e, h) (node_shallow parens (v ∷ []) refl)
 
-direct_shallow : (p : Production) (vs : List Raw) → head p ≡ direct → Shallow (build p vs)
-direct_shallow element vs e = built_shallow element vs refl refl refl refl refl
+direct_shallow : (p : Production) (vs : List Raw) → head p ≡ dir_elem_constructor → Shallow (build p vs)
+direct_shallow direct_element vs e = built_shallow direct_element vs refl refl refl refl refl
 direct_shallow _ vs e = absurd cc
 
-primary_shallow : {l : Language} (p : Production) {ts rest : List Token} {vs : List Raw} → head p ≡ primary → Seq l (body p) ts vs rest → Shallow (build p vs)
+primary_shallow : {l : Language} (p : Production) {ts rest : List Token} {vs : List Raw} → head p ≡ primary_expr → Seq l (body p) ts vs rest → Shallow (build p vs)
 primary_shallow number {vs = vs} e q = built_shallow number vs refl refl refl refl refl
 primary_shallow literal {vs = vs} e q = built_shallow literal vs refl refl refl refl refl
 primary_shallow variable {vs = vs} e q = built_shallow variable vs refl refl refl refl refl
@@ -66,10 +66,10 @@ primary_shallow pi_constructed {vs = vs} e q = built_shallow pi_constructed vs r
 primary_shallow enclosing {vs = vs} e q = built_shallow enclosing vs refl refl refl refl refl
 primary_shallow parens e (taken f (without (taken g end))) = node_shallow parens [] refl
 primary_shallow parens e (taken f (with {v = v} d (taken g end))) = parens_shallow v (out-Raw v) refl
-primary_shallow directly e (next (by p {vs = vs} s h q) end) = direct_shallow p vs h
+primary_shallow direct_constructor e (next (by p {vs = vs} s h q) end) = direct_shallow p vs h
 primary_shallow _ e q = absurd cc
 
-step_built : {l : Language} (p : Production) {ts rest : List Token} {vs : List Raw} → head p ≡ step → Seq l (body p) ts vs rest → Shallow (build p vs)
+step_built : {l : Language} (p : Production) {ts rest : List Token} {vs : List Raw} → head p ≡ step_expr → Seq l (body p) ts vs rest → Shallow (build p vs)
 step_built axis_step {vs = vs} e q = built_shallow axis_step vs refl refl refl refl refl
 step_built attribute_step {vs = vs} e q = built_shallow attribute_step vs refl refl refl refl refl
 step_built test_step {vs = vs} e q = built_shallow test_step vs refl refl refl refl refl
@@ -78,5 +78,5 @@ step_built filter_step e (next (by p {vs = vs} s h q) (stop end)) = primary_shal
 step_built filter_step e (next {v = v} d (again {v = w} {vs = ws} dw s)) = node_shallow filter_step (v ∷ w ∷ ws) refl
 step_built _ e q = absurd cc
 
-pub step_shallow : {l : Language} {ts rest : List Token} {v : Raw} → Derives l step ts v rest → Shallow v
+pub step_shallow : {l : Language} {ts rest : List Token} {v : Raw} → Derives l step_expr ts v rest → Shallow v
 step_shallow (by p s e q) = step_built p e q

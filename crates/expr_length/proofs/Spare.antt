@@ -1,24 +1,24 @@
 -- How many levels fewer than it has tokens a nonterminal nests, where one more is allowed for `//` at the front.
 use Rattle.std.proofs.Common.{◌≡◌, ℕ, ◌+◌, Bool, true, cond, ◌&&◌, nat_le, List, [], ◌∷◌, refl}
-use Rattle.expr_terms.specs.declared.productions.Level.TheVariants.{Adds as adds_level}
-use Rattle.expr_length.specs.Terms.{Level, ors, ands, compares, ranges, multiplies, unions, crosses, instances, treats, castables, casts, operated, Nonterminal, comma_item, tail, relative, step, primary, direct, step_more, predicate, node_test, kind_test, pi_argument, named_argument, closing, Symbol, tok, one, maybe, many, longest, Production, listing, conditional, otherwise, flwor, quantified, chain, signed, rooted, axis_step, attribute_step, test_step, parent_step, filter_step, number, literal, variable, parens, context, call, computed, constructed, pi_constructed, enclosing, element, child}
+use Rattle.expr_keys.specs.declared.productions.Level.TheVariants.{Additive as additive_level}
+use Rattle.expr_length.specs.Terms.{Level, or_level, and_level, comparison_level, range_level, multiplicative_level, union_level, intersect_level, instance_of_level, treat_level, castable_level, cast_level, operator_tail, Nonterminal, comma_expr_single, tail, relative_path_expr, step_expr, primary_expr, dir_elem_constructor, step_more, predicate, node_test, kind_test, pi_argument, named_argument, dir_elem_closing, Symbol, tok, one, maybe, many, longest, Production, expr_list, if_expr, else_expr, flwor_expr, quantified_expr, operator_chain, signed, rooted, axis_step, attribute_step, test_step, parent_step, filter_step, number, literal, variable, parens, context, call, computed, constructed, pi_constructed, enclosing, direct_element, child_element}
 use Rattle.expr_terms.specs.Productions.{body, head}
 use Rattle.expr_terms.specs.Nest.{is_left_level}
 
 abbrev pub spare : Nonterminal → ℕ
-spare comma_item = 1
+spare comma_expr_single = 1
 spare (tail l) = 1
-spare relative = 1
-spare step = 1
-spare primary = 1
-spare direct = 1
+spare relative_path_expr = 1
+spare step_expr = 1
+spare primary_expr = 1
+spare dir_elem_constructor = 1
 spare step_more = 2
 spare predicate = 2
 spare node_test = 2
 spare kind_test = 2
 spare pi_argument = 2
 spare named_argument = 2
-spare closing = 2
+spare dir_elem_closing = 2
 spare _ = 0
 
 -- the least number of tokens of a nonterminal
@@ -47,12 +47,12 @@ fits m d (longest n ∷ ss) = nat_le m (spare n + (d + least ss)) && fits m d ss
 
 -- a level of its own
 abbrev pub adds : Production → ℕ
-adds listing = 1
-adds conditional = 1
-adds otherwise = 1
-adds flwor = 1
-adds quantified = 1
-adds (chain l) = cond (is_left_level l) 0 1
+adds expr_list = 1
+adds if_expr = 1
+adds else_expr = 1
+adds flwor_expr = 1
+adds quantified_expr = 1
+adds (operator_chain l) = cond (is_left_level l) 0 1
 adds signed = 1
 adds axis_step = 1
 adds attribute_step = 1
@@ -68,8 +68,8 @@ adds computed = 1
 adds constructed = 1
 adds pi_constructed = 1
 adds enclosing = 1
-adds element = 1
-adds child = 1
+adds direct_element = 1
+adds child_element = 1
 adds _ = 0
 
 -- the least that the parts count
@@ -86,16 +86,16 @@ margin p = adds p + spare (head p)
 abbrev pub fine : Production → Bool
 fine p = fits (margin p) 0 (body p) && (nat_le (margin p + floor p) (1 + least (body p)) && nat_le (shortest (head p)) (least (body p)))
 
-pub fine_operated : (l : Level) → fine (operated l) ≡ true
-fine_operated ors = refl
-fine_operated ands = refl
-fine_operated compares = refl
-fine_operated ranges = refl
-fine_operated adds_level = refl
-fine_operated multiplies = refl
-fine_operated unions = refl
-fine_operated crosses = refl
-fine_operated instances = refl
-fine_operated treats = refl
-fine_operated castables = refl
-fine_operated casts = refl
+pub fine_operated : (l : Level) → fine (operator_tail l) ≡ true
+fine_operated or_level = refl
+fine_operated and_level = refl
+fine_operated comparison_level = refl
+fine_operated range_level = refl
+fine_operated additive_level = refl
+fine_operated multiplicative_level = refl
+fine_operated union_level = refl
+fine_operated intersect_level = refl
+fine_operated instance_of_level = refl
+fine_operated treat_level = refl
+fine_operated castable_level = refl
+fine_operated cast_level = refl

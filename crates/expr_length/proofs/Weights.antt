@@ -1,10 +1,10 @@
 -- How many levels fewer than its tokens weigh a nonterminal nests, where one more is allowed.
 use Rattle.std.proofs.Common.{◌≡◌, ℕ, ◌+◌, Bool, true, ◌&&◌, nat_le, List, [], ◌∷◌, refl}
-use Rattle.expr_terms.specs.declared.productions.Level.TheVariants.{Adds as adds_level}
-use Rattle.expr_length.specs.Terms.{Level, ors, ands, compares, ranges, multiplies, unions, crosses}
-use Rattle.expr_length.specs.Terms.{instances, treats, castables, casts, operated, Nonterminal}
+use Rattle.expr_keys.specs.declared.productions.Level.TheVariants.{Additive as additive_level}
+use Rattle.expr_length.specs.Terms.{Level, or_level, and_level, comparison_level, range_level, multiplicative_level, union_level, intersect_level}
+use Rattle.expr_length.specs.Terms.{instance_of_level, treat_level, castable_level, cast_level, operator_tail, Nonterminal}
 use Rattle.expr_length.specs.Terms.{after_root, step_more, predicate, node_test, kind_test}
-use Rattle.expr_length.specs.Terms.{pi_argument, named_argument, closing, Symbol, tok, one, maybe}
+use Rattle.expr_length.specs.Terms.{pi_argument, named_argument, dir_elem_closing, Symbol, tok, one, maybe}
 use Rattle.expr_length.specs.Terms.{many, longest, Production}
 use Rattle.expr_terms.specs.Productions.{body, head}
 use Rattle.expr_length.proofs.Spare.{shortest, least, adds, floor}
@@ -17,7 +17,7 @@ spare node_test = 2
 spare kind_test = 2
 spare pi_argument = 2
 spare named_argument = 2
-spare closing = 2
+spare dir_elem_closing = 2
 spare _ = 1
 
 -- each part has so many tokens around it that it nests `m` less than those of the whole weigh,
@@ -38,16 +38,16 @@ fine p =
     fits (margin p) 0 (body p)
     && (nat_le (margin p + floor p) (1 + least (body p)) && nat_le (shortest (head p)) (least (body p)))
 
-pub fine_operated : (l : Level) → fine (operated l) ≡ true
-fine_operated ors = refl
-fine_operated ands = refl
-fine_operated compares = refl
-fine_operated ranges = refl
-fine_operated adds_level = refl
-fine_operated multiplies = refl
-fine_operated unions = refl
-fine_operated crosses = refl
-fine_operated instances = refl
-fine_operated treats = refl
-fine_operated castables = refl
-fine_operated casts = refl
+pub fine_operated : (l : Level) → fine (operator_tail l) ≡ true
+fine_operated or_level = refl
+fine_operated and_level = refl
+fine_operated comparison_level = refl
+fine_operated range_level = refl
+fine_operated additive_level = refl
+fine_operated multiplicative_level = refl
+fine_operated union_level = refl
+fine_operated intersect_level = refl
+fine_operated instance_of_level = refl
+fine_operated treat_level = refl
+fine_operated castable_level = refl
+fine_operated cast_level = refl

@@ -3,17 +3,17 @@ use Rattle.std.proofs.Common.{◌≡◌, ℕ, ◌+◌, ◌≤◌, max, map, Bool
 use Rattle.std.proofs.lemmas.Bool.{and_parts, leb-true}
 use Rattle.expr_terms.specs.declared.raws.Raw.TheVariants.{outs-Leaf}
 use Rattle.expr_terms.specs.declared.raws.Raw.TheFolds.{map-Raw}
-use Rattle.expr_terms.specs.declared.productions.Level.TheVariants.{Adds as adds_level}
+use Rattle.expr_keys.specs.declared.productions.Level.TheVariants.{Additive as additive_level}
 use Rattle.expr_length.specs.TokenNames.{Token}
-use Rattle.expr_length.specs.Terms.{Language, Level, ors, ands, compares, ranges, multiplies, unions, crosses, instances, treats, castables, casts, Nonterminal, expr, single, primary, level, tail, path, after_root, relative, step, step_more, Class, Symbol, one, many, Production, listing, chain, filter_step, steps, root_steps, rooted_deep, parens, otherwise, conditional, operated}
+use Rattle.expr_length.specs.Terms.{Language, Level, or_level, and_level, comparison_level, range_level, multiplicative_level, union_level, intersect_level, instance_of_level, treat_level, castable_level, cast_level, Nonterminal, expr, expr_single, primary_expr, level, tail, path_expr, after_root, relative_path_expr, step_expr, step_more, Class, Symbol, one, many, Production, expr_list, operator_chain, filter_step, steps, root_steps, rooted_deep, parens, else_expr, if_expr, operator_tail}
 use Rattle.expr_length.specs.RawNames.{Raw, leaf}
 use Rattle.expr_terms.specs.Productions.{body, head, keeps, passes}
 use Rattle.expr_terms.specs.Raws.{keep, build, only_inner}
 use Rattle.expr_terms.specs.Nest.{Mark, plain, deep, last, Levels, levels_step, levels_of, raw_nest_of, before_parts, is_left, is_left_level, is_arms, left_part, arm_part, with_part, with_parts, whole_nest}
 use Rattle.expr_grammar.specs.Grammar.{Derives, by, Seq, end, taken, next, without, with, stop, again, bare, given, Spells}
-use Rattle.expr_nest.specs.Held.{held, is_alone, built_nest}
-use Rattle.expr_nest.proofs.Built.{nest_of_build}
-use Rattle.expr_nest.proofs.Levels.{levels-out}
+use Rattle.expr_grammar.specs.ExprNest.Held.{held, is_alone, built_nest}
+use Rattle.expr_grammar.proofs.ExprNest.Built.{nest_of_build}
+use Rattle.expr_grammar.proofs.ExprNest.Levels.{levels-out}
 use Rattle.expr_length.proofs.Spare.{spare, shortest, least, fits, adds, floor, margin, fine, fine_operated}
 use Rattle.expr_length.proofs.Shallow.{Shallow, step_shallow}
 
@@ -24,7 +24,7 @@ pub record Claim (n : Nonterminal) (v : Raw) (ts rest : List Token) : Type 0 whe
   pub some : shortest n ≤ tokens
   pub nests : raw_nest_of v + spare n ≤ tokens + 1
 
--- .. and of the parts of a production, behind so many tokens
+-- .. and of the parts of a production, after so many tokens
 pub record Parts (p : Production) (m a u : ℕ) (vs : List Raw) (ss : List Symbol) (ts rest : List Token) : Type 0 where
   pub tokens : ℕ
   pub are : length ts ≡ tokens + length rest
@@ -74,7 +74,7 @@ left_shallow a deep n h = absurd (h refl)
 left_shallow a last n h = refl
 
 pub whole_bound : (p : Production) (a : ℕ) → whole_nest p a ≤ adds p + max (floor p) a
-whole_bound (chain l) a = go (is_left_level l)
+whole_bound (operator_chain l) a = go (is_left_level l)
   where
     go : (b : Bool) → cond b a (1 + a) ≤ cond b 0 1 + max 0 a
     go true = omega arith
@@ -88,12 +88,12 @@ plain_bound p a false = whole_bound p a
 
 pub built_bound : (p : Production) (a : ℕ) (vs : List Raw) → built_nest p a vs ≤ adds p + max (floor p) a
 built_bound parens a vs = omega arith
-built_bound otherwise a vs = go (only_inner vs)
+built_bound else_expr a vs = go (only_inner vs)
   where
     go : (b : Bool) → cond b a (1 + a) ≤ 1 + max 0 a
     go true = omega arith
     go false = omega arith
-built_bound conditional a vs = omega arith
+built_bound if_expr a vs = omega arith
 built_bound p a vs = plain_bound p a (is_alone vs && passes p)
 
 pub before_none : (p : Production) → is_left p ≡ false → before_parts p ≡ 0
@@ -158,24 +158,24 @@ left_more p m a u k v vs i h e f b c more =
     record { tokens = c.tokens + r.tokens; are = omega arith; enough = omega arith; nests = omega arith }
 
 -- a level of operators that associate to the left
-left_level : {ts mid rest : List Token} (l : Level) (n : Nonterminal) (v : Raw) (vs : List Raw) → is_left_level l ≡ true → (c : Claim n v ts mid) → Parts (chain l) 0 (raw_nest_of v) c.tokens vs [] mid rest → Claim (level l) (build (chain l) (v ∷ vs)) ts rest
+left_level : {ts mid rest : List Token} (l : Level) (n : Nonterminal) (v : Raw) (vs : List Raw) → is_left_level l ≡ true → (c : Claim n v ts mid) → Parts (operator_chain l) 0 (raw_nest_of v) c.tokens vs [] mid rest → Claim (level l) (build (operator_chain l) (v ∷ vs)) ts rest
 left_level l n v vs e c r =
     let c1 = c.are in
     let c2 = c.some in
     let sn = short_some n in
     let r1 = r.are in
-    let first : with_part (chain l) 0 (levels_of v) ≡ raw_nest_of v = rw e refl in
-    let g = built_bound (chain l) (held (chain l) (v ∷ vs)) (v ∷ vs) in
-    let none : adds (chain l) ≡ 0 = rw e refl in
-    let s = nest_of_build (chain l) (v ∷ vs) in
-    let h : held (chain l) (v ∷ vs) + 0 ≤ (c.tokens + r.tokens) + 1 = subst (λ x. with_parts (chain l) x (map levels_of vs) + 0 ≤ (c.tokens + r.tokens) + 1) (sym first) r.nests in
+    let first : with_part (operator_chain l) 0 (levels_of v) ≡ raw_nest_of v = rw e refl in
+    let g = built_bound (operator_chain l) (held (operator_chain l) (v ∷ vs)) (v ∷ vs) in
+    let none : adds (operator_chain l) ≡ 0 = rw e refl in
+    let s = nest_of_build (operator_chain l) (v ∷ vs) in
+    let h : held (operator_chain l) (v ∷ vs) + 0 ≤ (c.tokens + r.tokens) + 1 = subst (λ x. with_parts (operator_chain l) x (map levels_of vs) + 0 ≤ (c.tokens + r.tokens) + 1) (sym first) r.nests in
     record { tokens = c.tokens + r.tokens; are = omega arith; some = omega arith; nests = omega arith }
 
 left_first : {ts mid : List Token} (n : Nonterminal) (v : Raw) (c : Claim n v ts mid) → raw_nest_of v + 0 ≤ c.tokens + 1
 left_first n v c = let a = c.nests in omega arith
 
 -- steps
-steps_claim : {ts mid rest : List Token} (v : Raw) (vs : List Raw) (c : Claim step v ts mid) → Parts steps 1 (raw_nest_of v) c.tokens vs [] mid rest → Claim relative (build steps (v ∷ vs)) ts rest
+steps_claim : {ts mid rest : List Token} (v : Raw) (vs : List Raw) (c : Claim step_expr v ts mid) → Parts steps 1 (raw_nest_of v) c.tokens vs [] mid rest → Claim relative_path_expr (build steps (v ∷ vs)) ts rest
 steps_claim v vs c r =
     let c1 = c.are in
     let c2 = c.some in
@@ -185,7 +185,7 @@ steps_claim v vs c r =
     let h : held steps (v ∷ vs) + 1 ≤ (c.tokens + r.tokens) + 1 = r.nests in
     record { tokens = c.tokens + r.tokens; are = omega arith; some = omega arith; nests = omega arith }
 
-rooted_claim : {ts mid rest : List Token} (v : Raw) (vs : List Raw) (c : Claim step v ts mid) → Parts root_steps 0 (with_part root_steps 1 (levels_of v)) c.tokens vs [] mid rest → Claim after_root (build root_steps (v ∷ vs)) ts rest
+rooted_claim : {ts mid rest : List Token} (v : Raw) (vs : List Raw) (c : Claim step_expr v ts mid) → Parts root_steps 0 (with_part root_steps 1 (levels_of v)) c.tokens vs [] mid rest → Claim after_root (build root_steps (v ∷ vs)) ts rest
 rooted_claim v vs c r =
     let c1 = c.are in
     let c2 = c.some in
@@ -195,14 +195,14 @@ rooted_claim v vs c r =
     let h : held root_steps (v ∷ vs) + 0 ≤ (c.tokens + r.tokens) + 1 = r.nests in
     record { tokens = c.tokens + r.tokens; are = omega arith; some = omega arith; nests = omega arith }
 
-rooted_first : {ts mid : List Token} (v : Raw) → Shallow v → (c : Claim step v ts mid) → with_part root_steps 1 (levels_of v) + 0 ≤ c.tokens + 1
+rooted_first : {ts mid : List Token} (v : Raw) → Shallow v → (c : Claim step_expr v ts mid) → with_part root_steps 1 (levels_of v) + 0 ≤ c.tokens + 1
 rooted_first v h c =
     let e = left_shallow 1 (levels_of v).mark (raw_nest_of v) h in
     let a = c.nests in
     let b = c.some in
     rw e (omega arith)
 
-deep_claim : {t : Token} {ts mid rest : List Token} (v : Raw) (vs : List Raw) (c : Claim step v ts mid) → Parts rooted_deep 0 (with_part rooted_deep 2 (levels_of v)) (1 + c.tokens) vs [] mid rest → Claim path (build rooted_deep (v ∷ vs)) (t ∷ ts) rest
+deep_claim : {t : Token} {ts mid rest : List Token} (v : Raw) (vs : List Raw) (c : Claim step_expr v ts mid) → Parts rooted_deep 0 (with_part rooted_deep 2 (levels_of v)) (1 + c.tokens) vs [] mid rest → Claim path_expr (build rooted_deep (v ∷ vs)) (t ∷ ts) rest
 deep_claim v vs c r =
     let c1 = c.are in
     let c2 = c.some in
@@ -212,7 +212,7 @@ deep_claim v vs c r =
     let h : held rooted_deep (v ∷ vs) + 0 ≤ ((1 + c.tokens) + r.tokens) + 1 = r.nests in
     record { tokens = 1 + (c.tokens + r.tokens); are = omega arith; some = omega arith; nests = omega arith }
 
-deep_first : {ts mid : List Token} (v : Raw) → Shallow v → (c : Claim step v ts mid) → with_part rooted_deep 2 (levels_of v) + 0 ≤ (1 + c.tokens) + 1
+deep_first : {ts mid : List Token} (v : Raw) → Shallow v → (c : Claim step_expr v ts mid) → with_part rooted_deep 2 (levels_of v) + 0 ≤ (1 + c.tokens) + 1
 deep_first v h c =
     let e = left_shallow 2 (levels_of v).mark (raw_nest_of v) h in
     let a = c.nests in
@@ -245,74 +245,74 @@ at_head {v = v} {ts = ts} {rest = rest} p e c = subst (λ n. Claim n v ts rest) 
 
 mutual
   claims : {l : Language} {n : Nonterminal} {ts rest : List Token} {v : Raw} → Derives l n ts v rest → Claim n v ts rest
-  claims (by listing o e (next {v = v} dv (stop end))) =
-      at_head listing e (same_claim single expr v refl (omega arith) (claims dv))
-  claims (by listing o e (next {v = v} dv (again {v = w} {vs = ws} dw s))) =
-      let r = several listing 1 _ _ v w ws refl (claims dv) (claims dw) (λ a u h b. parts_of listing 1 2 a u refl s refl h (omega arith)) refl (omega arith) (omega arith) in
-      at_head listing e (finish_some listing _ (v ∷ w ∷ ws) _ refl r (omega arith))
-  claims (by (chain ors) o e (next {v = v} dv (stop end))) =
-      at_head (chain ors) e (same_claim (level ands) (level ors) v refl (omega arith) (claims dv))
-  claims (by (chain ors) o e (next {v = v} dv (again {v = w} {vs = ws} dw s))) =
-      let r = several (chain ors) 1 _ _ v w ws refl (claims dv) (claims dw) (λ a u h b. parts_of (chain ors) 1 2 a u refl s refl h (omega arith)) refl (omega arith) (omega arith) in
-      at_head (chain ors) e (finish_some (chain ors) _ (v ∷ w ∷ ws) _ refl r (omega arith))
-  claims (by (chain ands) o e (next {v = v} dv (stop end))) =
-      at_head (chain ands) e (same_claim (level compares) (level ands) v refl (omega arith) (claims dv))
-  claims (by (chain ands) o e (next {v = v} dv (again {v = w} {vs = ws} dw s))) =
-      let r = several (chain ands) 1 _ _ v w ws refl (claims dv) (claims dw) (λ a u h b. parts_of (chain ands) 1 2 a u refl s refl h (omega arith)) refl (omega arith) (omega arith) in
-      at_head (chain ands) e (finish_some (chain ands) _ (v ∷ w ∷ ws) _ refl r (omega arith))
+  claims (by expr_list o e (next {v = v} dv (stop end))) =
+      at_head expr_list e (same_claim expr_single expr v refl (omega arith) (claims dv))
+  claims (by expr_list o e (next {v = v} dv (again {v = w} {vs = ws} dw s))) =
+      let r = several expr_list 1 _ _ v w ws refl (claims dv) (claims dw) (λ a u h b. parts_of expr_list 1 2 a u refl s refl h (omega arith)) refl (omega arith) (omega arith) in
+      at_head expr_list e (finish_some expr_list _ (v ∷ w ∷ ws) _ refl r (omega arith))
+  claims (by (operator_chain or_level) o e (next {v = v} dv (stop end))) =
+      at_head (operator_chain or_level) e (same_claim (level and_level) (level or_level) v refl (omega arith) (claims dv))
+  claims (by (operator_chain or_level) o e (next {v = v} dv (again {v = w} {vs = ws} dw s))) =
+      let r = several (operator_chain or_level) 1 _ _ v w ws refl (claims dv) (claims dw) (λ a u h b. parts_of (operator_chain or_level) 1 2 a u refl s refl h (omega arith)) refl (omega arith) (omega arith) in
+      at_head (operator_chain or_level) e (finish_some (operator_chain or_level) _ (v ∷ w ∷ ws) _ refl r (omega arith))
+  claims (by (operator_chain and_level) o e (next {v = v} dv (stop end))) =
+      at_head (operator_chain and_level) e (same_claim (level comparison_level) (level and_level) v refl (omega arith) (claims dv))
+  claims (by (operator_chain and_level) o e (next {v = v} dv (again {v = w} {vs = ws} dw s))) =
+      let r = several (operator_chain and_level) 1 _ _ v w ws refl (claims dv) (claims dw) (λ a u h b. parts_of (operator_chain and_level) 1 2 a u refl s refl h (omega arith)) refl (omega arith) (omega arith) in
+      at_head (operator_chain and_level) e (finish_some (operator_chain and_level) _ (v ∷ w ∷ ws) _ refl r (omega arith))
   claims (by filter_step o e (next {v = v} dv (stop end))) =
-      at_head filter_step e (same_claim primary step v refl (omega arith) (claims dv))
+      at_head filter_step e (same_claim primary_expr step_expr v refl (omega arith) (claims dv))
   claims (by filter_step o e (next {v = v} dv (again {v = w} {vs = ws} dw s))) =
       let r = several filter_step 2 _ _ v w ws refl (claims dv) (claims dw) (λ a u h b. parts_of filter_step 2 2 a u refl s refl h (omega arith)) refl (omega arith) (omega arith) in
       at_head filter_step e (finish_some filter_step _ (v ∷ w ∷ ws) _ refl r (omega arith))
-  claims (by (chain adds_level) o e (next {n = n} {v = v} {vs = vs} dv s)) =
+  claims (by (operator_chain additive_level) o e (next {n = n} {v = v} {vs = vs} dv s)) =
       let c = claims dv in
-      at_head (chain adds_level) e (left_level adds_level n v vs refl c (lefts (chain adds_level) 0 (raw_nest_of v) c.tokens (tail adds_level) refl (omega arith) (omega arith) (omega arith) s (left_first n v c)))
-  claims (by (chain multiplies) o e (next {n = n} {v = v} {vs = vs} dv s)) =
+      at_head (operator_chain additive_level) e (left_level additive_level n v vs refl c (lefts (operator_chain additive_level) 0 (raw_nest_of v) c.tokens (tail additive_level) refl (omega arith) (omega arith) (omega arith) s (left_first n v c)))
+  claims (by (operator_chain multiplicative_level) o e (next {n = n} {v = v} {vs = vs} dv s)) =
       let c = claims dv in
-      at_head (chain multiplies) e (left_level multiplies n v vs refl c (lefts (chain multiplies) 0 (raw_nest_of v) c.tokens (tail multiplies) refl (omega arith) (omega arith) (omega arith) s (left_first n v c)))
-  claims (by (chain unions) o e (next {n = n} {v = v} {vs = vs} dv s)) =
+      at_head (operator_chain multiplicative_level) e (left_level multiplicative_level n v vs refl c (lefts (operator_chain multiplicative_level) 0 (raw_nest_of v) c.tokens (tail multiplicative_level) refl (omega arith) (omega arith) (omega arith) s (left_first n v c)))
+  claims (by (operator_chain union_level) o e (next {n = n} {v = v} {vs = vs} dv s)) =
       let c = claims dv in
-      at_head (chain unions) e (left_level unions n v vs refl c (lefts (chain unions) 0 (raw_nest_of v) c.tokens (tail unions) refl (omega arith) (omega arith) (omega arith) s (left_first n v c)))
-  claims (by (chain crosses) o e (next {n = n} {v = v} {vs = vs} dv s)) =
+      at_head (operator_chain union_level) e (left_level union_level n v vs refl c (lefts (operator_chain union_level) 0 (raw_nest_of v) c.tokens (tail union_level) refl (omega arith) (omega arith) (omega arith) s (left_first n v c)))
+  claims (by (operator_chain intersect_level) o e (next {n = n} {v = v} {vs = vs} dv s)) =
       let c = claims dv in
-      at_head (chain crosses) e (left_level crosses n v vs refl c (lefts (chain crosses) 0 (raw_nest_of v) c.tokens (tail crosses) refl (omega arith) (omega arith) (omega arith) s (left_first n v c)))
-  claims (by (chain compares) o e (next {n = n} {v = v} dv (without end))) =
+      at_head (operator_chain intersect_level) e (left_level intersect_level n v vs refl c (lefts (operator_chain intersect_level) 0 (raw_nest_of v) c.tokens (tail intersect_level) refl (omega arith) (omega arith) (omega arith) s (left_first n v c)))
+  claims (by (operator_chain comparison_level) o e (next {n = n} {v = v} dv (without end))) =
       let c = claims dv in
-      at_head (chain compares) e (left_level compares n v [] refl c (nothing_more (chain compares) 0 (raw_nest_of v) c.tokens (left_first n v c)))
-  claims (by (chain compares) o e (next {n = n} {v = v} dv (with {v = w} dw end))) =
+      at_head (operator_chain comparison_level) e (left_level comparison_level n v [] refl c (nothing_more (operator_chain comparison_level) 0 (raw_nest_of v) c.tokens (left_first n v c)))
+  claims (by (operator_chain comparison_level) o e (next {n = n} {v = v} dv (with {v = w} dw end))) =
       let c = claims dv in
-      at_head (chain compares) e (left_level compares n v (w ∷ []) refl c (left_more (chain compares) 0 (raw_nest_of v) c.tokens (tail compares) w [] refl (omega arith) (omega arith) (omega arith) (left_first n v c) (claims dw) (λ b h. nothing_more (chain compares) 0 b _ h)))
-  claims (by (chain ranges) o e (next {n = n} {v = v} dv (without end))) =
+      at_head (operator_chain comparison_level) e (left_level comparison_level n v (w ∷ []) refl c (left_more (operator_chain comparison_level) 0 (raw_nest_of v) c.tokens (tail comparison_level) w [] refl (omega arith) (omega arith) (omega arith) (left_first n v c) (claims dw) (λ b h. nothing_more (operator_chain comparison_level) 0 b _ h)))
+  claims (by (operator_chain range_level) o e (next {n = n} {v = v} dv (without end))) =
       let c = claims dv in
-      at_head (chain ranges) e (left_level ranges n v [] refl c (nothing_more (chain ranges) 0 (raw_nest_of v) c.tokens (left_first n v c)))
-  claims (by (chain ranges) o e (next {n = n} {v = v} dv (with {v = w} dw end))) =
+      at_head (operator_chain range_level) e (left_level range_level n v [] refl c (nothing_more (operator_chain range_level) 0 (raw_nest_of v) c.tokens (left_first n v c)))
+  claims (by (operator_chain range_level) o e (next {n = n} {v = v} dv (with {v = w} dw end))) =
       let c = claims dv in
-      at_head (chain ranges) e (left_level ranges n v (w ∷ []) refl c (left_more (chain ranges) 0 (raw_nest_of v) c.tokens (tail ranges) w [] refl (omega arith) (omega arith) (omega arith) (left_first n v c) (claims dw) (λ b h. nothing_more (chain ranges) 0 b _ h)))
-  claims (by (chain instances) o e (next {n = n} {v = v} dv (without end))) =
+      at_head (operator_chain range_level) e (left_level range_level n v (w ∷ []) refl c (left_more (operator_chain range_level) 0 (raw_nest_of v) c.tokens (tail range_level) w [] refl (omega arith) (omega arith) (omega arith) (left_first n v c) (claims dw) (λ b h. nothing_more (operator_chain range_level) 0 b _ h)))
+  claims (by (operator_chain instance_of_level) o e (next {n = n} {v = v} dv (without end))) =
       let c = claims dv in
-      at_head (chain instances) e (left_level instances n v [] refl c (nothing_more (chain instances) 0 (raw_nest_of v) c.tokens (left_first n v c)))
-  claims (by (chain instances) o e (next {n = n} {v = v} dv (with {v = w} dw end))) =
+      at_head (operator_chain instance_of_level) e (left_level instance_of_level n v [] refl c (nothing_more (operator_chain instance_of_level) 0 (raw_nest_of v) c.tokens (left_first n v c)))
+  claims (by (operator_chain instance_of_level) o e (next {n = n} {v = v} dv (with {v = w} dw end))) =
       let c = claims dv in
-      at_head (chain instances) e (left_level instances n v (w ∷ []) refl c (left_more (chain instances) 0 (raw_nest_of v) c.tokens (tail instances) w [] refl (omega arith) (omega arith) (omega arith) (left_first n v c) (claims dw) (λ b h. nothing_more (chain instances) 0 b _ h)))
-  claims (by (chain treats) o e (next {n = n} {v = v} dv (without end))) =
+      at_head (operator_chain instance_of_level) e (left_level instance_of_level n v (w ∷ []) refl c (left_more (operator_chain instance_of_level) 0 (raw_nest_of v) c.tokens (tail instance_of_level) w [] refl (omega arith) (omega arith) (omega arith) (left_first n v c) (claims dw) (λ b h. nothing_more (operator_chain instance_of_level) 0 b _ h)))
+  claims (by (operator_chain treat_level) o e (next {n = n} {v = v} dv (without end))) =
       let c = claims dv in
-      at_head (chain treats) e (left_level treats n v [] refl c (nothing_more (chain treats) 0 (raw_nest_of v) c.tokens (left_first n v c)))
-  claims (by (chain treats) o e (next {n = n} {v = v} dv (with {v = w} dw end))) =
+      at_head (operator_chain treat_level) e (left_level treat_level n v [] refl c (nothing_more (operator_chain treat_level) 0 (raw_nest_of v) c.tokens (left_first n v c)))
+  claims (by (operator_chain treat_level) o e (next {n = n} {v = v} dv (with {v = w} dw end))) =
       let c = claims dv in
-      at_head (chain treats) e (left_level treats n v (w ∷ []) refl c (left_more (chain treats) 0 (raw_nest_of v) c.tokens (tail treats) w [] refl (omega arith) (omega arith) (omega arith) (left_first n v c) (claims dw) (λ b h. nothing_more (chain treats) 0 b _ h)))
-  claims (by (chain castables) o e (next {n = n} {v = v} dv (without end))) =
+      at_head (operator_chain treat_level) e (left_level treat_level n v (w ∷ []) refl c (left_more (operator_chain treat_level) 0 (raw_nest_of v) c.tokens (tail treat_level) w [] refl (omega arith) (omega arith) (omega arith) (left_first n v c) (claims dw) (λ b h. nothing_more (operator_chain treat_level) 0 b _ h)))
+  claims (by (operator_chain castable_level) o e (next {n = n} {v = v} dv (without end))) =
       let c = claims dv in
-      at_head (chain castables) e (left_level castables n v [] refl c (nothing_more (chain castables) 0 (raw_nest_of v) c.tokens (left_first n v c)))
-  claims (by (chain castables) o e (next {n = n} {v = v} dv (with {v = w} dw end))) =
+      at_head (operator_chain castable_level) e (left_level castable_level n v [] refl c (nothing_more (operator_chain castable_level) 0 (raw_nest_of v) c.tokens (left_first n v c)))
+  claims (by (operator_chain castable_level) o e (next {n = n} {v = v} dv (with {v = w} dw end))) =
       let c = claims dv in
-      at_head (chain castables) e (left_level castables n v (w ∷ []) refl c (left_more (chain castables) 0 (raw_nest_of v) c.tokens (tail castables) w [] refl (omega arith) (omega arith) (omega arith) (left_first n v c) (claims dw) (λ b h. nothing_more (chain castables) 0 b _ h)))
-  claims (by (chain casts) o e (next {n = n} {v = v} dv (without end))) =
+      at_head (operator_chain castable_level) e (left_level castable_level n v (w ∷ []) refl c (left_more (operator_chain castable_level) 0 (raw_nest_of v) c.tokens (tail castable_level) w [] refl (omega arith) (omega arith) (omega arith) (left_first n v c) (claims dw) (λ b h. nothing_more (operator_chain castable_level) 0 b _ h)))
+  claims (by (operator_chain cast_level) o e (next {n = n} {v = v} dv (without end))) =
       let c = claims dv in
-      at_head (chain casts) e (left_level casts n v [] refl c (nothing_more (chain casts) 0 (raw_nest_of v) c.tokens (left_first n v c)))
-  claims (by (chain casts) o e (next {n = n} {v = v} dv (with {v = w} dw end))) =
+      at_head (operator_chain cast_level) e (left_level cast_level n v [] refl c (nothing_more (operator_chain cast_level) 0 (raw_nest_of v) c.tokens (left_first n v c)))
+  claims (by (operator_chain cast_level) o e (next {n = n} {v = v} dv (with {v = w} dw end))) =
       let c = claims dv in
-      at_head (chain casts) e (left_level casts n v (w ∷ []) refl c (left_more (chain casts) 0 (raw_nest_of v) c.tokens (tail casts) w [] refl (omega arith) (omega arith) (omega arith) (left_first n v c) (claims dw) (λ b h. nothing_more (chain casts) 0 b _ h)))
+      at_head (operator_chain cast_level) e (left_level cast_level n v (w ∷ []) refl c (left_more (operator_chain cast_level) 0 (raw_nest_of v) c.tokens (tail cast_level) w [] refl (omega arith) (omega arith) (omega arith) (left_first n v c) (claims dw) (λ b h. nothing_more (operator_chain cast_level) 0 b _ h)))
   claims (by steps o e (next {v = v} {vs = vs} dv s)) =
       let c = claims dv in
       let c2 = c.some in
@@ -323,7 +323,7 @@ mutual
   claims (by rooted_deep o e (taken g (next {v = v} {vs = vs} dv s))) =
       let c = claims dv in
       at_head rooted_deep e (deep_claim v vs c (lefts rooted_deep 0 (with_part rooted_deep 2 (levels_of v)) (1 + c.tokens) step_more refl (omega arith) (omega arith) (omega arith) s (deep_first v (step_shallow dv) c)))
-  claims (by (operated l) {vs = vs} s e q) = at_head (operated l) e (finish_flat (operated l) vs refl (fine_operated l) (parts_of (operated l) (margin (operated l)) 0 (before_parts (operated l)) 0 refl q (fits_fine (operated l) (fine_operated l)) (omega arith) (starts_fine (operated l) refl (fine_operated l))))
+  claims (by (operator_tail l) {vs = vs} s e q) = at_head (operator_tail l) e (finish_flat (operator_tail l) vs refl (fine_operated l) (parts_of (operator_tail l) (margin (operator_tail l)) 0 (before_parts (operator_tail l)) 0 refl q (fits_fine (operator_tail l) (fine_operated l)) (omega arith) (starts_fine (operator_tail l) refl (fine_operated l))))
   claims (by p {vs = vs} s e q) = at_head p e (finish_flat p vs refl refl (parts_of p (margin p) 0 (before_parts p) 0 refl q (fits_fine p refl) (omega arith) (starts_fine p refl refl)))
 
   -- parts that nest to the left

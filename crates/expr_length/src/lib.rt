@@ -2,11 +2,11 @@
 #![tactic(auto)]
 
 ghost use Rattle.std.specs.Prelude.{◌+◌, ◌≤◌, List, [], length};
-ghost use Rattle.expr_terms.specs.declared.tokens.Token.{Token};
-ghost use Rattle.expr_terms.specs.declared.productions.Language.{Language};
+ghost use Rattle.expr_keys.specs.declared.tokens.Token.{Token};
+ghost use Rattle.expr_keys.specs.declared.productions.Language.{Language};
 ghost use Rattle.expr_terms.specs.declared.raws.Raw.{Raw};
 ghost use Rattle.expr_terms.specs.Nest.{raw_nest_of};
-ghost use Rattle.expr_terms.specs.declared.productions.Nonterminal.TheVariants.{Single as single};
+ghost use Rattle.expr_keys.specs.declared.productions.Nonterminal.TheVariants.{ExprSingle as expr_single};
 ghost use Rattle.expr_grammar.specs.Grammar.{Derives, Spells};
 ghost use Rattle.expr_length.specs.Weights.{weight};
 
@@ -21,6 +21,6 @@ pub fn nests_within_tokens()
 pub fn nests_within_weight()
     ensures whole { (l : Language) (ts : List Token) (v : Raw) → Spells l ts v
         → raw_nest_of v ≤ weight ts }
-    ensures single { (l : Language) (ts : List Token) (v : Raw) → Derives l single ts v []
+    ensures single { (l : Language) (ts : List Token) (v : Raw) → Derives l expr_single ts v []
         → raw_nest_of v ≤ weight ts }
 {}

@@ -1,0 +1,2 @@
+pub mod OutcomesLemmas
+pub mod SortMeaning

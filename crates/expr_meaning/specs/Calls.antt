@@ -17,13 +17,13 @@ use Rattle.xdm_items.specs.Values.{string_value_of}
 use Rattle.function_table.specs.Find.{found, is_in_fn}
 use Rattle.function_table.specs.declared.builtins.Builtin.{Builtin}
 use Rattle.function_table.specs.declared.builtins.Builtin.TheVariants as function
-use Rattle.operator_values.specs.FunctionArguments.Answers.{of_integer, of_text}
-use Rattle.operator_values.specs.FunctionArguments.Arguments.{and_then as result_then, optional_text_argument}
+use Rattle.xdm_items.specs.FunctionArguments.Answers.{of_integer, of_text}
+use Rattle.xdm_items.specs.FunctionArguments.Arguments.{and_then as result_then, optional_text_argument}
 use Rattle.fn_lib.specs.Functions.{function_value}
 use Rattle.fn_lib.specs.Values.{argument}
 use Rattle.operator_values.specs.Operands.{atom_of}
-use Rattle.outcomes.specs.Outcome.{Outcome, Ends, and_then, step_outcome, for_each}
-use Rattle.sort_meaning.specs.Sorted.{Placed}
+use Rattle.expr_meaning.specs.Outcomes.Outcome.{Outcome, Ends, and_then, step_outcome, for_each}
+use Rattle.expr_meaning.specs.SortMeaning.Sorted.{Placed}
 use Rattle.expr_meaning.specs.Env.{Program, Env, Group, Meaning}
 use Rattle.expr_meaning.specs.Documents.{document_in}
 use Rattle.expr_meaning.specs.Values.{of_focus}

@@ -1,7 +1,6 @@
 -- What an expression can read (XPath 2.0, 2.1.2; XSLT 2.0, 5.4.3), and what it does with that.
-use Rattle.std.specs.Prelude.{ℕ, List, [], ◌∷◌, Bool, ◌&&◌, Option, Some, None, Result, Ok, Err}
+use Rattle.std.specs.Prelude.{ℕ, List, [], ◌∷◌, Option, Some, None, Result, Ok, Err}
 use Rattle.std.specs.Prelude.{if◌then◌else◌}
-use Rattle.std.specs.Str.{bytes_eq}
 use Rattle.xt_names.specs.declared.codes.Code.{Code}
 use Rattle.xt_names.specs.declared.codes.Code.TheVariants.{Dynamic}
 use Rattle.xt_names.specs.declared.codes.DynamicCode.TheVariants.{XPDY0002}
@@ -11,8 +10,9 @@ use Rattle.xt_atoms.specs.declared.atoms.Atom.{Atom as AtomValue}
 use Rattle.xt_tree.specs.Place.{Place}
 use Rattle.doc_set.specs.Sets.{DocumentSet}
 use Rattle.xdm_items.specs.declared.items.Item.{Item}
-use Rattle.outcomes.specs.Outcome.{Outcome}
-use Rattle.sort_meaning.specs.Sorted.{Placed}
+use Rattle.expr_meaning.specs.Outcomes.Outcome.{Outcome}
+use Rattle.expr_meaning.specs.SortMeaning.Sorted.{Placed}
+use Rattle.xt_names.specs.ExprNames.{same_name}
 
 -- a name and its list
 abbrev pub Binding : Type 0
@@ -83,9 +83,6 @@ pub record Program : Type 0 where
   pub globals : List Binding
   pub namespaces : List Namespace
   pub element_default : List ℕ
-
-abbrev pub same_name : ExprName → ExprName → Bool
-same_name a b = bytes_eq a.uri b.uri && bytes_eq a.local b.local
 
 -- the innermost list of the name
 unfoldable pub look_up : List Binding → ExprName → Option (List Item)

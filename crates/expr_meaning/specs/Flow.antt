@@ -3,10 +3,10 @@ use Rattle.std.specs.Prelude.{ℕ, List, [], ◌∷◌, map, Bool, true, false, 
 use Rattle.xt_names.specs.declared.names.ExprName.{ExprName}
 use Rattle.xt_atoms.specs.Casts.{wrong_type}
 use Rattle.xdm_items.specs.declared.items.Item.{Item}
-use Rattle.operator_values.specs.FunctionArguments.Answers.{of_integer}
-use Rattle.sort_meaning.specs.OrderGroup.Rows.{Keyed}
-use Rattle.outcomes.specs.Outcome.{Outcome, Ends, and_then, step_outcome, for_each}
-use Rattle.sort_meaning.specs.Sorted.{Column, Placed, places, key_cell, with_row, ordered}
+use Rattle.xdm_items.specs.FunctionArguments.Answers.{of_integer}
+use Rattle.order_group.specs.Rows.{Keyed}
+use Rattle.expr_meaning.specs.Outcomes.Outcome.{Outcome, Ends, and_then, step_outcome, for_each}
+use Rattle.expr_meaning.specs.SortMeaning.Sorted.{Column, Placed, places, key_cell, with_row, ordered}
 use Rattle.expr_meaning.specs.Env.{Binding, Env, Meaning, bind_all}
 use Rattle.expr_meaning.specs.Logic.{Bound, typed, truth_at}
 

@@ -9,9 +9,11 @@ pub mod Making
 pub mod Meaning
 pub mod Queries
 pub mod Documents
+pub mod Outcomes
+pub mod SortMeaning
 pub use Rattle.fn_lib.specs as FnLib
 pub use Rattle.fn_lib.specs.ItemFunctions
 pub use Rattle.operator_values.specs.LazySeq
 pub use Rattle.operator_values.specs.NodeWalks
 pub use Rattle.operator_values.specs as OperatorValues
-pub use Rattle.sort_meaning.specs as SortMeaning
+pub use Rattle.order_group.specs as OrderGroup

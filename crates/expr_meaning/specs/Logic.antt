@@ -8,8 +8,8 @@ use Rattle.xt_types.specs.declared.types.SeqType.{SeqType}
 use Rattle.xdm_items.specs.declared.items.Item.{Item}
 use Rattle.xdm_items.specs.Conversion.{matched}
 use Rattle.xdm_items.specs.Truth.{truth_of}
-use Rattle.operator_values.specs.FunctionArguments.Answers.{of_truth}
-use Rattle.outcomes.specs.Outcome.{Outcome, Ends, and_then, step_outcome}
+use Rattle.xdm_items.specs.FunctionArguments.Answers.{of_truth}
+use Rattle.expr_meaning.specs.Outcomes.Outcome.{Outcome, Ends, and_then, step_outcome}
 use Rattle.expr_meaning.specs.Env.{Env, Meaning, bind}
 
 -- the truth value of an expression

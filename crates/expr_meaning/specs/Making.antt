@@ -11,7 +11,7 @@ use Rattle.node_builder.specs.Simple.{joined_with}
 use Rattle.node_builder.specs.Trees.{numbered, element_of, document_of, comment_of, pi_of}
 use Rattle.node_builder.specs.Answers.{root_place as new_root}
 use Rattle.node_builder.specs.declared.kinds.Duplicates.TheVariants.{Refuse}
-use Rattle.outcomes.specs.Outcome.{Outcome, Ends, Fails, and_then, for_each}
+use Rattle.expr_meaning.specs.Outcomes.Outcome.{Outcome, Ends, Fails, and_then, for_each}
 use Rattle.operator_values.specs.Operands.{atom_of}
 use Rattle.expr_meaning.specs.Env.{Program, Env, Meaning}
 use Rattle.expr_meaning.specs.Names.{NameMeaning, element_name_at, attribute_name_at, target_at}
@@ -70,7 +70,7 @@ pub data PartMeaning : Type 0 where
 abbrev pub literal_node : Tree → Item
 literal_node t = Node (new_root 0 t)
 
--- the text of a run of atoms, if one stands before, with the text of one more behind a space
+-- the text of a run of atoms, if one stands before, with the text of one more after a space
 abbrev pub with_text : Option (List ℕ) → List ℕ → Option (List ℕ)
 with_text None text = Some text
 with_text (Some run) text = Some (run ++ 32 ∷ text)

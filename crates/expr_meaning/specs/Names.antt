@@ -15,8 +15,8 @@ use Rattle.xt_atoms.specs.declared.atoms.Atom.TheVariants as atom
 use Rattle.xt_atoms.specs.AtomTexts.{lexical_qname}
 use Rattle.fn_lib.specs.TextOperations.Searches.{text_before, text_after}
 use Rattle.xdm_items.specs.declared.items.Item.{Item}
-use Rattle.operator_values.specs.FunctionArguments.Arguments.{and_then as result_then}
-use Rattle.outcomes.specs.Outcome.{Outcome, Ends, and_then, step_outcome}
+use Rattle.xdm_items.specs.FunctionArguments.Arguments.{and_then as result_then}
+use Rattle.expr_meaning.specs.Outcomes.Outcome.{Outcome, Ends, and_then, step_outcome}
 use Rattle.operator_values.specs.Operands.{atom_of}
 use Rattle.expr_meaning.specs.Env.{Program, Env, Meaning}
 

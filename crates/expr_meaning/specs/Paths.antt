@@ -17,11 +17,11 @@ use Rattle.xt_atoms.specs.declared.atoms.Atom.TheVariants as atom
 use Rattle.xdm_items.specs.declared.items.Item.{Item}
 use Rattle.xdm_items.specs.declared.items.Item.TheVariants.{Node, Atom}
 use Rattle.xdm_items.specs.Truth.{truth_of}
-use Rattle.operator_values.specs.FunctionArguments.Arguments.{and_then as result_then}
+use Rattle.xdm_items.specs.FunctionArguments.Arguments.{and_then as result_then}
 use Rattle.operator_values.specs.LazySeq.Orders.{in_document_order}
 use Rattle.operator_values.specs.Nodes.{is_node}
-use Rattle.outcomes.specs.Outcome.{Outcome, Ends, and_then, step_outcome, for_each}
-use Rattle.sort_meaning.specs.Sorted.{Placed, places}
+use Rattle.expr_meaning.specs.Outcomes.Outcome.{Outcome, Ends, and_then, step_outcome, for_each}
+use Rattle.expr_meaning.specs.SortMeaning.Sorted.{Placed, places}
 use Rattle.expr_meaning.specs.Env.{Env, Meaning, at_focus}
 use Rattle.expr_meaning.specs.Values.{of_focus}
 

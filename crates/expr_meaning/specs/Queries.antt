@@ -19,11 +19,12 @@ use Rattle.xt_syntax.specs.declared.queries.Query.{Query}
 use Rattle.xt_syntax.specs.declared.queries.QueryFunction.{QueryFunction}
 use Rattle.xt_syntax.specs.declared.queries.QueryParam.{QueryParam}
 use Rattle.xt_syntax.specs.declared.queries.QueryVar.{QueryVar}
-use Rattle.outcomes.specs.Outcome.{Outcome, Ends, Fails, Deep, and_then, step_outcome}
-use Rattle.operator_values.specs.FunctionArguments.Arguments.{and_then as result_then}
-use Rattle.expr_meaning.specs.Env.{Binding, Calls, Env, Program, no_state, same_name}
+use Rattle.expr_meaning.specs.Outcomes.Outcome.{Outcome, Ends, Fails, Deep, and_then, step_outcome}
+use Rattle.xdm_items.specs.FunctionArguments.Arguments.{and_then as result_then}
+use Rattle.expr_meaning.specs.Env.{Binding, Calls, Env, Program, no_state}
 use Rattle.expr_meaning.specs.Logic.{typed}
 use Rattle.expr_meaning.specs.Meaning.{outcome}
+use Rattle.xt_names.specs.ExprNames.{same_name}
 
 -- a value given from outside: its name, which has no namespace, and its text
 abbrev pub Given : Type 0

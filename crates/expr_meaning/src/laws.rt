@@ -3,7 +3,7 @@ ghost use Rattle.std.specs.Prelude.{◌≡◌, ℕ, zero, List, length, Some, Ok
 ghost use Rattle.xt_names.specs.declared.names.ExprName.{ExprName};
 ghost use Rattle.xdm_items.specs.declared.items.Item.{Item};
 ghost use Rattle.xt_syntax.specs.declared.queries.QueryFunction.{QueryFunction};
-ghost use Rattle.outcomes.specs.Outcome.{Deep};
+ghost use Rattle.expr_meaning.specs.Outcomes.Outcome.{Deep};
 ghost use Rattle.expr_meaning.specs.Env.{Binding};
 ghost use Rattle.expr_meaning.specs.Queries.{Run, find_function, bound_params, calls_at};
 

@@ -9,8 +9,11 @@
 #![tactic(auto)]
 
 mod laws;
+pub mod outcomes;
+pub mod sort_meaning;
 
 pub use fn_lib;
 pub use laws::without_calls_left_a_call_needs_one;
 pub use operator_values;
-pub use operator_values::{function_arguments, lazy_seq};
+pub use operator_values::lazy_seq;
+pub use xdm_items;

@@ -3,7 +3,7 @@ use Rattle.std.proofs.Common.{◌≡◌, ℕ, List, [], ◌∷◌, Bool, true, f
 use Rattle.std.specs.Str.{bytes_eq}
 use Rattle.xt_names.specs.declared.names.Binding.{Binding}
 use Rattle.bound_prefixes.specs.First.{first_uri}
-use Rattle.expr_names.specs.Names.{uri_of}
+use Rattle.xt_names.specs.ExprNames.{uri_of}
 
 abbrev pub or_empty : Option (List ℕ) → List ℕ
 or_empty None = []

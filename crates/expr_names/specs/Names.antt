@@ -1,6 +1,5 @@
 -- What names and name tests mean, and whether their prefixes are declared (XPath 2.0, 2.1.1 and 3.2.1.2).
 use Rattle.std.specs.Prelude.{ℕ, List, [], ◌∷◌, if◌then◌else◌}
-use Rattle.std.specs.Str.{bytes_eq}
 use Rattle.xt_names.specs.Allowed.{is_empty_text}
 use Rattle.xt_names.specs.declared.names.Binding.{Binding}
 use Rattle.xt_names.specs.declared.names.ExprName.{ExprName}
@@ -13,11 +12,7 @@ use Rattle.xt_types.specs.declared.node_tests.NameTest.TheVariants as name
 use Rattle.expr_names.specs.declared.written.Written.{Written}
 use Rattle.expr_names.specs.declared.written.WrittenTest.{WrittenTest}
 use Rattle.expr_names.specs.declared.written.WrittenTest.TheVariants as written
-
--- the uri of the first binding of the prefix; a prefix that is bound to none, or to the empty one, is not declared
-abbrev pub uri_of : List Binding → List ℕ → List ℕ
-uri_of [] prefix = []
-uri_of (b ∷ bs) prefix = if bytes_eq b.prefix prefix then b.uri else uri_of bs prefix
+use Rattle.xt_names.specs.ExprNames.{uri_of}
 
 -- the uri of a name: `default` where it has no prefix
 unfoldable pub uri_in : List Binding → List ℕ → Written → List ℕ

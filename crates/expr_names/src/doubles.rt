@@ -2,7 +2,8 @@
 ghost use Rattle.std.specs.Prelude.{◌≡◌, not, true, if◌then◌else◌, IfOk, OnOk};
 ghost use Rattle.std.specs.List.{list_any};
 ghost use Rattle.xt_names.specs.declared.names.Name.{Name};
-ghost use Rattle.expr_names.specs.Doubles.{names_differ, same_name, has_key};
+ghost use Rattle.expr_names.specs.Doubles.{names_differ};
+ghost use Rattle.xt_names.specs.Names.{same_name, has_key};
 
 use std::alloc::{AllocError, Global};
 use std::collections::HashSet;

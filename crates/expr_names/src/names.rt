@@ -1,7 +1,8 @@
 // Prefixes and names.
 ghost use Rattle.std.specs.Prelude.{◌≡◌, [], IfOk};
 ghost use Rattle.expr_names.specs.Answers.{Answers};
-ghost use Rattle.expr_names.specs.Names.{uri_of, uri_in, undeclared, undeclared_in, expr_name, node_name};
+ghost use Rattle.expr_names.specs.Names.{uri_in, undeclared, undeclared_in, expr_name, node_name};
+ghost use Rattle.xt_names.specs.ExprNames.{uri_of};
 
 use crate::fault::{ResolveFault, static_fault};
 use crate::written::Written;

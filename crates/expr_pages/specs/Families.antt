@@ -10,7 +10,7 @@ use Rattle.xt_syntax.specs.declared.exprs.Clause.TheOpen.{Castable, Cast, ElemC,
 use Rattle.xt_syntax.specs.declared.exprs.Clause.TheOpen.{DocC, TextC, CommentC, Direct}
 use Rattle.xt_syntax.specs.declared.exprs.Clause.TheViews.{out-Expr}
 use Rattle.xt_syntax.specs.Layers.{Kinds, ExprLayer}
-use Rattle.expr_places.specs.Roots.{parts}
+use Rattle.expr_drafts.specs.ExprPlaces.Roots.{parts}
 
 -- literals, variables, the context item and the root
 abbrev pub is_leaf_layer : (k : Kinds) → ExprLayer k → Bool

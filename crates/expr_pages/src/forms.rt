@@ -4,14 +4,16 @@ ghost use Rattle.expr_raws.specs.Raws.{form_of};
 ghost use Rattle.expr_pages.specs.Families.{is_leaf, is_control, is_comparison, is_combination};
 ghost use Rattle.expr_pages.specs.Families.{has_one_operand, is_constructor};
 
-use control_drafts::leaf_pages::push_var;
-use control_drafts::{push_flwor, push_if, push_quant};
-use element_drafts::{push_attribute, push_direct, push_element, push_enclosing, push_instruction};
+use crate::element_drafts::{
+    push_attribute, push_direct, push_element, push_enclosing, push_instruction,
+};
+use expr_drafts::expr_places::{compare_key, value_key};
+use expr_drafts::name_prefixes::NamePrefixes;
 use expr_drafts::{Draft, Spot};
-use expr_places::{compare_key, value_key};
 use expr_terms::{Key, Level, Token};
-use name_prefixes::NamePrefixes;
-use operator_drafts::{
+use form_drafts::control_drafts::{push_flwor, push_if, push_quant};
+use form_drafts::leaf_pages::push_var;
+use form_drafts::operator_drafts::{
     push_arithmetic, push_call, push_cast, push_castable, push_chained, push_comparison,
     push_filter, push_instance, push_list, push_many, push_range, push_root, push_signed,
     push_slash, push_step, push_treat,
@@ -53,11 +55,11 @@ fn push_control<'a>(
     match e {
         Expr::Or(es) => {
             let key = Key::OrWord;
-            push_many(draft, prefixes, at, Level::Ors, key, es.get().as_slice())
+            push_many(draft, prefixes, at, Level::Or, key, es.get().as_slice())
         }
         Expr::And(es) => {
             let key = Key::AndWord;
-            push_many(draft, prefixes, at, Level::Ands, key, es.get().as_slice())
+            push_many(draft, prefixes, at, Level::And, key, es.get().as_slice())
         }
         Expr::If(arms, other) => push_if(draft, prefixes, at, arms.get().as_slice(), other.get()),
         Expr::Flwor(f) => push_flwor(alloc, draft, prefixes, at, f),
@@ -107,15 +109,15 @@ fn push_combined<'a>(
         Expr::Arith(op, a, b) => push_arithmetic(draft, prefixes, at, *op, a.get(), b.get()),
         Expr::Union(a, b) => {
             let key = Key::UnionWord;
-            push_chained(draft, prefixes, at, Level::Unions, key, a.get(), b.get())
+            push_chained(draft, prefixes, at, Level::Union, key, a.get(), b.get())
         }
         Expr::Intersect(a, b) => {
             let key = Key::IntersectWord;
-            push_chained(draft, prefixes, at, Level::Crosses, key, a.get(), b.get())
+            push_chained(draft, prefixes, at, Level::Intersect, key, a.get(), b.get())
         }
         Expr::Except(a, b) => {
             let key = Key::ExceptWord;
-            push_chained(draft, prefixes, at, Level::Crosses, key, a.get(), b.get())
+            push_chained(draft, prefixes, at, Level::Intersect, key, a.get(), b.get())
         }
         Expr::Slash(a, b) => push_slash(draft, prefixes, at, a.get(), b.get()),
         _ => unreachable!(),

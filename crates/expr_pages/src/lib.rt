@@ -8,6 +8,7 @@
 //! sum of `1` and `2` with `3` is `( 1 + 2 ) * 3`.
 #![tactic(auto)]
 
+pub mod element_drafts;
 mod forms;
 mod settling;
 

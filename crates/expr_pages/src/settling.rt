@@ -1,15 +1,15 @@
 // Drafts that are written until all of them is tokens.
 ghost use Rattle.std.specs.Prelude.{◌≡◌, ◌++◌, [], false, OnOk, IfOk};
-ghost use Rattle.path_raws.specs.Forms.{said};
+ghost use Rattle.expr_raws.specs.PathRaws.Forms.{said};
 ghost use Rattle.expr_raws.specs.Raws.{form_of, tokens_of};
 ghost use Rattle.expr_drafts.specs.Written.{said_tokens, part_tokens};
 ghost use Rattle.expr_pages.specs.Standing.{tokens_in};
 
 use crate::forms::push_form;
+use expr_drafts::expr_places::Operand;
+use expr_drafts::name_prefixes::NamePrefixes;
 use expr_drafts::{Draft, Item, Part, Spot};
-use expr_places::Operand;
 use expr_terms::{Key, Token};
-use name_prefixes::NamePrefixes;
 use query_pages::{Gap, Page};
 use std::alloc::{AllocError, Global};
 use xt_syntax::Expr;
@@ -72,7 +72,7 @@ fn push_whole<'a>(alloc: Global, draft: &mut Draft<'a>, part: &Part<'a>) -> Resu
     Ok(())
 }
 
-/// Takes the first item: a token stands behind those that do, an expression is written. Whether
+/// Takes the first item: a token comes after those that do, an expression is written. Whether
 /// there was an item.
 fn step(
     alloc: Global,

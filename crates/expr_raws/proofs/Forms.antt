@@ -31,34 +31,33 @@ use Rattle.xt_syntax.specs.declared.exprs.Clause.TheOpen.{After, Range, Arith, M
 use Rattle.xt_syntax.specs.declared.exprs.Clause.TheOpen.{Intersect, Except, Filter}
 use Rattle.xt_syntax.specs.declared.exprs.Clause.TheOpen.{Var, Call, Step, Slash}
 use Rattle.xt_syntax.specs.declared.exprs.Clause.TheOpen.{InstanceOf, Treat, Castable, Cast}
-use Rattle.expr_terms.specs.declared.tokens.Token.TheVariants as token
-use Rattle.expr_terms.specs.declared.productions.Level.TheVariants as level
-use Rattle.expr_terms.specs.declared.productions.Production.TheVariants as production
+use Rattle.expr_keys.specs.declared.tokens.Token.TheVariants as token
+use Rattle.expr_keys.specs.declared.productions.Level.TheVariants as level
+use Rattle.expr_keys.specs.declared.productions.Production.TheVariants as production
 use Rattle.expr_terms.specs.declared.raws.Raw.TheVariants.{Leaf as leaf, Node as node}
-use Rattle.expr_meant.specs.declared.meant.Meant.TheVariants as meant
-use Rattle.element_raws.specs.ExprPaths.Primaries as primaries
-use Rattle.element_raws.specs.ExprPaths.Table.{path_value}
-use Rattle.path_raws.specs.ExprControl.Operators as operators
-use Rattle.path_raws.specs.ExprResolve.declared.setting.Setting.{Setting}
-use Rattle.path_raws.specs.ExprResolve.Tables.{is_chain, family_of, value_in}
-use Rattle.path_raws.specs.ExprResolve.Folds.{value_of}
+use Rattle.expr_rules.specs.declared.expr_meant.meant.Meant.TheVariants as meant
+use Rattle.expr_raws.specs.ExprPrimaries.ExprPaths.Primaries as primaries
+use Rattle.expr_raws.specs.ExprPrimaries.ExprPaths.Table.{path_value}
+use Rattle.expr_raws.specs.ExprControl.Operators as operators
+use Rattle.expr_resolve.specs.declared.setting.Setting.{Setting}
+use Rattle.expr_resolve.specs.Tables.{is_chain, family_of, value_in}
+use Rattle.expr_resolve.specs.Folds.{value_of}
 use Rattle.xt_names.specs.declared.names.ExprName.{ExprName}
 use Rattle.xt_types.specs.declared.axes.Axis.{Axis}
 use Rattle.xt_types.specs.declared.node_tests.Test.{Test}
 use Rattle.std.proofs.Common.{Option, Some, None, is_some, not, option_map, true, false}
-use Rattle.xpath_lex.proofs.CharacterFacts.{not_true}
 use Rattle.expr_names.specs.Types.{type_named, call_type}
-use Rattle.expr_terms.specs.declared.tokens.Token.{Token}
+use Rattle.expr_keys.specs.declared.tokens.Token.{Token}
 use Rattle.xt_names.specs.declared.kinds.AtomType.{AtomType}
 use Rattle.xt_types.specs.declared.types.SeqType.{SeqType}
 use Rattle.xt_syntax.specs.declared.exprs.Clause.TheOpen.{DocC, TextC, CommentC}
 use Rattle.xt_syntax.specs.declared.exprs.Expr.TheVariants.{rolls-DocC, rolls-TextC}
 use Rattle.xt_syntax.specs.declared.exprs.Expr.TheVariants.{rolls-CommentC}
-use Rattle.path_raws.specs.ExprElements.Computed.{enclosing_by}
-use Rattle.path_raws.specs.ExprElements.Table.{element_value}
-use Rattle.expr_terms.specs.declared.keys.Key.{Key}
-use Rattle.expr_meant.specs.Parts.{key_of, key_in, expr_or}
-use Rattle.expr_terms.specs.declared.keys.Key.TheVariants as key
+use Rattle.expr_raws.specs.ExprPrimaries.ExprElements.Computed.{enclosing_by}
+use Rattle.expr_raws.specs.ExprPrimaries.ExprElements.Table.{element_value}
+use Rattle.expr_keys.specs.declared.keys.Key.{Key}
+use Rattle.expr_rules.specs.ExprMeant.Parts.{key_of, key_in, expr_or}
+use Rattle.expr_keys.specs.declared.keys.Key.TheVariants as key
 use Rattle.xt_syntax.specs.declared.exprs.Clause.TheOpen.{If, Arm-F}
 use Rattle.xt_syntax.specs.declared.exprs.Clause.TheViews.{roll-Arm}
 use Rattle.xt_syntax.specs.declared.exprs.Expr.TheVariants.{rolls-If}
@@ -83,31 +82,31 @@ use Rattle.xt_syntax.specs.declared.exprs.Part.TheVariants as part
 use Rattle.xt_syntax.specs.declared.exprs.Part.TheVariants.{rolls-Chars, rolls-Enclosed}
 use Rattle.xt_syntax.specs.declared.exprs.Part.TheVariants.{rolls-Child}
 use Rattle.xt_syntax.specs.declared.exprs.Expr.TheVariants.{rolls-Flwor, rolls-Quant, rolls-Direct}
-use Rattle.expr_terms.specs.declared.productions.Class.TheVariants as class
-use Rattle.path_raws.specs.Forms.{Form, single, list, at, all_at, all_can}
-use Rattle.path_raws.specs.Names.{function_token}
-use Rattle.path_raws.specs.Paths.{with_token, call_with, test_form, stepped, slashed}
-use Rattle.path_raws.proofs.Values.{value_leaf, value_node, parens_mean, at_means}
-use Rattle.path_raws.proofs.Paths.{variable_means, name_found, test_means, axis_step_means}
-use Rattle.path_raws.proofs.Paths.{slashed_means, call_none_means, call_means}
-use Rattle.control_raws.specs.Operators.{compare_key, value_key, ArmForm, conditional, has_arms}
-use Rattle.control_raws.specs.Operators.{arms_can}
-use Rattle.control_raws.specs.Types.{sequence_form, of_type, single_form}
-use Rattle.control_raws.specs.Bindings.{OrderForm, ClauseForm, BindForm, wheres, may}
-use Rattle.control_raws.proofs.Chains.{Leftly}
-use Rattle.control_raws.proofs.Types.{sequence_means, single_means, of_type_means}
-use Rattle.control_raws.proofs.Types.{instances_mean, treats_mean, castables_mean, casts_mean}
-use Rattle.control_raws.proofs.Conditionals.{ArmMeans, conditional_means}
-use Rattle.control_raws.proofs.Bindings.{name_means, typing_means, BindMeans, ClauseMeans}
-use Rattle.control_raws.proofs.Bindings.{let_means, for_means, quantified_means, clauses_mean}
-use Rattle.control_raws.proofs.Bindings.{order_means, ordered_means, where_means, where_meant}
-use Rattle.control_raws.proofs.Bindings.{flowing_means, same_some}
-use Rattle.element_raws.specs.Makers.{NameForm, enclosing}
-use Rattle.element_raws.specs.Direct.{PartForm, AttrForm}
-use Rattle.element_raws.proofs.Makers.{NameMeans, element_means, attribute_means}
-use Rattle.element_raws.proofs.Makers.{instruction_means, enclosing_means}
-use Rattle.element_raws.proofs.Direct.{PartMeans, AttrMeans, value_parts, closing_means}
-use Rattle.element_raws.proofs.Direct.{direct_means}
+use Rattle.expr_keys.specs.declared.productions.Class.TheVariants as class
+use Rattle.expr_raws.specs.PathRaws.Forms.{Form, single, list, at, all_at, all_can}
+use Rattle.expr_raws.specs.PathRaws.Names.{function_token}
+use Rattle.expr_raws.specs.PathRaws.Paths.{with_token, call_with, test_form, stepped, slashed}
+use Rattle.expr_raws.proofs.PathRaws.Values.{value_leaf, value_node, parens_mean, at_means}
+use Rattle.expr_raws.proofs.PathRaws.Paths.{variable_means, name_found, test_means, axis_step_means}
+use Rattle.expr_raws.proofs.PathRaws.Paths.{slashed_means, call_none_means, call_means}
+use Rattle.expr_raws.specs.ControlRaws.Operators.{compare_key, value_key, ArmForm, conditional, has_arms}
+use Rattle.expr_raws.specs.ControlRaws.Operators.{arms_can}
+use Rattle.expr_raws.specs.ControlRaws.Types.{sequence_form, of_type, single_form}
+use Rattle.expr_raws.specs.ControlRaws.Bindings.{OrderForm, ClauseForm, BindForm, wheres, may}
+use Rattle.expr_raws.proofs.ControlRaws.Chains.{Leftly}
+use Rattle.expr_raws.proofs.ControlRaws.Types.{sequence_means, single_means, of_type_means}
+use Rattle.expr_raws.proofs.ControlRaws.Types.{instances_mean, treats_mean, castables_mean, casts_mean}
+use Rattle.expr_raws.proofs.ControlRaws.Conditionals.{ArmMeans, conditional_means}
+use Rattle.expr_raws.proofs.ControlRaws.Bindings.{name_means, typing_means, BindMeans, ClauseMeans}
+use Rattle.expr_raws.proofs.ControlRaws.Bindings.{let_means, for_means, quantified_means, clauses_mean}
+use Rattle.expr_raws.proofs.ControlRaws.Bindings.{order_means, ordered_means, where_means, where_meant}
+use Rattle.expr_raws.proofs.ControlRaws.Bindings.{flowing_means, same_some}
+use Rattle.expr_raws.specs.ElementRaws.Makers.{NameForm, enclosing}
+use Rattle.expr_raws.specs.ElementRaws.Direct.{PartForm, AttrForm}
+use Rattle.expr_raws.proofs.ElementRaws.Makers.{NameMeans, element_means, attribute_means}
+use Rattle.expr_raws.proofs.ElementRaws.Makers.{instruction_means, enclosing_means}
+use Rattle.expr_raws.proofs.ElementRaws.Direct.{PartMeans, AttrMeans, value_parts, closing_means}
+use Rattle.expr_raws.proofs.ElementRaws.Direct.{direct_means}
 use Rattle.expr_raws.specs.Raws.{form_of}
 use Rattle.expr_raws.proofs.Induction.{clause_form, name_form, part_form, arm_form, bind_form}
 use Rattle.expr_raws.proofs.Induction.{attr_form, flwor_form, order_form, of_clause, of_expr}
@@ -123,6 +122,7 @@ use Rattle.expr_raws.proofs.Operators.{ands_mean, filtered_means, minus_means, p
 use Rattle.expr_raws.proofs.Operators.{once_so, general_is, value_is}
 use Rattle.expr_raws.proofs.Operators.{arithmetic_means, is_means, before_means, after_means}
 use Rattle.expr_raws.proofs.Operators.{range_means, union_means, intersect_means, except_means}
+use Rattle.xt_names.proofs.BoolLemmas.{not_true}
 
 abbrev Layer : Type 0
 Layer = Expr-F Clause Expr NameSource Part Arm Bind DirectAttr FlworOf Order
@@ -183,60 +183,60 @@ module _ (s : Setting) (strip : s.strip ≡ false) where
   unfolding is_chain family_of value_in path_value
   root_means = value_node s production.Rooted []
 
-  left_instances : Leftly s level.Instances
+  left_instances : Leftly s level.InstanceOf
   unfolding operators.chained
   left_instances ms = refl
 
-  left_treats : Leftly s level.Treats
+  left_treats : Leftly s level.Treat
   unfolding operators.chained
   left_treats ms = refl
 
-  left_castables : Leftly s level.Castables
+  left_castables : Leftly s level.Castable
   unfolding operators.chained
   left_castables ms = refl
 
-  left_casts : Leftly s level.Casts
+  left_casts : Leftly s level.Cast
   unfolding operators.chained
   left_casts ms = refl
 
   instance_means : (y : (e : Expr) × P s e) (t : SeqType)
-      → Means s (of_type level.Instances (form_of s.prefixes y.0) (sequence_form s.prefixes t))
+      → Means s (of_type level.InstanceOf (form_of s.prefixes y.0) (sequence_form s.prefixes t))
       (expr.InstanceOf y.0 t)
   unfolding operators.joined operators.of_type
   instance_means y t c =
       let f = sequence_form s.prefixes t in
       let h = and_parts (form_of s.prefixes y.0).can f.can c in
-      of_type_means s level.Instances left_instances (form_of s.prefixes y.0) f y.0 _ _ (y.1 h.0)
+      of_type_means s level.InstanceOf left_instances (form_of s.prefixes y.0) f y.0 _ _ (y.1 h.0)
       (instances_mean s f.raw t (sequence_means s t h.1)) refl
 
   treat_means : (y : (e : Expr) × P s e) (t : SeqType)
-      → Means s (of_type level.Treats (form_of s.prefixes y.0) (sequence_form s.prefixes t))
+      → Means s (of_type level.Treat (form_of s.prefixes y.0) (sequence_form s.prefixes t))
       (expr.Treat y.0 t)
   unfolding operators.joined operators.of_type
   treat_means y t c =
       let f = sequence_form s.prefixes t in
       let h = and_parts (form_of s.prefixes y.0).can f.can c in
-      of_type_means s level.Treats left_treats (form_of s.prefixes y.0) f y.0 _ _ (y.1 h.0)
+      of_type_means s level.Treat left_treats (form_of s.prefixes y.0) f y.0 _ _ (y.1 h.0)
       (treats_mean s f.raw t (sequence_means s t h.1)) refl
 
   castable_means : (y : (e : Expr) × P s e) (k : AtomType) (b : Bool)
-      → Means s (of_type level.Castables (form_of s.prefixes y.0) (single_form s.prefixes k b))
+      → Means s (of_type level.Castable (form_of s.prefixes y.0) (single_form s.prefixes k b))
       (expr.Castable y.0 k b)
   unfolding operators.joined operators.of_single
   castable_means y k b c =
       let f = single_form s.prefixes k b in
       let h = and_parts (form_of s.prefixes y.0).can f.can c in
-      of_type_means s level.Castables left_castables (form_of s.prefixes y.0) f y.0 _ _ (y.1 h.0)
+      of_type_means s level.Castable left_castables (form_of s.prefixes y.0) f y.0 _ _ (y.1 h.0)
       (castables_mean s f.raw k b (single_means s k b _ refl h.1)) refl
 
   cast_means : (y : (e : Expr) × P s e) (k : AtomType) (b : Bool)
-      → Means s (of_type level.Casts (form_of s.prefixes y.0) (single_form s.prefixes k b))
+      → Means s (of_type level.Cast (form_of s.prefixes y.0) (single_form s.prefixes k b))
       (expr.Cast y.0 k b)
   unfolding operators.joined operators.of_single
   cast_means y k b c =
       let f = single_form s.prefixes k b in
       let h = and_parts (form_of s.prefixes y.0).can f.can c in
-      of_type_means s level.Casts left_casts (form_of s.prefixes y.0) f y.0 _ _ (y.1 h.0)
+      of_type_means s level.Cast left_casts (form_of s.prefixes y.0) f y.0 _ _ (y.1 h.0)
       (casts_mean s f.raw k b (single_means s k b _ refl h.1)) refl
 
   step_means : (on : Axis) (t : Test) (ys : List ((e : Expr) × P s e))
@@ -310,11 +310,11 @@ module _ (s : Setting) (strip : s.strip ≡ false) where
       listed_means s ys c ∙ ap (λ e. meant.Expr e) (sym (rolls-Comma (bare s ys)))
   one_expr (Or ys) c = ors_mean s ys c ∙ ap (λ e. meant.Expr e) (sym (rolls-Or (bare s ys)))
   one_expr (And ys) c = ands_mean s ys c ∙ ap (λ e. meant.Expr e) (sym (rolls-And (bare s ys)))
-  one_expr (General op y z) c = once_so s level.Compares (plain_compares s) (left_compares s)
+  one_expr (General op y z) c = once_so s level.Comparison (plain_compares s) (left_compares s)
       (compare_key op) y z
       _ (general_is s op y.0 z.0) c ∙ ap (λ e. meant.Expr e) (sym (rolls-General op y.0 z.0))
   one_expr (Value op y z) c =
-      once_so s level.Compares (plain_compares s) (left_compares s) (value_key
+      once_so s level.Comparison (plain_compares s) (left_compares s) (value_key
       op) y z
       _ (value_is s op y.0 z.0) c ∙ ap (λ e. meant.Expr e) (sym (rolls-Value op y.0 z.0))
   one_expr (Is y z) c = is_means s y z c ∙ ap (λ e. meant.Expr e) (sym (rolls-Is y.0 z.0))

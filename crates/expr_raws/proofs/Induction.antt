@@ -31,11 +31,11 @@ use Rattle.xt_syntax.specs.Layers.{Kinds, ClauseLayer, ExprLayer, NameLayer, Par
 use Rattle.xt_syntax.specs.Layers.{BindLayer, AttrLayer, FlworLayer, OrderLayer}
 use Rattle.xt_syntax.specs.Layers.{clause_gives, expr_gives, name_gives, part_gives, arm_gives}
 use Rattle.xt_syntax.specs.Layers.{bind_gives, attr_gives, flwor_gives, order_gives}
-use Rattle.path_raws.specs.Forms.{Form}
-use Rattle.control_raws.specs.Operators.{ArmForm}
-use Rattle.control_raws.specs.Bindings.{BindForm, ClauseForm, OrderForm}
-use Rattle.element_raws.specs.Makers.{NameForm}
-use Rattle.element_raws.specs.Direct.{PartForm, AttrForm}
+use Rattle.expr_raws.specs.PathRaws.Forms.{Form}
+use Rattle.expr_raws.specs.ControlRaws.Operators.{ArmForm}
+use Rattle.expr_raws.specs.ControlRaws.Bindings.{BindForm, ClauseForm, OrderForm}
+use Rattle.expr_raws.specs.ElementRaws.Makers.{NameForm}
+use Rattle.expr_raws.specs.ElementRaws.Direct.{PartForm, AttrForm}
 use Rattle.expr_raws.specs.Raws.{forms, form_steps}
 
 -- one layer of each kind

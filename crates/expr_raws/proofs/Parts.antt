@@ -3,16 +3,16 @@ use Rattle.std.proofs.Common.{◌≡◌, ℕ, List, [], ◌∷◌, map, true, re
 use Rattle.std.proofs.Common.{ap, ap₂}
 use Rattle.std.proofs.lemmas.Bool.{and_parts}
 use Rattle.xt_syntax.specs.declared.exprs.Expr.{Expr}
-use Rattle.expr_terms.specs.declared.keys.Key.{Key}
-use Rattle.expr_terms.specs.declared.productions.Level.{Level}
-use Rattle.expr_meant.specs.declared.meant.Meant.TheVariants as meant
-use Rattle.expr_meant.specs.Parts.{expr_of, exprs_of}
-use Rattle.path_raws.specs.ExprResolve.declared.setting.Setting.{Setting}
-use Rattle.path_raws.specs.ExprResolve.Folds.{value_of}
-use Rattle.path_raws.specs.Forms.{Form, all_at, all_can}
-use Rattle.path_raws.proofs.Values.{at_means}
-use Rattle.control_raws.specs.Operators.{tail}
-use Rattle.control_raws.proofs.Chains.{Plain, tail_means}
+use Rattle.expr_keys.specs.declared.keys.Key.{Key}
+use Rattle.expr_keys.specs.declared.productions.Level.{Level}
+use Rattle.expr_rules.specs.declared.expr_meant.meant.Meant.TheVariants as meant
+use Rattle.expr_rules.specs.ExprMeant.Parts.{expr_of, exprs_of}
+use Rattle.expr_resolve.specs.declared.setting.Setting.{Setting}
+use Rattle.expr_resolve.specs.Folds.{value_of}
+use Rattle.expr_raws.specs.PathRaws.Forms.{Form, all_at, all_can}
+use Rattle.expr_raws.proofs.PathRaws.Values.{at_means}
+use Rattle.expr_raws.specs.ControlRaws.Operators.{tail}
+use Rattle.expr_raws.proofs.ControlRaws.Chains.{Plain, tail_means}
 use Rattle.expr_raws.specs.Raws.{form_of}
 
 module _ (s : Setting) where

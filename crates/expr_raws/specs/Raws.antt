@@ -13,23 +13,23 @@ use Rattle.xt_syntax.specs.declared.exprs.Clause.TheOpen.{Direct, Chars, Enclose
 use Rattle.xt_syntax.specs.declared.prefixes.Prefixes.{Prefixes}
 use Rattle.xt_syntax.specs.Layers.{Kinds, Steps, ExprLayer, NameLayer, PartLayer, ClauseLayer}
 use Rattle.xt_syntax.specs.Layers.{BindLayer, FlworLayer, OrderLayer, expr_gives}
-use Rattle.expr_terms.specs.declared.keys.Key.TheVariants as key
-use Rattle.expr_terms.specs.declared.tokens.Token.{Token}
-use Rattle.expr_terms.specs.declared.tokens.Token.TheVariants as token
-use Rattle.expr_terms.specs.declared.productions.Level.TheVariants as level
-use Rattle.expr_terms.specs.declared.productions.Production.TheVariants as production
+use Rattle.expr_keys.specs.declared.keys.Key.TheVariants as key
+use Rattle.expr_keys.specs.declared.tokens.Token.{Token}
+use Rattle.expr_keys.specs.declared.tokens.Token.TheVariants as token
+use Rattle.expr_keys.specs.declared.productions.Level.TheVariants as level
+use Rattle.expr_keys.specs.declared.productions.Production.TheVariants as production
 use Rattle.expr_terms.specs.declared.raws.Raw.{Raw}
 use Rattle.expr_terms.specs.declared.raws.Raw.TheVariants.{Leaf as leaf}
-use Rattle.path_raws.specs.Forms.{Form}
-use Rattle.path_raws.specs.Paths.{variable, call, stepped, slashed, filtered, root_form, lone}
-use Rattle.control_raws.specs.Operators.{once, left, many, listed, signed, compare_key, value_key}
-use Rattle.control_raws.specs.Operators.{arithmetic, ArmForm, conditional}
-use Rattle.control_raws.specs.Types.{sequence_form, of_type, single_form}
-use Rattle.control_raws.specs.Bindings.{BindForm, binding, quantified, ClauseForm, for_clause}
-use Rattle.control_raws.specs.Bindings.{let_clause, placing, OrderForm, flowing}
-use Rattle.element_raws.specs.Makers.{NameForm, fixed, computed, element, attribute, instruction}
-use Rattle.element_raws.specs.Makers.{enclosing}
-use Rattle.element_raws.specs.Direct.{PartForm, characters, enclosed, child, AttrForm, direct}
+use Rattle.expr_raws.specs.PathRaws.Forms.{Form}
+use Rattle.expr_raws.specs.PathRaws.Paths.{variable, call, stepped, slashed, filtered, root_form, lone}
+use Rattle.expr_raws.specs.ControlRaws.Operators.{once, left, many, listed, signed, compare_key, value_key}
+use Rattle.expr_raws.specs.ControlRaws.Operators.{arithmetic, ArmForm, conditional}
+use Rattle.expr_raws.specs.ControlRaws.Types.{sequence_form, of_type, single_form}
+use Rattle.expr_raws.specs.ControlRaws.Bindings.{BindForm, binding, quantified, ClauseForm, for_clause}
+use Rattle.expr_raws.specs.ControlRaws.Bindings.{let_clause, placing, OrderForm, flowing}
+use Rattle.expr_raws.specs.ElementRaws.Makers.{NameForm, fixed, computed, element, attribute, instruction}
+use Rattle.expr_raws.specs.ElementRaws.Makers.{enclosing}
+use Rattle.expr_raws.specs.ElementRaws.Direct.{PartForm, characters, enclosed, child, AttrForm, direct}
 
 abbrev pub forms : Kinds
 forms = record {
@@ -52,26 +52,26 @@ form_step p (Str cs) =
 form_step p Context = lone production.Context [] (token.Key key.Dot) true
 form_step p Root = root_form
 form_step p (Comma fs) = listed fs
-form_step p (Or fs) = many level.Ors key.OrWord fs
-form_step p (And fs) = many level.Ands key.AndWord fs
+form_step p (Or fs) = many level.Or key.OrWord fs
+form_step p (And fs) = many level.And key.AndWord fs
 form_step p (If arms e) = conditional arms e
-form_step p (General op a b) = once level.Compares (compare_key op) a b
-form_step p (Value op a b) = once level.Compares (value_key op) a b
-form_step p (Is a b) = once level.Compares key.IsWord a b
-form_step p (Before a b) = once level.Compares key.Before a b
-form_step p (After a b) = once level.Compares key.After a b
-form_step p (Range a b) = once level.Ranges key.ToWord a b
+form_step p (General op a b) = once level.Comparison (compare_key op) a b
+form_step p (Value op a b) = once level.Comparison (value_key op) a b
+form_step p (Is a b) = once level.Comparison key.IsWord a b
+form_step p (Before a b) = once level.Comparison key.Before a b
+form_step p (After a b) = once level.Comparison key.After a b
+form_step p (Range a b) = once level.Range key.ToWord a b
 form_step p (Arith op a b) = arithmetic op a b
 form_step p (Minus a) = signed key.Minus a
 form_step p (Plus a) = signed key.Plus a
-form_step p (Union a b) = left level.Unions key.UnionWord a b
-form_step p (Intersect a b) = left level.Crosses key.IntersectWord a b
-form_step p (Except a b) = left level.Crosses key.ExceptWord a b
+form_step p (Union a b) = left level.Union key.UnionWord a b
+form_step p (Intersect a b) = left level.Intersect key.IntersectWord a b
+form_step p (Except a b) = left level.Intersect key.ExceptWord a b
 form_step p (Filter a fs) = filtered a fs
-form_step p (InstanceOf a t) = of_type level.Instances a (sequence_form p t)
-form_step p (Treat a t) = of_type level.Treats a (sequence_form p t)
-form_step p (Castable a k empty) = of_type level.Castables a (single_form p k empty)
-form_step p (Cast a k empty) = of_type level.Casts a (single_form p k empty)
+form_step p (InstanceOf a t) = of_type level.InstanceOf a (sequence_form p t)
+form_step p (Treat a t) = of_type level.Treat a (sequence_form p t)
+form_step p (Castable a k empty) = of_type level.Castable a (single_form p k empty)
+form_step p (Cast a k empty) = of_type level.Cast a (single_form p k empty)
 form_step p (ElemC n a) = element p n a
 form_step p (AttrC n a) = attribute p n a
 form_step p (PiC n a) = instruction p n a

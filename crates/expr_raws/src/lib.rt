@@ -5,11 +5,15 @@
 //! whether it can be printed. The law says that the raw value means the expression.
 #![tactic(auto)]
 
+pub mod control_raws;
+pub mod element_raws;
+pub mod path_raws;
+
 ghost use Rattle.std.specs.Prelude.{◌≡◌, true, false};
 ghost use Rattle.xt_syntax.specs.declared.exprs.Expr.{Expr};
-ghost use Rattle.expr_meant.specs.declared.meant.Meant.TheVariants as meant;
-ghost use Rattle.path_raws.specs.ExprResolve.declared.setting.Setting.{Setting};
-ghost use Rattle.path_raws.specs.ExprResolve.Folds.{value_of};
+ghost use Rattle.expr_rules.specs.declared.expr_meant.meant.Meant.TheVariants as meant;
+ghost use Rattle.expr_resolve.specs.declared.setting.Setting.{Setting};
+ghost use Rattle.expr_resolve.specs.Folds.{value_of};
 ghost use Rattle.expr_raws.specs.Raws.{raw_of, is_printable};
 
 /// The raw value of an expression that can be printed means the expression, under the same

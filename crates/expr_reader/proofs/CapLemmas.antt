@@ -4,21 +4,21 @@ use Rattle.std.proofs.Common.{true, false, cond, ◌&&◌, List, [], ◌∷◌, 
 use Rattle.std.proofs.Common.{append-nil, arith}
 use Rattle.std.proofs.Math.Dec.{eqb-suc-zero}
 use Rattle.expr_reader.specs.TokenNames.{Token}
-use Rattle.expr_reader.specs.Terms.{Class, Symbol, tok, Production, chain, otherwise, conditional}
+use Rattle.expr_reader.specs.Terms.{Class, Symbol, tok, Production, operator_chain, else_expr, if_expr}
 use Rattle.expr_reader.specs.RawNames.{Raw, leaf}
 use Rattle.expr_terms.specs.Productions.{body, keeps, passes}
 use Rattle.expr_terms.specs.Raws.{keep, build, is_parens, is_otherwise, is_conditional, only_inner}
 use Rattle.expr_terms.specs.Nest.{Mark, plain, deep, last, Levels, levels_of, raw_nest_of}
 use Rattle.expr_terms.specs.Nest.{is_left_level, is_left, is_arms, with_part, left_part, arm_part}
 use Rattle.expr_terms.specs.Nest.{whole_nest}
-use Rattle.expr_nest.specs.Held.{held, is_alone, built_nest}
-use Rattle.expr_nest.specs.declared.measures.Measure.{Measure}
-use Rattle.expr_nest.specs.declared.measures.Measure.TheVariants.{Whole, Predicates}
-use Rattle.expr_nest.specs.Measures.{is_step, is_outside, predicate_nest_of, widest, counted}
-use Rattle.expr_nest.specs.Measures.{held_by, built_within, nest_by}
-use Rattle.expr_nest.proofs.Built.{nest_of_build}
-use Rattle.expr_nest.proofs.Levels.{held-append}
-use Rattle.expr_nest.proofs.Within.{within-leaf, widest-append, within_of_build}
+use Rattle.expr_grammar.specs.ExprNest.Held.{held, is_alone, built_nest}
+use Rattle.expr_grammar.specs.declared.expr_nest.measures.Measure.{Measure}
+use Rattle.expr_grammar.specs.declared.expr_nest.measures.Measure.TheVariants.{Whole, Predicates}
+use Rattle.expr_grammar.specs.ExprNest.Measures.{is_step, is_outside, predicate_nest_of, widest, counted}
+use Rattle.expr_grammar.specs.ExprNest.Measures.{held_by, built_within, nest_by}
+use Rattle.expr_grammar.proofs.ExprNest.Built.{nest_of_build}
+use Rattle.expr_grammar.proofs.ExprNest.Levels.{held-append}
+use Rattle.expr_grammar.proofs.ExprNest.Within.{within-leaf, widest-append, within_of_build}
 use Rattle.expr_reader.specs.Counts.{SameCount, chosen}
 use Rattle.expr_reader.proofs.CountLemmas.{leaf-kept}
 
@@ -107,10 +107,10 @@ counted_close Predicates p a b x y alone e f = go (is_step p) (is_outside p) (al
 arms_whole : (m : Measure) (p : Production) (a b : ℕ) (alone : Bool) → is_arms p ≡ true
     → counted m p a b alone ≡ a
 arms_whole Whole p a b alone e = refl
-arms_whole Predicates conditional a b true e = refl
-arms_whole Predicates conditional a b false e = refl
-arms_whole Predicates otherwise a b true e = refl
-arms_whole Predicates otherwise a b false e = refl
+arms_whole Predicates if_expr a b true e = refl
+arms_whole Predicates if_expr a b false e = refl
+arms_whole Predicates else_expr a b true e = refl
+arms_whole Predicates else_expr a b false e = refl
 arms_whole Predicates _ a b alone e = wrong e
 
 -- one more part
@@ -206,7 +206,7 @@ pub ruleset kept = (kept_same, kept_within)
 -- the value of a production
 whole_same : (p : Production) (a b : ℕ) → SameCount a b
     → SameCount (whole_nest p a) (whole_nest p b)
-whole_same (chain l) a b e = go (is_left_level l)
+whole_same (operator_chain l) a b e = go (is_left_level l)
   where
     go : (c : Bool) → SameCount (cond c a (1 + a)) (cond c b (1 + b))
     go true = e

@@ -2,7 +2,7 @@
 use Rattle.std.proofs.Common.{Bool, true, false, cond, sym, ◌∙◌, ap, subst, ◌<◌, ◌≤◌, ◌+◌, length, drop, get_or, option_and_then, is_some, nat_le, ◌≡◌, ◌≢◌, ℕ, List, [], ◌∷◌, Option, Some, None, refl, arith}
 use Rattle.std.proofs.lemmas.Bool.{le-leb, lt-leb, leb-true, leb-false}
 use Rattle.expr_reader.specs.TokenNames.{Token}
-use Rattle.expr_reader.specs.Terms.{Language, Production, Symbol, xpath, top, type_top}
+use Rattle.expr_reader.specs.Terms.{Language, Production, Symbol, xpath, whole_expr, whole_sequence_type}
 use Rattle.expr_reader.specs.RawNames.{Raw}
 use Rattle.expr_terms.specs.declared.choices.Second.{Second}
 use Rattle.expr_terms.specs.Choices.{second_of}
@@ -10,10 +10,10 @@ use Rattle.expr_terms.specs.Raws.{build}
 use Rattle.expr_grammar.specs.Machine.{Frame, doing, stuck, moved, through, along, advance, skips, finish, run, start}
 use Rattle.expr_reader.specs.View.{with_value}
 use Rattle.expr_terms.specs.Nest.{raw_nest_of}
-use Rattle.expr_nest.specs.declared.measures.Measure.{Measure}
-use Rattle.expr_nest.specs.declared.measures.Measure.TheVariants.{Whole, Predicates}
-use Rattle.expr_nest.specs.Measures.{nest_by, predicate_nest_of}
-use Rattle.expr_nest.proofs.Keeps.{parts_nest_no_deeper}
+use Rattle.expr_grammar.specs.declared.expr_nest.measures.Measure.{Measure}
+use Rattle.expr_grammar.specs.declared.expr_nest.measures.Measure.TheVariants.{Whole, Predicates}
+use Rattle.expr_grammar.specs.ExprNest.Measures.{nest_by, predicate_nest_of}
+use Rattle.expr_grammar.proofs.ExprNest.Keeps.{parts_nest_no_deeper}
 use Rattle.expr_reader.specs.declared.readings.Reading.{Reading}
 use Rattle.expr_reader.specs.declared.readings.Reading.TheVariants.{Value, Nothing, TooDeep}
 use Rattle.expr_reader.specs.Outline.{outline, outlines, topmost_held, Sinks}
@@ -55,7 +55,7 @@ going_at m k was deep l t s old now new g e = subst (λ x. Going m k was deep l 
 pub going_begin : (m : Measure) (k : ℕ) (was : Bool) (l : Language) (t : Token) (s : Second) (fs : List Frame) → Going m k was was l t s fs fs
 going_begin m k was l t s fs = record { outlined = refl; exact = λ e. refl; sinks = λ a b. wrong (sym b ∙ a); stays = λ e. e }
 
-none_outlined : (o : Option (List Frame)) → outlines o ≡ None → o ≡ None
+pub none_outlined : (o : Option (List Frame)) → outlines o ≡ None → o ≡ None
 none_outlined None e = refl
 none_outlined (Some fs) e = absurd cc
 
@@ -244,10 +244,10 @@ by_whole k (Some v) = refl
 pub value_whole : (k : ℕ) (o : Option Raw) (r : Reading) → r ≡ within_by Whole k o → r ≡ within k o
 value_whole k o r e = e ∙ by_whole k o
 
-pub parsed : (k : ℕ) (l : Language) (ts : List Token) (r : Reading) → r ≡ within_by Whole k (run l ts (start top)) → Parsed l ts k r
-parsed k l ts r e = rw e (go (run l ts (start top)) refl)
+pub parsed : (k : ℕ) (l : Language) (ts : List Token) (r : Reading) → r ≡ within_by Whole k (run l ts (start whole_expr)) → Parsed l ts k r
+parsed k l ts r e = rw e (go (run l ts (start whole_expr)) refl)
   where
-    go : (o : Option Raw) → run l ts (start top) ≡ o → Parsed l ts k (within_by Whole k o)
+    go : (o : Option Raw) → run l ts (start whole_expr) ≡ o → Parsed l ts k (within_by Whole k o)
     go None f = λ v s. refused f v s
     go (Some v) f = judge (nat_le (raw_nest_of v) k) refl
       where
@@ -255,10 +255,10 @@ parsed k l ts r e = rw e (go (run l ts (start top)) refl)
         judge true c = (runs_spells f, leb-true _ _ c)
         judge false c = (v, (runs_spells f, leb-false _ _ c))
 
-pub parsed_pattern : (k : ℕ) (l : Language) (ts : List Token) (r : Reading) → r ≡ within_by Predicates k (run l ts (start top)) → ParsedAsPattern l ts k r
-parsed_pattern k l ts r e = rw e (go (run l ts (start top)) refl)
+pub parsed_pattern : (k : ℕ) (l : Language) (ts : List Token) (r : Reading) → r ≡ within_by Predicates k (run l ts (start whole_expr)) → ParsedAsPattern l ts k r
+parsed_pattern k l ts r e = rw e (go (run l ts (start whole_expr)) refl)
   where
-    go : (o : Option Raw) → run l ts (start top) ≡ o → ParsedAsPattern l ts k (within_by Predicates k o)
+    go : (o : Option Raw) → run l ts (start whole_expr) ≡ o → ParsedAsPattern l ts k (within_by Predicates k o)
     go None f = λ v s. refused f v s
     go (Some v) f = judge (nat_le (predicate_nest_of v) k) refl
       where
@@ -266,10 +266,10 @@ parsed_pattern k l ts r e = rw e (go (run l ts (start top)) refl)
         judge true c = (runs_spells f, leb-true _ _ c)
         judge false c = (v, (runs_spells f, leb-false _ _ c))
 
-pub parsed_type : (k : ℕ) (l : Language) (ts : List Token) (r : Reading) → r ≡ within_by Whole k (run l ts (start type_top)) → ParsedType l ts k r
-parsed_type k l ts r e = rw e (go (run l ts (start type_top)) refl)
+pub parsed_type : (k : ℕ) (l : Language) (ts : List Token) (r : Reading) → r ≡ within_by Whole k (run l ts (start whole_sequence_type)) → ParsedType l ts k r
+parsed_type k l ts r e = rw e (go (run l ts (start whole_sequence_type)) refl)
   where
-    go : (o : Option Raw) → run l ts (start type_top) ≡ o → ParsedType l ts k (within_by Whole k o)
+    go : (o : Option Raw) → run l ts (start whole_sequence_type) ≡ o → ParsedType l ts k (within_by Whole k o)
     go None f = λ v s. refused_type f v s
     go (Some v) f = judge (nat_le (raw_nest_of v) k) refl
       where

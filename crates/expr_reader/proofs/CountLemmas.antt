@@ -3,14 +3,14 @@ use Rattle.std.proofs.Common.{◌≡◌, ℕ, zero, suc, ◌+◌, ◌-◌, max, 
 use Rattle.expr_terms.specs.declared.raws.Raw.{Raw}
 use Rattle.expr_terms.specs.declared.raws.Raw.TheVariants.{Leaf as leaf, Node as node, outs-Leaf}
 use Rattle.expr_terms.specs.declared.raws.Raw.TheFolds.{map-Raw}
-use Rattle.expr_terms.specs.declared.tokens.Token.{Token}
-use Rattle.expr_reader.specs.Terms.{Class, key, Symbol, tok, one, maybe, many, tail, step, step_more, Production, chain, steps, root_steps, rooted_deep}
-use Rattle.expr_terms.specs.declared.keys.Key.TheVariants.{Slashes as slashes}
+use Rattle.expr_keys.specs.declared.tokens.Token.{Token}
+use Rattle.expr_reader.specs.Terms.{Class, key, Symbol, tok, one, maybe, many, tail, step_expr, step_more, Production, operator_chain, steps, root_steps, rooted_deep}
+use Rattle.expr_keys.specs.declared.keys.Key.TheVariants.{Slashes as slashes}
 use Rattle.expr_terms.specs.Productions.{body, keeps, repeats}
 use Rattle.expr_terms.specs.Raws.{keep}
 use Rattle.expr_terms.specs.Nest.{Mark, plain, deep, last, Levels, levels_of, levels_step, mark_of, is_left, is_arms, with_part, left_part, arm_part}
-use Rattle.expr_nest.specs.Held.{held}
-use Rattle.expr_nest.proofs.Levels.{levels-out, levels-node, held-append}
+use Rattle.expr_grammar.specs.ExprNest.Held.{held}
+use Rattle.expr_grammar.proofs.ExprNest.Levels.{levels-out, levels-node, held-append}
 use Rattle.expr_reader.specs.Counts.{is_deep, is_last}
 
 pub mark-leaf : (t : Token) → (levels_of (leaf t)).mark ≡ plain
@@ -70,14 +70,14 @@ wrong e = cc
 
 -- what a production whose parts nest to the left wants is no token that is kept
 not_left : (p : Production) (n : ℕ) (c : Class) (ss : List Symbol) → drop n (body p) ≡ tok c ∷ ss → keeps c ≡ true → is_left p ≡ false
-not_left (chain l) zero c ss e k = absurd cc
-not_left (chain l) (suc zero) c ss e k = go (repeats l) e
+not_left (operator_chain l) zero c ss e k = absurd cc
+not_left (operator_chain l) (suc zero) c ss e k = go (repeats l) e
   where
-    go : (b : Bool) → cond b (many (tail l)) (maybe (tail l)) ∷ [] ≡ tok c ∷ ss → is_left (chain l) ≡ false
+    go : (b : Bool) → cond b (many (tail l)) (maybe (tail l)) ∷ [] ≡ tok c ∷ ss → is_left (operator_chain l) ≡ false
     go true e = absurd cc
     go false e = absurd cc
-not_left (chain l) (suc (suc zero)) c ss e k = absurd cc
-not_left (chain l) (suc (suc (suc n))) c ss e k = absurd cc
+not_left (operator_chain l) (suc (suc zero)) c ss e k = absurd cc
+not_left (operator_chain l) (suc (suc (suc n))) c ss e k = absurd cc
 not_left steps zero c ss e k = absurd cc
 not_left steps (suc zero) c ss e k = absurd cc
 not_left steps (suc (suc zero)) c ss e k = absurd cc
@@ -90,7 +90,7 @@ not_left rooted_deep zero c ss e k =
     let s : key slashes ≡ c = same e in
     wrong (subst (λ x. keeps x ≡ true) (sym s) k)
   where
-    same : tok (key slashes) ∷ one step ∷ many step_more ∷ [] ≡ tok c ∷ ss → key slashes ≡ c
+    same : tok (key slashes) ∷ one step_expr ∷ many step_more ∷ [] ≡ tok c ∷ ss → key slashes ≡ c
     same e = cc
 not_left rooted_deep (suc zero) c ss e k = absurd cc
 not_left rooted_deep (suc (suc zero)) c ss e k = absurd cc

@@ -5,7 +5,8 @@ use Rattle.expr_reader.specs.Terms.{Language, Nonterminal, Symbol, tok, one, may
 use Rattle.expr_reader.specs.RawNames.{Raw}
 use Rattle.expr_terms.specs.declared.choices.Second.{Second}
 use Rattle.expr_terms.specs.Choices.{second_of, choose}
-use Rattle.expr_terms.specs.Productions.{fits, body, speaks, begins}
+use Rattle.expr_keys.specs.Classes.{fits, begins}
+use Rattle.expr_terms.specs.Productions.{body, speaks}
 use Rattle.expr_terms.specs.Raws.{keep, build}
 use Rattle.expr_grammar.specs.Machine.{Frame, doing, entered, picked, descend, deep, Way, stuck, moved, through, or_else, along, outcome, climb, advance, skips, ended, finish, run}
 use Rattle.expr_reader.specs.Outline.{outline, outlines}

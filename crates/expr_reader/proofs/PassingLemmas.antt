@@ -1,14 +1,15 @@
 -- Values that pass through open productions.
 use Rattle.std.proofs.Common.{◌≡◌, ℕ, zero, suc, ◌<◌, ◌-◌, Bool, true, false, cond, if◌then◌else◌, List, [], ◌∷◌, ◌++◌, Option, Some, None, drop, take, length, get_or, ◌≤◌, refl, sym, ap, ◌∙◌, arith}
 use Rattle.expr_reader.specs.TokenNames.{Token}
-use Rattle.expr_reader.specs.Terms.{Language, Level, Nonterminal, comma_item, predicate, step_more, tail, Class, key, Symbol, tok, maybe, many, Production, top, type_top, listing, item_after, plain, following_clause, bind_after, let_after, quant_after, spec_after, directed, chain, unsigned, rooted, unrooted, steps, filter_step, predicated, name_tested, kind_tested, pi_named, kind_named, directly, items_type, marked, kind_item, atomic_item, part_chars, item_chars, operated, step_after, deep_after}
+use Rattle.expr_reader.specs.Terms.{Language, Level, Nonterminal, comma_expr_single, predicate, step_more, tail, Class, key, Symbol, tok, maybe, many, Production, whole_expr, whole_sequence_type, expr_list, next_expr_single, operator_expr, following_clause, next_for_binding, next_let_binding, next_quantified_binding, next_order_spec, order_direction, operator_chain, unsigned, rooted, unrooted, steps, filter_step, predicated, name_tested, kind_tested, pi_named, kind_named, direct_constructor, items_type, occurrence_mark, kind_item, atomic_item, part_chars, item_chars, operator_tail, step_after, deep_after}
 use Rattle.expr_reader.specs.RawNames.{Raw}
-use Rattle.expr_terms.specs.declared.keys.Key.TheVariants.{Comma as comma, OpenBracket as open_bracket, Slash as slash, Slashes as slashes}
+use Rattle.expr_keys.specs.declared.keys.Key.TheVariants.{Comma as comma, OpenBracket as open_bracket, Slash as slash, Slashes as slashes}
 use Rattle.expr_terms.specs.declared.choices.Second.{Second}
 use Rattle.expr_terms.specs.declared.choices.Starter.{Starter}
-use Rattle.expr_terms.specs.declared.choices.Starter.TheVariants.{Conditional as starts_conditional, Looping as starts_looping, Letting as starts_letting, Quantifying as starts_quantifying, Signing as starts_signing, Slashing as starts_slashing, SlashingDeep as starts_slashing_deep, Axis as starts_axis, At as starts_at, Parent as starts_parent, PlainKind as starts_plain_kind, PiKind as starts_pi_kind, NamedKind as starts_named_kind, Named as starts_named, Wild as starts_wild, Digits as starts_digits, Quoted as starts_quoted, Variable as starts_variable, Paren as starts_paren, Context as starts_context, Call as starts_call, Computed as starts_computed, Constructed as starts_constructed, PiConstructed as starts_pi_constructed, Enclosing as starts_enclosing, ItemType as starts_item_type, EmptyType as starts_empty_type, Outer as starts_outer, Inner as starts_inner, Chars as starts_chars, Enter as starts_enter, FullTag as starts_full_tag, EmptyTag as starts_empty_tag, Nothing as starts_nothing}
+use Rattle.expr_terms.specs.declared.choices.Starter.TheVariants.{Conditional as starts_conditional, Looping as starts_looping, Letting as starts_letting, Quantifying as starts_quantifying, Signing as starts_signing, Slashing as starts_slashing, SlashingDeep as starts_slashing_deep, Axis as starts_axis, At as starts_at, Parent as starts_parent, PlainKind as starts_plain_kind, PiKind as starts_pi_kind, NamedKind as starts_named_kind, Named as starts_named, Wild as starts_wild, Digits as starts_digits, Quoted as starts_quoted, Variable as starts_variable, Paren as starts_paren, Context as starts_context, Call as starts_call, Computed as starts_computed, Constructed as starts_constructed, PiConstructed as starts_pi_constructed, Enclosing as starts_enclosing, ItemType as starts_item_type, EmptyType as starts_empty_type, StartTagOpen as starts_start_tag_open, ChildTagOpen as starts_child_tag_open, Chars as starts_chars, EnclosedOpen as starts_enclosed_open, FullTag as starts_full_tag, EmptyTag as starts_empty_tag, Nothing as starts_nothing}
 use Rattle.expr_terms.specs.Choices.{choose, starter_of, in_more_steps}
-use Rattle.expr_terms.specs.Productions.{fits, body, repeats, speaks, passes}
+use Rattle.expr_keys.specs.Classes.{fits}
+use Rattle.expr_terms.specs.Productions.{body, repeats, speaks, passes}
 use Rattle.expr_terms.specs.Raws.{build}
 use Rattle.expr_grammar.specs.Machine.{Frame, doing, entered, picked, descend, deep, through, along, advance}
 use Rattle.expr_reader.specs.View.{frame_of, frames_of, with_value}
@@ -38,11 +39,11 @@ never_picked go l t fs p c ss e f = at (speaks l p)
 refused : (l : Language) (n : Nonterminal) (t : Token) (s : Second) (fs : List Frame) (p : Production) (c : Class) (ss : List Symbol) → choose n t s ≡ Some p → body p ≡ tok c ∷ ss → fits c t ≡ false → descend l deep n t s fs ≡ None
 refused l n t s fs p c ss h e f = descend-more deep l n t s fs some_depth ∙ ap (λ o. picked (λ m gs. descend l (deep - 1) m t s gs) l t fs o) h ∙ never_picked (λ m gs. descend l (deep - 1) m t s gs) l t fs p c ss e f
 
-pub refuses-tail : (v : Level) (t : Token) (c : Class) (ss : List Symbol) → drop 0 (body (operated v)) ≡ tok c ∷ ss → fits c t ≡ false → (l : Language) (s : Second) (fs : List Frame) → descend l deep (tail v) t s fs ≡ None
-refuses-tail v t c ss e f = λ l s fs. refused l (tail v) t s fs (operated v) c ss refl e f
+pub refuses-tail : (v : Level) (t : Token) (c : Class) (ss : List Symbol) → drop 0 (body (operator_tail v)) ≡ tok c ∷ ss → fits c t ≡ false → (l : Language) (s : Second) (fs : List Frame) → descend l deep (tail v) t s fs ≡ None
+refuses-tail v t c ss e f = λ l s fs. refused l (tail v) t s fs (operator_tail v) c ss refl e f
 
-pub refuses-comma : (t : Token) → fits (key comma) t ≡ false → (l : Language) (s : Second) (fs : List Frame) → descend l deep comma_item t s fs ≡ None
-refuses-comma t f = λ l s fs. refused l comma_item t s fs item_after (key comma) _ refl refl f
+pub refuses-comma : (t : Token) → fits (key comma) t ≡ false → (l : Language) (s : Second) (fs : List Frame) → descend l deep comma_expr_single t s fs ≡ None
+refuses-comma t f = λ l s fs. refused l comma_expr_single t s fs next_expr_single (key comma) _ refl refl f
 
 pub refuses-predicate : (t : Token) → fits (key open_bracket) t ≡ false → (l : Language) (s : Second) (fs : List Frame) → descend l deep predicate t s fs ≡ None
 refuses-predicate t f = λ l s fs. refused l predicate t s fs predicated (key open_bracket) _ refl refl f
@@ -75,10 +76,10 @@ more_refused go l t fs starts_pi_constructed f g = never_picked go l t fs deep_a
 more_refused go l t fs starts_enclosing f g = never_picked go l t fs deep_after (key slashes) _ refl g
 more_refused go l t fs starts_item_type f g = never_picked go l t fs deep_after (key slashes) _ refl g
 more_refused go l t fs starts_empty_type f g = never_picked go l t fs deep_after (key slashes) _ refl g
-more_refused go l t fs starts_outer f g = never_picked go l t fs deep_after (key slashes) _ refl g
-more_refused go l t fs starts_inner f g = never_picked go l t fs deep_after (key slashes) _ refl g
+more_refused go l t fs starts_start_tag_open f g = never_picked go l t fs deep_after (key slashes) _ refl g
+more_refused go l t fs starts_child_tag_open f g = never_picked go l t fs deep_after (key slashes) _ refl g
 more_refused go l t fs starts_chars f g = never_picked go l t fs deep_after (key slashes) _ refl g
-more_refused go l t fs starts_enter f g = never_picked go l t fs deep_after (key slashes) _ refl g
+more_refused go l t fs starts_enclosed_open f g = never_picked go l t fs deep_after (key slashes) _ refl g
 more_refused go l t fs starts_full_tag f g = never_picked go l t fs deep_after (key slashes) _ refl g
 more_refused go l t fs starts_empty_tag f g = never_picked go l t fs deep_after (key slashes) _ refl g
 more_refused go l t fs starts_nothing f g = never_picked go l t fs deep_after (key slashes) _ refl g
@@ -102,18 +103,18 @@ pub ruleset stops = (stops-none, stops-maybe, stops-many)
 
 -- a production that adds nothing to its only part
 build-passes : (p : Production) (v : Raw) → passes p ≡ true → build p (v ∷ []) ≡ v
-build-passes top v e = refl
-build-passes type_top v e = refl
-build-passes listing v e = refl
-build-passes item_after v e = refl
-build-passes plain v e = refl
+build-passes whole_expr v e = refl
+build-passes whole_sequence_type v e = refl
+build-passes expr_list v e = refl
+build-passes next_expr_single v e = refl
+build-passes operator_expr v e = refl
 build-passes following_clause v e = refl
-build-passes bind_after v e = refl
-build-passes let_after v e = refl
-build-passes quant_after v e = refl
-build-passes spec_after v e = refl
-build-passes directed v e = refl
-build-passes (chain l) v e = refl
+build-passes next_for_binding v e = refl
+build-passes next_let_binding v e = refl
+build-passes next_quantified_binding v e = refl
+build-passes next_order_spec v e = refl
+build-passes order_direction v e = refl
+build-passes (operator_chain l) v e = refl
 build-passes unsigned v e = refl
 build-passes rooted v e = refl
 build-passes unrooted v e = refl
@@ -124,9 +125,9 @@ build-passes name_tested v e = refl
 build-passes kind_tested v e = refl
 build-passes pi_named v e = refl
 build-passes kind_named v e = refl
-build-passes directly v e = refl
+build-passes direct_constructor v e = refl
 build-passes items_type v e = refl
-build-passes marked v e = refl
+build-passes occurrence_mark v e = refl
 build-passes kind_item v e = refl
 build-passes atomic_item v e = refl
 build-passes part_chars v e = refl
@@ -141,8 +142,8 @@ through_tail true v l t s p vs fs h = stops-many l t s p vs fs _ _ (tail v) refl
 through_tail false v l t s p vs fs h = stops-maybe l t s p vs fs _ _ (tail v) refl refl h
 
 -- .. a level of operators whose operator the token is not
-pub passed_level : (t : Token) (v : Level) (f : Open) → f.production ≡ chain v → f.place ≡ 1 → f.kids.items ≡ [] → ((l : Language) (s : Second) (fs : List Frame) → descend l deep (tail v) t s fs ≡ None) → (l : Language) (s : Second) (u : Raw) (fs : List Frame) → advance l t s (with_value u (frame_of f ∷ fs)) ≡ advance l t s (with_value u fs)
-passed_level t v f p n k h l s u fs = rw (p, n) (passed l t s u fs (chain v) f.kids.items (drop 1 (body (chain v))) k refl (λ i r us gs. through_tail (repeats v) v i t r (chain v) us gs h))
+pub passed_level : (t : Token) (v : Level) (f : Open) → f.production ≡ operator_chain v → f.place ≡ 1 → f.kids.items ≡ [] → ((l : Language) (s : Second) (fs : List Frame) → descend l deep (tail v) t s fs ≡ None) → (l : Language) (s : Second) (u : Raw) (fs : List Frame) → advance l t s (with_value u (frame_of f ∷ fs)) ≡ advance l t s (with_value u fs)
+passed_level t v f p n k h l s u fs = rw (p, n) (passed l t s u fs (operator_chain v) f.kids.items (drop 1 (body (operator_chain v))) k refl (λ i r us gs. through_tail (repeats v) v i t r (operator_chain v) us gs h))
 
 pub ruleset passings = (passed)
 
@@ -154,8 +155,8 @@ pub passed_at : (t : Token) (all : List Open) (n : ℕ) (f : Open) → 0 < n →
 passed_at t all zero f h b e p i = absurd (omega arith)
 passed_at t all (suc n) f h b e p i = λ l s v.
     let one_less : suc n - 1 ≡ n = omega arith in
-    let top : take (suc n) all ≡ take n all ++ f ∷ [] = take-suc all n f (omega arith) ∙ ap (λ x. take n all ++ x ∷ []) (sym (rw one_less at e)) in
-    rw one_less (i l s v ∙ ap (λ x. advance l t s (with_value v (frames_of x))) top ∙ ap (λ x. advance l t s (with_value v x)) (frames_of-append (take n all) f) ∙ p l s v (frames_of (take n all)))
+    let whole_expr : take (suc n) all ≡ take n all ++ f ∷ [] = take-suc all n f (omega arith) ∙ ap (λ x. take n all ++ x ∷ []) (sym (rw one_less at e)) in
+    rw one_less (i l s v ∙ ap (λ x. advance l t s (with_value v (frames_of x))) whole_expr ∙ ap (λ x. advance l t s (with_value v x)) (frames_of-append (take n all) f) ∙ p l s v (frames_of (take n all)))
 
 pub all_left : (t : Token) (all : List Open) (l : Language) (s : Second) (v : Raw) → advance l t s (with_value v (frames_of all)) ≡ advance l t s (with_value v (frames_of (take (length all) all)))
 all_left t all l s v = ap (λ x. advance l t s (with_value v (frames_of x))) (sym (take-length all))

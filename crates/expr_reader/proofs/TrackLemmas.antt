@@ -8,16 +8,16 @@ use Rattle.expr_reader.specs.RawNames.{Raw}
 use Rattle.expr_terms.specs.declared.choices.Second.{Second}
 use Rattle.expr_terms.specs.Choices.{second_of}
 use Rattle.expr_terms.specs.Nest.{raw_nest_of}
-use Rattle.expr_nest.specs.declared.measures.Measure.TheVariants.{Whole}
+use Rattle.expr_grammar.specs.declared.expr_nest.measures.Measure.TheVariants.{Whole}
 use Rattle.expr_grammar.specs.Machine.{Frame, advance, finish, run}
 use Rattle.expr_reader.specs.declared.readings.Reading.{Reading}
-use Rattle.expr_reader.specs.declared.running.Reader.{Reader}
+use Rattle.expr_reader.specs.declared.running.ExprParser.{ExprParser}
 use Rattle.expr_reader.specs.Outline.{outline, outlines}
 use Rattle.expr_reader.specs.Answers.{within, Advanced, Finished}
 use Rattle.expr_reader.specs.View.{frames_of}
 use Rattle.expr_reader.specs.Tracks.{Follows, Tracks, Led}
 use Rattle.expr_reader.proofs.Outline.{advance-outline, finish-outline}
-use Rattle.expr_reader.proofs.ClimbLemmas.{reads_end, value_whole}
+use Rattle.expr_reader.proofs.ClimbLemmas.{reads_end, value_whole, none_outlined}
 
 wrong : {P : Type 0} → true ≡ false → P
 wrong e = cc
@@ -36,10 +36,6 @@ record Found (k : ℕ) (l : Language) (deep : Bool) (new : List Frame) (o : Opti
 
 some_same : {x y : List Frame} → Some x ≡ Some y → x ≡ y
 some_same e = cc
-
-none_outlined : (o : Option (List Frame)) → outlines o ≡ None → o ≡ None
-none_outlined None e = refl
-none_outlined (Some fs) e = absurd cc
 
 found_at : (k : ℕ) (l : Language) (was deep : Bool) (t : Token) (s : Second)
     (now new fs : List Frame) (ts : List Token) (o : Option (List Frame)) → second_of ts ≡ s
@@ -80,7 +76,7 @@ found_at k l was deep t s now new fs ts (Some gs) e a f g =
     sinks false a f d w r =
         a.sinks refl d ts w e (subst (λ z. run l (t ∷ ts) z ≡ Some w) (f.exact refl) (along w r))
 
-pub follows_next : (went : Bool) (old new : Reader) (t : Token) (s : Second) (fs : List Frame)
+pub follows_next : (went : Bool) (old new : ExprParser) (t : Token) (s : Second) (fs : List Frame)
     (ts : List Token) → new.limit ≡ old.limit → new.language ≡ old.language → second_of ts ≡ s
     → Advanced went Whole old.limit old.is_deep new.is_deep old.language t s
     (frames_of old.frames.items)
@@ -113,7 +109,7 @@ follows_end k l deep now fs x f e =
       sinks = f.sinks;
     }) refl e)
 
-pub finish_follows : {E : Type 0} (self : Reader) (x : Result Reading E)
+pub finish_follows : {E : Type 0} (self : ExprParser) (x : Result Reading E)
     → IfOk x (λ y. Finished y Whole self.limit self.is_deep (frames_of self.frames.items))
     → IfOk x (λ y. (fs : List Frame) → Tracks self fs [] → y ≡ within self.limit (finish fs))
 finish_follows self (Ok y) e =

@@ -2,7 +2,7 @@
 use Rattle.std.proofs.Common.{◌≡◌, ◌≢◌, ℕ, suc, ◌<◌, ◌+◌, ◌-◌, List, [], ◌∷◌, ◌++◌, refl, arith, append-nil, zero, Option, Some, None, drop}
 use Rattle.expr_reader.specs.declared.frames.Frame.{Frame}
 use Rattle.expr_reader.specs.TokenNames.{Token}
-use Rattle.expr_reader.specs.Terms.{Language, xpath, xquery, Level, Nonterminal, Production, chain}
+use Rattle.expr_reader.specs.Terms.{Language, xpath, xquery, Level, Nonterminal, Production, operator_chain}
 use Rattle.expr_terms.specs.Productions.{body, below}
 use Rattle.expr_terms.specs.declared.choices.Second.{Second}
 use Rattle.expr_terms.specs.Choices.{choose, then_one}
@@ -29,7 +29,7 @@ frames_of-some [] h e = h refl
 frames_of-some (f ∷ fs) h e = frames_on-some (frame_of f ∷ []) fs (λ n. absurd cc) e
 
 -- the front of a level of operators, where an operand begins
-pub level_front : (go : Nonterminal → List machine.Frame → Option (List machine.Frame)) (l : Language) (t : Token) (fs : List machine.Frame) (v : Level) (o : Option Production) (p : Production) → then_one o (chain v) ≡ Some p → machine.picked go l t fs (then_one o (chain v)) ≡ go (below v) (machine.doing (chain v) [] (drop 1 (body (chain v))) ∷ fs)
+pub level_front : (go : Nonterminal → List machine.Frame → Option (List machine.Frame)) (l : Language) (t : Token) (fs : List machine.Frame) (v : Level) (o : Option Production) (p : Production) → then_one o (operator_chain v) ≡ Some p → machine.picked go l t fs (then_one o (operator_chain v)) ≡ go (below v) (machine.doing (operator_chain v) [] (drop 1 (body (operator_chain v))) ∷ fs)
 level_front go l t fs v None p e = absurd cc
 level_front go xpath t fs v (Some q) p e = refl
 level_front go xquery t fs v (Some q) p e = refl

@@ -1,12 +1,12 @@
 -- What the answers of the reader say of the tokens.
 use Rattle.std.specs.Prelude.{◌≡◌, ◌≤◌, ◌<◌, ℕ, nat_le, Bool, true, false, List, Option, Some, None, is_some, if◌then◌else◌}
-use Rattle.expr_terms.specs.declared.tokens.Token.{Token}
+use Rattle.expr_keys.specs.declared.tokens.Token.{Token}
 use Rattle.expr_terms.specs.declared.raws.Raw.{Raw}
 use Rattle.expr_terms.specs.declared.choices.Second.{Second}
-use Rattle.expr_terms.specs.declared.productions.Language.{Language}
+use Rattle.expr_keys.specs.declared.productions.Language.{Language}
 use Rattle.expr_terms.specs.Nest.{raw_nest_of}
-use Rattle.expr_nest.specs.declared.measures.Measure.{Measure}
-use Rattle.expr_nest.specs.Measures.{nest_by, predicate_nest_of}
+use Rattle.expr_grammar.specs.declared.expr_nest.measures.Measure.{Measure}
+use Rattle.expr_grammar.specs.ExprNest.Measures.{nest_by, predicate_nest_of}
 use Rattle.expr_grammar.specs.Grammar.{Spells, SpellsType}
 use Rattle.expr_grammar.specs.Machine.{Frame, advance, finish}
 use Rattle.expr_reader.specs.declared.readings.Reading.{Reading}

@@ -1,8 +1,8 @@
 -- How a part counts with those before it.
 use Rattle.std.specs.Prelude.{◌≡◌, ℕ, min, Bool, true, false}
 use Rattle.expr_terms.specs.Nest.{Mark, deep, last}
-use Rattle.expr_nest.specs.declared.measures.Measure.{Measure}
-use Rattle.expr_nest.specs.declared.measures.Measure.TheVariants.{Whole, Predicates}
+use Rattle.expr_grammar.specs.declared.expr_nest.measures.Measure.{Measure}
+use Rattle.expr_grammar.specs.declared.expr_nest.measures.Measure.TheVariants.{Whole, Predicates}
 
 abbrev pub is_deep : Mark → Bool
 is_deep deep = true

@@ -1,13 +1,13 @@
 -- The productions that are open, without what they have.
 use Rattle.std.specs.Prelude.{ℕ, ◌<◌, List, [], ◌∷◌, Option, Some, None}
-use Rattle.expr_terms.specs.declared.tokens.Token.{Token}
+use Rattle.expr_keys.specs.declared.tokens.Token.{Token}
 use Rattle.expr_terms.specs.declared.raws.Raw.{Raw}
 use Rattle.expr_terms.specs.declared.choices.Second.{Second}
-use Rattle.expr_terms.specs.declared.productions.Language.{Language}
+use Rattle.expr_keys.specs.declared.productions.Language.{Language}
 use Rattle.expr_grammar.specs.Machine.{Frame, doing, run}
 use Rattle.expr_terms.specs.Choices.{second_of}
-use Rattle.expr_nest.specs.declared.measures.Measure.{Measure}
-use Rattle.expr_nest.specs.Measures.{held_by, nest_by}
+use Rattle.expr_grammar.specs.declared.expr_nest.measures.Measure.{Measure}
+use Rattle.expr_grammar.specs.ExprNest.Measures.{held_by, nest_by}
 use Rattle.std.specs.Prelude.{◌≡◌}
 
 abbrev pub outline : List Frame → List Frame

@@ -3,14 +3,14 @@ ghost use Rattle.std.specs.Prelude.{◌≡◌, ◌≤◌, is_some};
 ghost use Rattle.expr_terms.specs.declared.raws.Raw.TheViews.{out-Raw};
 ghost use Rattle.expr_terms.specs.Nest.{levels_of, before_parts, is_left_level, is_left, is_arms, left_part, arm_part, with_part, whole_nest};
 ghost use Rattle.expr_terms.specs.Raws.{as_chain, only_chain, as_inner_chain, only_inner};
-ghost use Rattle.expr_nest.specs.Held.{is_alone, built_nest};
-ghost use Rattle.expr_nest.specs.Measures.{is_step, is_unions, is_outside, counted, built_within};
+ghost use Rattle.expr_grammar.specs.ExprNest.Held.{is_alone, built_nest};
+ghost use Rattle.expr_grammar.specs.ExprNest.Measures.{is_step, is_unions, is_outside, counted, built_within};
 ghost use Rattle.expr_reader.specs.Counts.{is_deep, is_last, chosen};
 
-use expr_nest::Measure;
+use expr_grammar::expr_nest::Measure;
 use expr_terms::{Level, Production, Raw, passes};
 
-/// The levels before any part: behind the root stands a step, behind `//` at the front one more.
+/// The levels before any part: after the root stands a step, behind `//` at the front one more.
 pub fn before_parts(production: Production) -> u32
     ensures count { result ≡ before_parts production }
     ensures small { result ≤ 2 }
@@ -26,8 +26,8 @@ fn is_left_level(level: Level) -> bool
     ensures { result ≡ is_left_level level }
 {
     match level {
-        Level::Ors => false,
-        Level::Ands => false,
+        Level::Or => false,
+        Level::And => false,
         _ => true,
     }
 }
@@ -37,7 +37,7 @@ fn is_left(production: Production) -> bool
     ensures { result ≡ is_left production }
 {
     match production {
-        Production::Chain(level) => is_left_level(level),
+        Production::OperatorChain(level) => is_left_level(level),
         Production::Steps => true,
         Production::RootSteps => true,
         Production::RootedDeep => true,
@@ -50,8 +50,8 @@ fn is_arms(production: Production) -> bool
     ensures { result ≡ is_arms production }
 {
     match production {
-        Production::Conditional => true,
-        Production::Otherwise => true,
+        Production::IfExpr => true,
+        Production::ElseExpr => true,
         _ => false,
     }
 }
@@ -78,7 +78,7 @@ fn is_last(part: &Raw) -> bool
     match part {
         Raw::Leaf(_) => false,
         Raw::Node(production, _) => match production {
-            Production::Otherwise => true,
+            Production::ElseExpr => true,
             _ => false,
         },
     }
@@ -134,12 +134,12 @@ fn whole_nest(production: Production, nest: u32) -> u32
     ensures small { result ≤ 70002 }
 {
     match production {
-        Production::Listing => 1 + nest,
-        Production::Conditional => 1 + nest,
-        Production::Otherwise => 1 + nest,
-        Production::Flwor => 1 + nest,
-        Production::Quantified => 1 + nest,
-        Production::Chain(level) => { if is_left_level(level) { nest } else { 1 + nest } }
+        Production::ExprList => 1 + nest,
+        Production::IfExpr => 1 + nest,
+        Production::ElseExpr => 1 + nest,
+        Production::FlworExpr => 1 + nest,
+        Production::QuantifiedExpr => 1 + nest,
+        Production::OperatorChain(level) => { if is_left_level(level) { nest } else { 1 + nest } }
         Production::Signed => 1 + nest,
         Production::Rooted => nest.max(1),
         Production::AxisStep => 1 + nest,
@@ -157,8 +157,8 @@ fn whole_nest(production: Production, nest: u32) -> u32
         Production::Constructed => 1 + nest.max(1),
         Production::PiConstructed => 1 + nest.max(1),
         Production::Enclosing => 1 + nest,
-        Production::Element => 1 + nest,
-        Production::Child => 1 + nest,
+        Production::DirectElement => 1 + nest,
+        Production::ChildElement => 1 + nest,
         _ => nest,
     }
 }
@@ -169,7 +169,7 @@ fn is_conditional(part: &Raw) -> bool
     match part {
         Raw::Leaf(_) => false,
         Raw::Node(production, _) => match production {
-            Production::Conditional => true,
+            Production::IfExpr => true,
             _ => false,
         },
     }
@@ -192,7 +192,7 @@ fn is_inner(part: &Raw) -> bool
     match part {
         Raw::Leaf(_) => false,
         Raw::Node(production, parts) => match production {
-            Production::Conditional => true,
+            Production::IfExpr => true,
             Production::Parens => is_only_conditional(parts.as_slice()),
             _ => false,
         },
@@ -228,8 +228,8 @@ pub fn built_nest(production: Production, nest: u32, parts: &[Raw]) -> u32
 {
     match production {
         Production::Parens => nest.max(1),
-        Production::Otherwise => { if is_only_inner(parts) { nest } else { 1 + nest } }
-        Production::Conditional => 1 + nest,
+        Production::ElseExpr => { if is_only_inner(parts) { nest } else { 1 + nest } }
+        Production::IfExpr => 1 + nest,
         _ => {
             if is_alone(parts) && passes(production) {
                 nest
@@ -255,7 +255,7 @@ fn is_unions(level: Level) -> bool
     ensures { result ≡ is_unions level }
 {
     match level {
-        Level::Unions => true,
+        Level::Union => true,
         _ => false,
     }
 }
@@ -265,8 +265,8 @@ fn is_outside(production: Production) -> bool
     ensures { result ≡ is_outside production }
 {
     match production {
-        Production::Chain(level) => is_unions(level),
-        Production::Operated(_) => true,
+        Production::OperatorChain(level) => is_unions(level),
+        Production::OperatorTail(_) => true,
         Production::Rooted => true,
         Production::RootedDeep => true,
         Production::RootSteps => true,

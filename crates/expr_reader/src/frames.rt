@@ -1,7 +1,7 @@
 // The productions that are open, as the reader holds them, and what has been read.
 ghost use Rattle.std.specs.Prelude.{◌≤◌};
-ghost use Rattle.expr_nest.specs.Held.{held};
-ghost use Rattle.expr_nest.specs.Measures.{widest, predicate_nest_of};
+ghost use Rattle.expr_grammar.specs.ExprNest.Held.{held};
+ghost use Rattle.expr_grammar.specs.ExprNest.Measures.{widest, predicate_nest_of};
 ghost use Rattle.expr_terms.specs.Nest.{raw_nest_of};
 ghost use Rattle.expr_reader.specs.Counts.{SameCount};
 

@@ -2,7 +2,7 @@
 ghost use Rattle.std.specs.Prelude.{◌≡◌, ◌∷◌, Some, IfOk};
 ghost use Rattle.expr_terms.specs.Choices.{starter_of, pick, choose};
 ghost use Rattle.expr_terms.specs.Productions.{below};
-ghost use Rattle.expr_terms.specs.declared.productions.Nonterminal.TheVariants.{Level as at_level};
+ghost use Rattle.expr_keys.specs.declared.productions.Nonterminal.TheVariants.{Level as at_level};
 ghost use Rattle.expr_grammar.specs.Machine.{descend, deep};
 ghost use Rattle.expr_reader.specs.View.{frame_of, frames_of, Entered, Fronted, Opened, Tried};
 
@@ -26,34 +26,34 @@ fn chosen(nonterminal: Nonterminal, token: &Token, starter: Starter) -> Option<P
     ensures { (s : Second) → starter ≡ starter_of token.now s → result ≡ choose nonterminal token.now s }
 {
     match nonterminal {
-        Nonterminal::OrderPart => {
+        Nonterminal::OrderByClause => {
             if fits_key(Key::StableWord, token) {
-                Some(Production::Stable)
+                Some(Production::StableOrderBy)
             } else {
-                Some(Production::Ordered)
+                Some(Production::OrderBy)
             }
         }
         _ => pick(nonterminal, starter),
     }
 }
 
-/// What stands at the front of a level of operators: the level that binds next more tightly.
+/// What is at the front of a level of operators: the level that binds next more tightly.
 fn tighter(level: Level) -> Nonterminal
     ensures { result ≡ below level }
 {
     match level {
-        Level::Ors => Nonterminal::Level(Level::Ands),
-        Level::Ands => Nonterminal::Level(Level::Compares),
-        Level::Compares => Nonterminal::Level(Level::Ranges),
-        Level::Ranges => Nonterminal::Level(Level::Adds),
-        Level::Adds => Nonterminal::Level(Level::Multiplies),
-        Level::Multiplies => Nonterminal::Level(Level::Unions),
-        Level::Unions => Nonterminal::Level(Level::Crosses),
-        Level::Crosses => Nonterminal::Level(Level::Instances),
-        Level::Instances => Nonterminal::Level(Level::Treats),
-        Level::Treats => Nonterminal::Level(Level::Castables),
-        Level::Castables => Nonterminal::Level(Level::Casts),
-        Level::Casts => Nonterminal::Unary,
+        Level::Or => Nonterminal::Level(Level::And),
+        Level::And => Nonterminal::Level(Level::Comparison),
+        Level::Comparison => Nonterminal::Level(Level::Range),
+        Level::Range => Nonterminal::Level(Level::Additive),
+        Level::Additive => Nonterminal::Level(Level::Multiplicative),
+        Level::Multiplicative => Nonterminal::Level(Level::Union),
+        Level::Union => Nonterminal::Level(Level::Intersect),
+        Level::Intersect => Nonterminal::Level(Level::InstanceOf),
+        Level::InstanceOf => Nonterminal::Level(Level::Treat),
+        Level::Treat => Nonterminal::Level(Level::Castable),
+        Level::Castable => Nonterminal::Level(Level::Cast),
+        Level::Cast => Nonterminal::UnaryExpr,
     }
 }
 
@@ -71,7 +71,7 @@ fn open_level(
     match pick(Nonterminal::Level(level), starter) {
         None => Ok(Front::Absent),
         Some(_) => {
-            let frame = opened(alloc, Production::Chain(level), 1);
+            let frame = opened(alloc, Production::OperatorChain(level), 1);
             frames.push(frame)?;
             Ok(Front::Below(tighter(level)))
         }
@@ -166,7 +166,7 @@ fn descend(
     }
 }
 
-/// How many nonterminals may stand at the front of one another.
+/// How many nonterminals may be at the front of one another.
 fn deep() -> u8
     ensures { result ≡ deep }
 {

@@ -12,7 +12,7 @@
 
 ghost use Rattle.std.specs.Prelude.{◌≡◌, IfOk};
 ghost use Rattle.expr_grammar.specs.Machine.{run, start, read_whole, read_type};
-ghost use Rattle.expr_nest.specs.declared.measures.Measure.TheVariants.{Predicates};
+ghost use Rattle.expr_grammar.specs.declared.expr_nest.measures.Measure.TheVariants.{Predicates};
 ghost use Rattle.expr_reader.specs.Answers.{within, within_by, Parsed, ParsedAsPattern, ParsedType};
 
 mod counts;
@@ -24,11 +24,11 @@ mod readings;
 mod running;
 mod steps;
 
-use expr_nest::Measure;
+use expr_grammar::expr_nest::Measure;
 use expr_terms::{Language, Production, Token, second_of};
 pub use frames::Frame;
 pub use readings::Reading;
-pub use running::Reader;
+pub use running::ExprParser;
 use std::alloc::{AllocError, Global};
 
 /// What the tokens lead to from the production alone.
@@ -78,7 +78,7 @@ pub fn parse(
     read(
         alloc,
         language,
-        Production::Top,
+        Production::WholeExpr,
         tokens,
         Measure::Whole,
         limit,
@@ -102,7 +102,7 @@ pub fn parse_as_pattern(
     read(
         alloc,
         language,
-        Production::Top,
+        Production::WholeExpr,
         tokens,
         Measure::Predicates,
         limit,
@@ -123,7 +123,7 @@ pub fn parse_type(
     read(
         alloc,
         language,
-        Production::TypeTop,
+        Production::WholeSequenceType,
         tokens,
         Measure::Whole,
         limit,

@@ -8,7 +8,7 @@ ghost use Rattle.expr_reader.specs.View.{frame_of, frames_of, Wanted, Given, Tak
 
 use crate::counts::{before_parts, built_nest, built_within, counted, is_alone, with_part};
 use crate::frames::{Frame, Value};
-use expr_nest::Measure;
+use expr_grammar::expr_nest::Measure;
 use expr_terms::{Class, Production, Raw, Symbol, Token, body, build, keeps};
 use std::alloc::{AllocError, Global};
 
@@ -17,10 +17,10 @@ const PAST: u32 = 70000;
 
 /// What became of a value.
 #[derive(Clone, Copy)]
-pub enum Gift {
+pub enum Placement {
     /// No production is open that could take it.
     Refused,
-    /// It stands behind the others.
+    /// It comes after the others.
     Kept,
     /// It was dropped, since with it the production nests too deep.
     Dropped,
@@ -85,18 +85,18 @@ fn room(production: Production) -> usize
         | Production::PlainKind
         | Production::ItemChars
         | Production::PartChars => 1,
-        Production::Chain(_)
-        | Production::Operated(_)
+        Production::OperatorChain(_)
+        | Production::OperatorTail(_)
         | Production::Steps
         | Production::RootSteps
         | Production::RootedDeep
         | Production::AxisStep
         | Production::FilterStep
         | Production::Call
-        | Production::Element
-        | Production::Child
-        | Production::Full => 2,
-        Production::Conditional | Production::Bind | Production::LetBind => 3,
+        | Production::DirectElement
+        | Production::ChildElement
+        | Production::ElementContent => 2,
+        Production::IfExpr | Production::ForIn | Production::LetAssign => 3,
         _ => 0,
     }
 }
@@ -166,7 +166,7 @@ fn with_value(
     value: Value,
     measure: Measure,
     limit: u16,
-) -> Result<(Frame, Gift), AllocError>
+) -> Result<(Frame, Placement), AllocError>
     ensures { IfOk result (λ more. Taken more frame value.raw measure limit) }
 {
     let Frame {
@@ -194,7 +194,7 @@ fn with_value(
                 nest,
                 within,
             },
-            Gift::Dropped,
+            Placement::Dropped,
         ));
     }
     let mut kids = kids;
@@ -208,7 +208,7 @@ fn with_value(
             nest: more,
             within: widest,
         },
-        Gift::Kept,
+        Placement::Kept,
     ))
 }
 
@@ -220,21 +220,21 @@ pub fn give(
     measure: Measure,
     limit: u16,
     is_deep: bool,
-) -> Result<Gift, AllocError>
+) -> Result<Placement, AllocError>
     ensures { IfOk result (λ gift. Given gift value.raw measure limit is_deep (frames_of frames.old.items) (frames_of frames.new.items) frames.old.items frames.new.items) }
 {
     if is_deep {
         drop(value);
         return if frames.is_empty() {
-            Ok(Gift::Refused)
+            Ok(Placement::Refused)
         } else {
-            Ok(Gift::Dropped)
+            Ok(Placement::Dropped)
         };
     }
     match frames.pop() {
         None => {
             drop(value);
-            Ok(Gift::Refused)
+            Ok(Placement::Refused)
         }
         Some(frame) => {
             let (frame, gift) = with_value(frame, value, measure, limit)?;

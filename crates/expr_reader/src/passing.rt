@@ -2,9 +2,9 @@
 // are open, one for each level of operators, and most tokens go on with none of them.
 ghost use Rattle.std.specs.Prelude.{◌≡◌, ◌≤◌, ◌∷◌, List, None, drop, take, length, true};
 ghost use Rattle.expr_terms.specs.declared.choices.Second.{Second};
-ghost use Rattle.expr_terms.specs.declared.productions.Language.{Language};
+ghost use Rattle.expr_keys.specs.declared.productions.Language.{Language};
 ghost use Rattle.expr_terms.specs.declared.raws.Raw.{Raw as Value};
-ghost use Rattle.expr_terms.specs.declared.productions.Nonterminal.TheVariants.{Tail as tail};
+ghost use Rattle.expr_keys.specs.declared.productions.Nonterminal.TheVariants.{Tail as tail};
 ghost use Rattle.expr_terms.specs.Productions.{body};
 ghost use Rattle.expr_grammar.specs.Machine.{Frame as Open, descend, deep, along, through, advance};
 ghost use Rattle.expr_reader.specs.View.{frame_of, frames_of, with_value};
@@ -12,7 +12,8 @@ ghost use Rattle.expr_reader.specs.View.{frame_of, frames_of, with_value};
 use crate::frames::Frame;
 use crate::parts::symbol;
 use expr_terms::{
-    Class, Key, Level, Nonterminal, Production, Symbol, Token, fits, fits_key, force, passes, tight,
+    Class, Key, Level, Nonterminal, Production, Symbol, Token, binding_power, fits, fits_key,
+    passes, tight,
 };
 
 /// Whether the token is no operator of the level.
@@ -22,11 +23,11 @@ fn refuses_tail(level: Level, token: &Token) -> bool
         descend l deep (tail level) token.now s fs ≡ None }
 {
     match level {
-        Level::Instances => !fits_key(Key::InstanceWord, token),
-        Level::Treats => !fits_key(Key::TreatWord, token),
-        Level::Castables => !fits_key(Key::CastableWord, token),
-        Level::Casts => !fits_key(Key::CastWord, token),
-        _ => force(token) != tight(level),
+        Level::InstanceOf => !fits_key(Key::InstanceWord, token),
+        Level::Treat => !fits_key(Key::TreatWord, token),
+        Level::Castable => !fits_key(Key::CastableWord, token),
+        Level::Cast => !fits_key(Key::CastWord, token),
+        _ => binding_power(token) != tight(level),
     }
 }
 
@@ -37,7 +38,7 @@ pub fn refuses(nonterminal: Nonterminal, token: &Token) -> bool
 {
     match nonterminal {
         Nonterminal::Tail(level) => refuses_tail(level, token),
-        Nonterminal::CommaItem => !fits(Class::Key(Key::Comma), token),
+        Nonterminal::CommaExprSingle => !fits(Class::Key(Key::Comma), token),
         Nonterminal::Predicate => !fits(Class::Key(Key::OpenBracket), token),
         Nonterminal::StepMore => {
             !fits(Class::Key(Key::Slash), token) && !fits(Class::Key(Key::Slashes), token)
@@ -66,7 +67,7 @@ fn passes_on(frame: &Frame, token: &Token) -> bool
     ensures { result ≡ true → (l : Language) (s : Second) (v : Value) (fs : List Open) → advance l token.now s (with_value v (frame_of frame.now ∷ fs)) ≡ advance l token.now s (with_value v fs) }
 {
     match frame.production {
-        Production::Chain(level) if frame.place == 1 => {
+        Production::OperatorChain(level) if frame.place == 1 => {
             frame.kids.is_empty() && refuses_tail(level, token)
         }
         production => {

@@ -1,11 +1,11 @@
 // An expression read token by token, for those who do not have all of its tokens yet.
 ghost use Rattle.std.specs.Prelude.{◌≡◌, [], ◌∷◌, List, IfOk};
 ghost use Rattle.expr_terms.specs.Choices.{second_of};
-ghost use Rattle.expr_terms.specs.declared.tokens.Token.{Token as Term};
-ghost use Rattle.expr_terms.specs.declared.productions.Production.TheVariants.{Top as top};
-ghost use Rattle.expr_terms.specs.declared.productions.Production.TheVariants.{ItemAfter};
-ghost use Rattle.expr_terms.specs.declared.productions.Nonterminal.TheVariants.{Single};
-ghost use Rattle.expr_terms.specs.declared.productions.Symbol.TheVariants.{One};
+ghost use Rattle.expr_keys.specs.declared.tokens.Token.{Token as Term};
+ghost use Rattle.expr_keys.specs.declared.productions.Production.TheVariants.{WholeExpr as whole_expr};
+ghost use Rattle.expr_keys.specs.declared.productions.Production.TheVariants.{NextExprSingle};
+ghost use Rattle.expr_keys.specs.declared.productions.Nonterminal.TheVariants.{ExprSingle};
+ghost use Rattle.expr_keys.specs.declared.productions.Symbol.TheVariants.{One};
 ghost use Rattle.expr_grammar.specs.Machine.{Frame as Open, doing, start, advance, finish};
 ghost use Rattle.expr_reader.specs.Answers.{within};
 ghost use Rattle.expr_reader.specs.Tracks.{Tracks, Led};
@@ -13,29 +13,29 @@ ghost use Rattle.expr_reader.specs.Tracks.{Tracks, Led};
 use crate::frames::Frame;
 use crate::readings::Reading;
 use crate::{parts, steps};
-use expr_nest::Measure;
+use expr_grammar::expr_nest::Measure;
 use expr_terms::{Language, Production, Second, Token};
 use std::alloc::{AllocError, Global};
 
 /// The reading of an expression, as far as it has come.
 #[derive(Drop)]
-pub struct Reader {
+pub struct ExprParser {
     frames: Vec<Frame>,
     is_deep: bool,
     language: Language,
     limit: u16,
 }
 
-impl Reader {
+impl ExprParser {
     /// Before the first token of an expression.
     #[tactic(auto, using(crate::proofs::TrackLemmas::tracking))]
-    pub fn whole(alloc: Global, language: Language, limit: u16) -> Result<Reader, AllocError>
-        ensures tracks { IfOk result (λ reader. (ts : List Term) → Tracks reader (start top) ts) }
+    pub fn whole(alloc: Global, language: Language, limit: u16) -> Result<ExprParser, AllocError>
+        ensures tracks { IfOk result (λ reader. (ts : List Term) → Tracks reader (start whole_expr) ts) }
         ensures language { IfOk result (λ reader. reader.language ≡ language) }
         ensures limit { IfOk result (λ reader. reader.limit ≡ limit) }
     {
-        let frames = parts::start(alloc, Production::Top)?;
-        Ok(Reader {
+        let frames = parts::start(alloc, Production::WholeExpr)?;
+        Ok(ExprParser {
             frames,
             is_deep: false,
             language,
@@ -45,14 +45,14 @@ impl Reader {
 
     /// Before the first token of a single expression, one without commas outside of brackets.
     #[tactic(auto, using(crate::proofs::TrackLemmas::tracking))]
-    pub fn single(alloc: Global, language: Language, limit: u16) -> Result<Reader, AllocError>
+    pub fn single(alloc: Global, language: Language, limit: u16) -> Result<ExprParser, AllocError>
         ensures tracks { IfOk result (λ reader. (ts : List Term) →
-            Tracks reader (doing ItemAfter [] (One Single ∷ []) ∷ []) ts) }
+            Tracks reader (doing NextExprSingle [] (One ExprSingle ∷ []) ∷ []) ts) }
         ensures language { IfOk result (λ reader. reader.language ≡ language) }
         ensures limit { IfOk result (λ reader. reader.limit ≡ limit) }
     {
-        let frames = parts::start_behind(alloc, Production::ItemAfter)?;
-        Ok(Reader {
+        let frames = parts::start_behind(alloc, Production::NextExprSingle)?;
+        Ok(ExprParser {
             frames,
             is_deep: false,
             language,
@@ -60,7 +60,7 @@ impl Reader {
         })
     }
 
-    /// Takes the next token, with what the tokens behind it tell; false where it cannot go on so,
+    /// Takes the next token, with what the tokens after it tell; false where it cannot go on so,
     /// and then nothing is to be read from here on.
     #[tactic(auto, using(crate::proofs::TrackLemmas::tracking))]
     pub fn advance(
@@ -93,7 +93,7 @@ impl Reader {
         ensures { IfOk result (λ reading. (fs : List Open) → Tracks self fs [] →
             reading ≡ within self.limit (finish fs)) }
     {
-        let Reader {
+        let ExprParser {
             frames,
             is_deep,
             language: _,

@@ -8,22 +8,22 @@ ghost use Rattle.expr_reader.specs.Answers.{Advanced, Judged, Finished};
 use crate::counts::chosen;
 use crate::frames::{Frame, Value};
 use crate::fronts::try_below;
-use crate::parts::{Gift, closed, give, symbol, with_token};
+use crate::parts::{Placement, closed, give, symbol, with_token};
 use crate::passing::{pass_up, refuses};
 use crate::readings::Reading;
-use expr_nest::Measure;
+use expr_grammar::expr_nest::Measure;
 use expr_terms::{Language, Production, Raw, Second, Symbol, Token, begins, fits};
 use std::alloc::{AllocError, Global};
 
 /// How far a token leads into what is wanted.
 #[derive(Drop)]
-pub enum Way {
-    Stuck,
-    Moved,
-    Through(Frame),
+pub enum Progress {
+    Rejected,
+    Consumed,
+    FrameDone(Frame),
 }
 
-/// The frame behind the part that it wants next.
+/// The frame after the part that it wants next.
 fn past(frame: Frame) -> Frame
     requires small { frame.place < 18446744073709551615 }
     ensures frame { frame_of result ≡ doing frame.production frame.kids.items (drop (frame.place + 1) (body frame.production)) }
@@ -57,24 +57,24 @@ fn along(
     language: Language,
     token: &Token,
     second: Second,
-) -> Result<Way, AllocError>
+) -> Result<Progress, AllocError>
     ensures { IfOk result (λ way. Went way (along language token.now second frame.production frame.kids.items (frames_of frames.old.items) (drop frame.place (body frame.production))) frame frames.old.items frames.new.items) }
 {
     match symbol(frame.production, frame.place) {
-        None => Ok(Way::Through(frame)),
+        None => Ok(Progress::FrameDone(frame)),
         Some(Symbol::Tok(class)) => {
             if !fits(class, token) {
                 drop(frame);
-                return Ok(Way::Stuck);
+                return Ok(Progress::Rejected);
             }
             frames.push(with_token(frame, class, token)?)?;
-            Ok(Way::Moved)
+            Ok(Progress::Consumed)
         }
         Some(Symbol::One(inner)) => {
             let frame = past(frame);
             match try_below(alloc, frames, frame, language, inner, token, second)? {
-                None => Ok(Way::Moved),
-                Some(_) => Ok(Way::Stuck),
+                None => Ok(Progress::Consumed),
+                Some(_) => Ok(Progress::Rejected),
             }
         }
         Some(Symbol::Maybe(inner)) => {
@@ -83,7 +83,7 @@ fn along(
                 return along(alloc, frames, frame, language, token, second);
             }
             match try_below(alloc, frames, frame, language, inner, token, second)? {
-                None => Ok(Way::Moved),
+                None => Ok(Progress::Consumed),
                 Some(frame) => along(alloc, frames, frame, language, token, second),
             }
         }
@@ -92,7 +92,7 @@ fn along(
                 return along(alloc, frames, past(frame), language, token, second);
             }
             match try_below(alloc, frames, frame, language, inner, token, second)? {
-                None => Ok(Way::Moved),
+                None => Ok(Progress::Consumed),
                 Some(frame) => {
                     let frame = past(frame);
                     along(alloc, frames, frame, language, token, second)
@@ -103,8 +103,8 @@ fn along(
             let frame = past(frame);
             if begins(inner, token) {
                 match try_below(alloc, frames, frame, language, inner, token, second)? {
-                    None => Ok(Way::Moved),
-                    Some(_) => Ok(Way::Stuck),
+                    None => Ok(Progress::Consumed),
+                    Some(_) => Ok(Progress::Rejected),
                 }
             } else {
                 along(alloc, frames, frame, language, token, second)
@@ -129,15 +129,15 @@ pub fn advance(
 {
     while let Some(frame) = frames.pop() {
         match along(alloc, frames, frame, language, token, second)? {
-            Way::Stuck => return Ok(false),
-            Way::Moved => return Ok(true),
-            Way::Through(done) => {
+            Progress::Rejected => return Ok(false),
+            Progress::Consumed => return Ok(true),
+            Progress::FrameDone(done) => {
                 let value = closed(done)?;
                 pass_up(frames, token);
                 match give(frames, value, measure, limit, *is_deep)? {
-                    Gift::Refused => return Ok(false),
-                    Gift::Kept => {}
-                    Gift::Dropped => *is_deep = true,
+                    Placement::Refused => return Ok(false),
+                    Placement::Kept => {}
+                    Placement::Dropped => *is_deep = true,
                 }
             }
         }
@@ -199,9 +199,9 @@ pub fn finish(
             return Ok(judged(value, measure, limit, deep));
         }
         match give(&mut frames, value, measure, limit, deep)? {
-            Gift::Refused => return Ok(Reading::Nothing),
-            Gift::Kept => {}
-            Gift::Dropped => deep = true,
+            Placement::Refused => return Ok(Reading::Nothing),
+            Placement::Kept => {}
+            Placement::Dropped => deep = true,
         }
     }
     Ok(Reading::Nothing)

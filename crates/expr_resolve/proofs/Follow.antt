@@ -4,19 +4,20 @@ use Rattle.std.proofs.Common.{◌≡◌, ℕ, List, [], ◌∷◌, ◌++◌, ◌
 use Rattle.std.proofs.Math.Dec.{eqb-suc-zero}
 use Rattle.std.proofs.lemmas.List.{drop_all, append-nil, take_all, take_more, map-append, reverse-append, length-map}
 use Rattle.xt_names.specs.declared.codes.Code.{Code}
-use Rattle.expr_terms.specs.declared.productions.Production.{Production}
+use Rattle.expr_keys.specs.declared.productions.Production.{Production}
 use Rattle.expr_terms.specs.declared.raws.Raw.{Raw}
 use Rattle.expr_terms.specs.declared.raws.Raw.TheVariants.{Node as node, outs-Node}
 use Rattle.expr_terms.specs.declared.raws.Raw.TheOpen.{Node}
 use Rattle.expr_terms.specs.declared.raws.Raw.TheFolds.{map-Raw, fold_out-Raw}
 use Rattle.expr_terms.specs.declared.raws.Raw.TheViews.{out-Raw}
-use Rattle.expr_elements.specs.ExprMeant.declared.meant.Meant.{Meant}
-use Rattle.expr_elements.specs.ExprNames.declared.fault.ResolveFault.{ResolveFault}
-use Rattle.expr_elements.specs.ExprNames.declared.fault.ResolveFault.TheVariants.{Static, Memory}
-use Rattle.expr_elements.specs.ExprNames.Answers.{IsFaultOf, Answers}
+use Rattle.expr_primaries.specs.ExprRules.declared.expr_meant.meant.Meant.{Meant}
+use Rattle.expr_primaries.specs.ExprNames.declared.fault.ResolveFault.{ResolveFault}
+use Rattle.expr_primaries.specs.ExprNames.declared.fault.ResolveFault.TheVariants.{Static, Memory}
+use Rattle.expr_primaries.specs.ExprNames.Answers.{IsFaultOf, Answers}
 use Rattle.expr_resolve.specs.declared.setting.Setting.{Setting}
 use Rattle.expr_resolve.specs.Tables.{act, end}
-use Rattle.expr_resolve.specs.Folds.{Found, found_layer, found_of, value_of, broken_of, values, is_none, step_broken, steps_broken, all_broken, parts_broken, parts_values}
+use Rattle.expr_resolve.specs.Folds.{Found, found_layer, found_of, value_of, broken_of, values, step_broken, steps_broken, all_broken, parts_broken, parts_values}
+use Rattle.xt_names.specs.Lists.{is_none}
 
 -- a fault of the first part is one of the whole
 pub fault_first : (f : ResolveFault) (xs ys : List Code) → IsFaultOf f xs → IsFaultOf f (xs ++ ys)
@@ -33,7 +34,7 @@ pub record Made (s : Setting) (p : Production) (xs : List Raw) (made : List Mean
 pub made_first : (s : Setting) (p : Production) (xs : List Raw) (made : List Meant) → made ≡ [] → Made s p xs made 0
 made_first s p xs made e = record { counted = rw e refl; unbroken = rw e refl; meant = rw e refl }
 
--- nothing is left behind the last one
+-- nothing is left after the last one
 none_is_zero : {A : Type 0} (ys : List A) → is_none ys ≡ (length ys == 0)
 none_is_zero [] = refl
 none_is_zero (y ∷ ys) = sym (eqb-suc-zero (length ys))
@@ -46,7 +47,7 @@ none_left s xs i lt =
     let e : length (map (found_of s) (drop (suc i) xs)) ≡ length xs - suc i = length-map (drop (suc i) xs) (found_of s) ∙ length-drop (suc i) xs in
     none_is_zero (map (found_of s) (drop (suc i) xs)) ∙ ap (λ n. n == 0) e ∙ zero_left (length xs) i lt
 
--- what is left is the part, and what comes behind it
+-- what is left is the part, and what comes after it
 left_here : (s : Setting) (p : Production) (xs : List Raw) (made : List Meant) (i : ℕ) (x d : Raw) (last : Bool) → Made s p xs made i → i < length xs → x ≡ get_or xs i d → last ≡ (length made + 1 == length xs) → step_broken s p last made (found_of s x) ++ steps_broken s p (made ++ (found_of s x).value ∷ []) (map (found_of s) (drop (suc i) xs)) ≡ steps_broken s p [] (map (found_of s) xs)
 left_here s p xs made i x d last inv lt is l =
     let at : drop i xs ≡ x ∷ drop (suc i) xs = drop-cons xs i d lt ∙ ap (λ y. y ∷ drop (suc i) xs) (sym is) in

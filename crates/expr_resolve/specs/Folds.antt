@@ -1,19 +1,20 @@
 -- The two folds: what a raw value means, and the rules that it breaks, in reading order.
-use Rattle.std.specs.Prelude.{List, [], ◌∷◌, ◌++◌, map, reverse, Bool, true, false, if◌then◌else◌}
+use Rattle.std.specs.Prelude.{List, [], ◌∷◌, ◌++◌, map, reverse, Bool, if◌then◌else◌}
 use Rattle.xt_names.specs.declared.codes.Code.{Code}
-use Rattle.expr_terms.specs.declared.productions.Production.{Production}
+use Rattle.expr_keys.specs.declared.productions.Production.{Production}
 use Rattle.expr_terms.specs.declared.raws.Raw.{Raw}
 use Rattle.expr_terms.specs.declared.raws.Raw.TheFolds.{fold-Raw}
 use Rattle.expr_terms.specs.declared.raws.Raw.TheOpen.{Raw-F, Leaf, Node}
-use Rattle.expr_elements.specs.ExprMeant.declared.meant.Meant.{Meant}
-use Rattle.expr_elements.specs.ExprMeant.declared.meant.Meant.TheVariants as meant
+use Rattle.expr_primaries.specs.ExprRules.declared.expr_meant.meant.Meant.{Meant}
+use Rattle.expr_primaries.specs.ExprRules.declared.expr_meant.meant.Meant.TheVariants as meant
 use Rattle.expr_control.specs.XtTypes.declared.types.SeqType.{SeqType}
 use Rattle.xt_syntax.specs.declared.exprs.Expr.{Expr}
-use Rattle.expr_elements.specs.ExprMeant.Parts.{expr_of}
-use Rattle.expr_elements.specs.ExprRules.Rules.{type_broken_of}
+use Rattle.expr_primaries.specs.ExprRules.ExprMeant.Parts.{expr_of}
+use Rattle.expr_primaries.specs.ExprRules.Rules.{type_broken_of}
 use Rattle.expr_control.specs.Types.{sequence_of}
 use Rattle.expr_resolve.specs.declared.setting.Setting.{Setting}
 use Rattle.expr_resolve.specs.Tables.{act, own, end, is_chain, is_tag, before_last}
+use Rattle.xt_names.specs.Lists.{is_none}
 
 -- what a part means, and the rules that it breaks
 pub record Found : Type 0 where
@@ -23,18 +24,14 @@ pub record Found : Type 0 where
 abbrev pub values : List Found → List Meant
 values fs = map (λ f. f.value) fs
 
-abbrev pub is_none : {A : Type 0} → List A → Bool
-is_none [] = true
-is_none (x ∷ xs) = false
-
--- a part's own rules stand right behind it
+-- a part's own rules come right after it
 abbrev pub checked : Setting → Production → Bool → Found → List Code
 checked s p first f = f.broken ++ own s p first f.value
 
 abbrev pub step_broken : Setting → Production → Bool → List Meant → Found → List Code
 step_broken s p last seen f = before_last (is_tag p) last seen ++ checked s p (is_none seen) f
 
--- the rules that the parts break behind those that mean `seen`
+-- the rules that the parts break after those that mean `seen`
 abbrev pub steps_broken : Setting → Production → List Meant → List Found → List Code
 steps_broken s p seen [] = []
 steps_broken s p seen (f ∷ fs) = step_broken s p (is_none fs) seen f ++ steps_broken s p (seen ++ f.value ∷ []) fs

@@ -1,13 +1,13 @@
 -- Which family a production is of, and what it means from what its parts mean.
 use Rattle.std.specs.Prelude.{List, [], Bool, true, false}
 use Rattle.xt_names.specs.declared.codes.Code.{Code}
-use Rattle.expr_terms.specs.declared.productions.Production.{Production}
-use Rattle.expr_terms.specs.declared.productions.Production.TheVariants as production
-use Rattle.expr_elements.specs.ExprMeant.declared.meant.Meant.{Meant}
-use Rattle.expr_elements.specs.ExprRules.Rules.{own_broken, end_broken, doubles_broken}
-use Rattle.expr_paths.specs.Table.{path_value}
+use Rattle.expr_keys.specs.declared.productions.Production.{Production}
+use Rattle.expr_keys.specs.declared.productions.Production.TheVariants as production
+use Rattle.expr_primaries.specs.ExprRules.declared.expr_meant.meant.Meant.{Meant}
+use Rattle.expr_primaries.specs.ExprRules.Rules.{own_broken, end_broken, doubles_broken}
+use Rattle.expr_primaries.specs.ExprPaths.Table.{path_value}
 use Rattle.expr_control.specs.Table.{control_value}
-use Rattle.expr_elements.specs.Table.{element_value}
+use Rattle.expr_primaries.specs.ExprElements.Table.{element_value}
 use Rattle.expr_resolve.specs.declared.setting.Setting.{Setting}
 use Rattle.expr_resolve.specs.declared.families.Family.{Family}
 use Rattle.expr_resolve.specs.declared.families.Family.TheVariants.{Paths as paths, Control as control, Elements as elements}
@@ -33,16 +33,16 @@ family_of production.Variable = paths
 family_of production.Parens = paths
 family_of production.Context = paths
 family_of production.Call = paths
-family_of production.Argued = paths
+family_of production.ArgumentList = paths
 family_of production.Computed = elements
 family_of production.Constructed = elements
 family_of production.PiConstructed = elements
 family_of production.Enclosing = elements
-family_of production.Element = elements
-family_of production.Child = elements
-family_of production.Full = elements
-family_of production.NoContent = elements
-family_of production.Paired = elements
+family_of production.DirectElement = elements
+family_of production.ChildElement = elements
+family_of production.ElementContent = elements
+family_of production.EmptyElement = elements
+family_of production.AttributeValue = elements
 family_of production.PartEnclosed = elements
 family_of production.ItemEnclosed = elements
 family_of _ = control
@@ -66,15 +66,15 @@ end s p ms = end_broken s.prefixes.bound s.prefixes.function_default p ms
 
 -- the parts stand in reverse order
 unfoldable pub is_chain : Production → Bool
-is_chain production.Conditional = true
+is_chain production.IfExpr = true
 is_chain _ = false
 
 unfoldable pub is_tag : Production → Bool
-is_tag production.Element = true
-is_tag production.Child = true
+is_tag production.DirectElement = true
+is_tag production.ChildElement = true
 is_tag _ = false
 
--- the rules that the parts so far break, with the last one to come: behind the attributes stands the content
+-- the rules that the parts so far break, with the last one to come: after the attributes stands the content
 unfoldable pub before_last : Bool → Bool → List Meant → List Code
 before_last true true ms = doubles_broken ms
 before_last _ _ ms = []

@@ -1,16 +1,16 @@
 // What each production means, and the rules on its parts.
 ghost use Rattle.std.specs.Prelude.{◌≡◌, [], IfOk};
-ghost use Rattle.expr_elements.specs.ExprNames.Answers.{Answers};
+ghost use Rattle.expr_primaries.specs.ExprNames.Answers.{Answers};
 ghost use Rattle.expr_resolve.specs.Tables.{act, own, end, value_in, before_last};
 
 use crate::families::{Family, family_of};
 use crate::setting::Setting;
 use expr_control::control_value;
-use expr_elements::element_value;
-use expr_elements::expr_meant::Meant;
-use expr_elements::expr_names::ResolveFault;
-use expr_elements::expr_rules::{doubles_rule, end_rule, own_rule};
-use expr_paths::path_value;
+use expr_primaries::expr_elements::element_value;
+use expr_primaries::expr_names::ResolveFault;
+use expr_primaries::expr_paths::path_value;
+use expr_primaries::expr_rules::expr_meant::Meant;
+use expr_primaries::expr_rules::{doubles_rule, end_rule, own_rule};
 use expr_terms::Production;
 use std::alloc::{AllocError, Global};
 

@@ -41,16 +41,16 @@ pub fn family_of(production: Production) -> Family
         Production::Parens => Family::Paths,
         Production::Context => Family::Paths,
         Production::Call => Family::Paths,
-        Production::Argued => Family::Paths,
+        Production::ArgumentList => Family::Paths,
         Production::Computed => Family::Elements,
         Production::Constructed => Family::Elements,
         Production::PiConstructed => Family::Elements,
         Production::Enclosing => Family::Elements,
-        Production::Element => Family::Elements,
-        Production::Child => Family::Elements,
-        Production::Full => Family::Elements,
-        Production::NoContent => Family::Elements,
-        Production::Paired => Family::Elements,
+        Production::DirectElement => Family::Elements,
+        Production::ChildElement => Family::Elements,
+        Production::ElementContent => Family::Elements,
+        Production::EmptyElement => Family::Elements,
+        Production::AttributeValue => Family::Elements,
         Production::PartEnclosed => Family::Elements,
         Production::ItemEnclosed => Family::Elements,
         _ => Family::Control,
@@ -63,7 +63,7 @@ pub(crate) fn is_chain(production: Production) -> bool
     ensures { result ≡ is_chain production }
 {
     match production {
-        Production::Conditional => true,
+        Production::IfExpr => true,
         _ => false,
     }
 }
@@ -74,8 +74,8 @@ pub(crate) fn is_tag(production: Production) -> bool
     ensures { result ≡ is_tag production }
 {
     match production {
-        Production::Element => true,
-        Production::Child => true,
+        Production::DirectElement => true,
+        Production::ChildElement => true,
         _ => false,
     }
 }

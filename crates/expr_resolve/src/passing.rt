@@ -2,16 +2,16 @@
 // to, so that the recursion itself holds nothing that an early return would have to end.
 ghost use Rattle.std.specs.Prelude.{◌≡◌, ◌++◌, ◌∷◌, [], reverse, List as Items};
 ghost use Rattle.xt_names.specs.declared.codes.Code.{Code};
-ghost use Rattle.expr_elements.specs.ExprMeant.declared.meant.Meant.{Meant};
-ghost use Rattle.expr_elements.specs.ExprNames.Answers.{Answers};
+ghost use Rattle.expr_primaries.specs.ExprRules.declared.expr_meant.meant.Meant.{Meant};
+ghost use Rattle.expr_primaries.specs.ExprNames.Answers.{Answers};
 ghost use Rattle.expr_resolve.specs.Tables.{act, own, end, is_tag, before_last};
-ghost use Rattle.expr_resolve.specs.Folds.{is_none};
+ghost use Rattle.xt_names.specs.Lists.{is_none};
 
 use crate::acts::{act, before_last, end, own};
 use crate::families::is_tag;
 use crate::setting::Setting;
-use expr_elements::expr_meant::Meant;
-use expr_elements::expr_names::ResolveFault;
+use expr_primaries::expr_names::ResolveFault;
+use expr_primaries::expr_rules::expr_meant::Meant;
 use expr_terms::Production;
 use std::alloc::Global;
 use xt_names::List;

@@ -1,13 +1,13 @@
 // The raw value, part by part.
 ghost use Rattle.std.specs.Prelude.{◌≡◌, [], map, reverse};
-ghost use Rattle.expr_elements.specs.ExprNames.Answers.{Answers};
+ghost use Rattle.expr_primaries.specs.ExprNames.Answers.{Answers};
 ghost use Rattle.expr_resolve.specs.Folds.{found_of, value_of, broken_of, values, steps_broken, all_broken, parts_broken, parts_values};
 
 use crate::families::is_chain;
 use crate::passing::{finished, stepped, stepped_back, turned};
 use crate::setting::Setting;
-use expr_elements::expr_meant::Meant;
-use expr_elements::expr_names::ResolveFault;
+use expr_primaries::expr_names::ResolveFault;
+use expr_primaries::expr_rules::expr_meant::Meant;
 use expr_terms::{Production, Raw};
 use std::alloc::Global;
 use xt_names::List;

@@ -1,10 +1,10 @@
 // Whole expressions and whole types.
 ghost use Rattle.std.specs.Prelude.{◌≡◌, ◌++◌, [], List as Items};
 ghost use Rattle.xt_names.specs.declared.codes.Code.{Code};
-ghost use Rattle.expr_elements.specs.ExprMeant.declared.meant.Meant.{Meant};
-ghost use Rattle.expr_elements.specs.ExprMeant.Parts.{expr_of};
-ghost use Rattle.expr_elements.specs.ExprNames.Answers.{Answers};
-ghost use Rattle.expr_elements.specs.ExprRules.Rules.{type_broken_of};
+ghost use Rattle.expr_primaries.specs.ExprRules.declared.expr_meant.meant.Meant.{Meant};
+ghost use Rattle.expr_primaries.specs.ExprRules.ExprMeant.Parts.{expr_of};
+ghost use Rattle.expr_primaries.specs.ExprNames.Answers.{Answers};
+ghost use Rattle.expr_primaries.specs.ExprRules.Rules.{type_broken_of};
 ghost use Rattle.expr_control.specs.Types.{sequence_of};
 ghost use Rattle.expr_resolve.specs.Folds.{broken_of, expr_meant, type_broken, type_meant};
 
@@ -12,9 +12,9 @@ use crate::resolving::part_of;
 use crate::setting::Setting;
 use bound_prefixes::BoundPrefixes;
 use expr_control::sequence_of;
-use expr_elements::expr_meant::{Meant, expr_of};
-use expr_elements::expr_names::ResolveFault;
-use expr_elements::expr_rules::type_rule;
+use expr_primaries::expr_names::ResolveFault;
+use expr_primaries::expr_rules::expr_meant::{Meant, expr_of};
+use expr_primaries::expr_rules::type_rule;
 use expr_terms::Raw;
 use std::alloc::Global;
 use xt_names::Shared;

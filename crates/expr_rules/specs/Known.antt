@@ -8,9 +8,9 @@ use Rattle.expr_names.specs.XtTypes.declared.node_tests.NameTest.{NameTest}
 use Rattle.expr_names.specs.XtTypes.declared.node_tests.NameTest.TheVariants as name
 use Rattle.expr_names.specs.Names.{expr_name, node_name, name_test}
 use Rattle.expr_names.specs.Types.{type_named, type_or_any}
-use Rattle.expr_meant.specs.declared.meant.Meant.{Meant}
-use Rattle.expr_meant.specs.declared.meant.Meant.TheVariants as meant
-use Rattle.expr_meant.specs.Names.{written_of, written_test_in}
+use Rattle.expr_rules.specs.declared.expr_meant.meant.Meant.{Meant}
+use Rattle.expr_rules.specs.declared.expr_meant.meant.Meant.TheVariants as meant
+use Rattle.expr_rules.specs.ExprMeant.Names.{written_of, written_test_in}
 
 -- the name of a variable, a function or a type
 abbrev pub name_of : List Binding → List ℕ → Meant → ExprName

@@ -1,4 +1,6 @@
 pub mod Known
 pub mod Rules
-pub use Rattle.expr_meant.specs as ExprMeant
+pub mod ExprMeant
+pub mod ExprShapes
 pub use Rattle.expr_names.specs as ExprNames
+pub use Rattle.expr_terms.specs as ExprTerms

@@ -12,16 +12,16 @@ use Rattle.xt_syntax.specs.declared.exprs.Expr.{Expr}
 use Rattle.expr_names.specs.Names.{undeclared_in, test_broken}
 use Rattle.expr_names.specs.Types.{type_named, call_type, known_broken, cast_broken, arity_broken}
 use Rattle.expr_names.specs.Doubles.{names_differ}
-use Rattle.expr_meant.specs.ExprTerms.declared.keys.Key.{Key}
-use Rattle.expr_meant.specs.ExprTerms.declared.keys.Key.TheVariants.{NamespaceWord as namespace_word}
-use Rattle.expr_meant.specs.ExprTerms.declared.productions.Production.{Production}
-use Rattle.expr_meant.specs.ExprTerms.declared.productions.Production.TheVariants as production
-use Rattle.expr_meant.specs.ExprTerms.declared.productions.Level.{Level}
-use Rattle.expr_meant.specs.ExprTerms.declared.productions.Level.TheVariants as level
-use Rattle.expr_meant.specs.declared.meant.Meant.{Meant}
-use Rattle.expr_meant.specs.declared.meant.Meant.TheVariants as meant
-use Rattle.expr_meant.specs.Parts.{key_of}
-use Rattle.expr_meant.specs.Names.{written_of, written_test_in}
+use Rattle.expr_keys.specs.declared.keys.Key.{Key}
+use Rattle.expr_keys.specs.declared.keys.Key.TheVariants.{NamespaceWord as namespace_word}
+use Rattle.expr_keys.specs.declared.productions.Production.{Production}
+use Rattle.expr_keys.specs.declared.productions.Production.TheVariants as production
+use Rattle.expr_keys.specs.declared.productions.Level.{Level}
+use Rattle.expr_keys.specs.declared.productions.Level.TheVariants as level
+use Rattle.expr_rules.specs.declared.expr_meant.meant.Meant.{Meant}
+use Rattle.expr_rules.specs.declared.expr_meant.meant.Meant.TheVariants as meant
+use Rattle.expr_rules.specs.ExprMeant.Parts.{key_of}
+use Rattle.expr_rules.specs.ExprMeant.Names.{written_of, written_test_in}
 use Rattle.expr_rules.specs.Known.{name_of, named_type}
 
 -- a prefix is declared
@@ -52,11 +52,11 @@ abbrev pub axis_broken : Meant → List Code
 axis_broken m = axis_key_broken (key_of m)
 
 unfoldable pub operated_broken : Level → List Binding → Meant → List Code
-operated_broken level.Instances bound m = type_broken_of bound m
-operated_broken level.Treats bound m = type_broken_of bound m
+operated_broken level.InstanceOf bound m = type_broken_of bound m
+operated_broken level.Treat bound m = type_broken_of bound m
 operated_broken _ bound m = []
 
--- the rules that a part breaks where it stands in the production; it is the first one, or a later one
+-- the rules that a part breaks where it is in the production; it is the first one, or a later one
 unfoldable pub own_broken : List Binding → Production → Bool → Meant → List Code
 own_broken bound production.AxisStep first m = if first then axis_broken m else test_broken_of bound m
 own_broken bound production.AttributeStep first m = test_broken_of bound m
@@ -64,18 +64,18 @@ own_broken bound production.TestStep first m = test_broken_of bound m
 own_broken bound production.NamedKind first m = test_broken_of bound m
 own_broken bound production.Variable first m = undeclared_of bound m
 own_broken bound production.Call first m = undeclared_of bound m
-own_broken bound production.Bind first m = undeclared_of bound m
-own_broken bound production.LetBind first m = undeclared_of bound m
-own_broken bound production.QuantBind first m = undeclared_of bound m
-own_broken bound production.Placed first m = undeclared_of bound m
+own_broken bound production.ForIn first m = undeclared_of bound m
+own_broken bound production.LetAssign first m = undeclared_of bound m
+own_broken bound production.QuantifiedIn first m = undeclared_of bound m
+own_broken bound production.AtVariable first m = undeclared_of bound m
 own_broken bound production.Constructed first m = undeclared_of bound m
-own_broken bound production.Element first m = undeclared_of bound m
-own_broken bound production.Child first m = undeclared_of bound m
-own_broken bound production.Paired first m = undeclared_of bound m
-own_broken bound production.Typed first m = type_broken_of bound m
+own_broken bound production.DirectElement first m = undeclared_of bound m
+own_broken bound production.ChildElement first m = undeclared_of bound m
+own_broken bound production.AttributeValue first m = undeclared_of bound m
+own_broken bound production.AsType first m = type_broken_of bound m
 own_broken bound production.ItemsType first m = if first then type_broken_of bound m else []
-own_broken bound production.OneType first m = cast_broken_of bound m
-own_broken bound (production.Operated l) first m = operated_broken l bound m
+own_broken bound production.SingleAtomicType first m = cast_broken_of bound m
+own_broken bound (production.OperatorTail l) first m = operated_broken l bound m
 own_broken bound _ first m = []
 
 -- the arguments of a call
@@ -105,7 +105,7 @@ bind_broken bound (m ∷ ms) = if list_any (is_place_of (name_of bound [] m)) ms
 -- the rules that are tested once all parts are there
 unfoldable pub end_broken : List Binding → List ℕ → Production → List Meant → List Code
 end_broken bound functions production.Call ms = call_broken bound functions ms
-end_broken bound functions production.Bind ms = bind_broken bound ms
+end_broken bound functions production.ForIn ms = bind_broken bound ms
 end_broken bound functions _ ms = []
 
 abbrev pub name_and : Meant → List Name → List Name

@@ -1,11 +1,12 @@
 // Names and types, whether or not their prefixes are declared.
 ghost use Rattle.std.specs.Prelude.{◌≡◌, [], IfOk};
-ghost use Rattle.expr_names.specs.Names.{uri_of, uri_in, name_test, expr_name};
+ghost use Rattle.expr_names.specs.Names.{uri_in, name_test, expr_name};
+ghost use Rattle.xt_names.specs.ExprNames.{uri_of};
 ghost use Rattle.expr_names.specs.Types.{type_or_any};
 ghost use Rattle.expr_rules.specs.Known.{name_of, node_name_of, name_test_of, named_type, type_of};
 
+use crate::expr_meant::{Meant, written_of, written_test_in};
 use bound_prefixes::BoundPrefixes;
-use expr_meant::{Meant, written_of, written_test_in};
 use expr_names::xt_types::NameTest;
 use expr_names::{Written, WrittenTest, no_text, type_named, uri_of};
 use std::alloc::{AllocError, Global};

@@ -8,13 +8,15 @@
 //! the part of a variable it breaks XPST0081.
 #![tactic(auto)]
 
+pub mod expr_meant;
+pub mod expr_shapes;
 mod known;
 mod rules;
 mod tables;
 mod whole;
 
-pub use expr_meant;
 pub use expr_names;
+pub use expr_terms;
 pub use known::{name_of, name_test_of, node_name_of, type_of};
 pub use rules::{axis_rule, cast_rule, name_rule, test_rule, type_rule};
 pub use tables::own_rule;

@@ -4,12 +4,12 @@ ghost use Rattle.expr_names.specs.Answers.{Answers};
 ghost use Rattle.expr_names.specs.Names.{undeclared_in, test_broken};
 ghost use Rattle.expr_rules.specs.Rules.{undeclared_of, test_broken_of, type_broken_of, cast_broken_of, axis_key_broken, axis_broken};
 
+use crate::expr_meant::{Meant, key_of, written_of, written_test_in};
 use bound_prefixes::BoundPrefixes;
-use expr_meant::expr_terms::Key;
-use expr_meant::{Meant, key_of, written_of, written_test_in};
 use expr_names::{
     ResolveFault, atomic_type, name_test, no_text, single_type, static_fault, uri_in,
 };
+use expr_terms::Key;
 use std::alloc::Global;
 use xt_names::QueryStaticCode;
 

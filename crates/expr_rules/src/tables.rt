@@ -3,11 +3,11 @@ ghost use Rattle.std.specs.Prelude.{◌≡◌, []};
 ghost use Rattle.expr_names.specs.Answers.{Answers};
 ghost use Rattle.expr_rules.specs.Rules.{operated_broken, own_broken};
 
+use crate::expr_meant::Meant;
 use crate::rules::{axis_rule, cast_rule, name_rule, test_rule, type_rule};
 use bound_prefixes::BoundPrefixes;
-use expr_meant::Meant;
-use expr_meant::expr_terms::{Level, Production};
 use expr_names::ResolveFault;
+use expr_terms::{Level, Production};
 use std::alloc::Global;
 
 #[tactic(auto, unfolding(crate::specs::Rules::operated_broken))]
@@ -20,13 +20,13 @@ fn operated_rule(
     ensures { Answers result (operated_broken level bound.now part.now) tt }
 {
     match level {
-        Level::Instances => type_rule(alloc, bound, part),
-        Level::Treats => type_rule(alloc, bound, part),
+        Level::InstanceOf => type_rule(alloc, bound, part),
+        Level::Treat => type_rule(alloc, bound, part),
         _ => Ok(()),
     }
 }
 
-/// The first rule that the part breaks where it stands in the production: XPST0010, XPST0051,
+/// The first rule that the part breaks where it is in the production: XPST0010, XPST0051,
 /// XPST0080 or XPST0081. It is the first part, or a later one.
 #[tactic(auto, unfolding(crate::specs::Rules::own_broken))]
 pub fn own_rule(
@@ -51,15 +51,15 @@ pub fn own_rule(
         Production::NamedKind => test_rule(alloc, bound, part),
         Production::Variable => name_rule(alloc, bound, part),
         Production::Call => name_rule(alloc, bound, part),
-        Production::Bind => name_rule(alloc, bound, part),
-        Production::LetBind => name_rule(alloc, bound, part),
-        Production::QuantBind => name_rule(alloc, bound, part),
-        Production::Placed => name_rule(alloc, bound, part),
+        Production::ForIn => name_rule(alloc, bound, part),
+        Production::LetAssign => name_rule(alloc, bound, part),
+        Production::QuantifiedIn => name_rule(alloc, bound, part),
+        Production::AtVariable => name_rule(alloc, bound, part),
         Production::Constructed => name_rule(alloc, bound, part),
-        Production::Element => name_rule(alloc, bound, part),
-        Production::Child => name_rule(alloc, bound, part),
-        Production::Paired => name_rule(alloc, bound, part),
-        Production::Typed => type_rule(alloc, bound, part),
+        Production::DirectElement => name_rule(alloc, bound, part),
+        Production::ChildElement => name_rule(alloc, bound, part),
+        Production::AttributeValue => name_rule(alloc, bound, part),
+        Production::AsType => type_rule(alloc, bound, part),
         Production::ItemsType => {
             if first {
                 type_rule(alloc, bound, part)
@@ -67,8 +67,8 @@ pub fn own_rule(
                 Ok(())
             }
         }
-        Production::OneType => cast_rule(alloc, bound, part),
-        Production::Operated(level) => operated_rule(level, alloc, bound, part),
+        Production::SingleAtomicType => cast_rule(alloc, bound, part),
+        Production::OperatorTail(level) => operated_rule(level, alloc, bound, part),
         _ => Ok(()),
     }
 }

@@ -7,11 +7,11 @@ ghost use Rattle.expr_names.specs.Types.{call_type, type_named, arity_broken};
 ghost use Rattle.expr_rules.specs.Rules.{args_in, args_of, call_broken, end_broken, name_and, attr_names, doubles_broken, is_place_of, bind_broken};
 ghost use Rattle.std.specs.List.{list_any};
 
+use crate::expr_meant::Meant;
 use crate::known::name_of;
 use bound_prefixes::BoundPrefixes;
-use expr_meant::Meant;
-use expr_meant::expr_terms::Production;
 use expr_names::{ResolveFault, call_type, names_differ, no_text, static_fault};
+use expr_terms::Production;
 use std::alloc::{AllocError, Global};
 use xt_names::{AtomType, ExprName, List, Name, QueryStaticCode, Shared, Text};
 use xt_syntax::Expr;
@@ -26,7 +26,7 @@ fn args_in(alloc: Global, part: &Meant) -> Result<Shared<List<Expr>>, AllocError
     }
 }
 
-/// The arguments of a call, from the parts behind its name.
+/// The arguments of a call, from the parts after its name.
 pub fn args_of(alloc: Global, parts: &[Meant]) -> Result<Shared<List<Expr>>, AllocError>
     ensures { IfOk result (λ args. args ≡ args_of parts.now) }
 {
@@ -114,7 +114,7 @@ pub fn end_rule(
 {
     match production {
         Production::Call => call_rule(alloc, bound, functions, parts),
-        Production::Bind => bind_rule(alloc, bound, parts),
+        Production::ForIn => bind_rule(alloc, bound, parts),
         _ => Ok(()),
     }
 }

@@ -1,15 +1,13 @@
 -- Values of productions whose parts stand in a Vec.
-use Rattle.std.proofs.Common.{true, false, ◌++◌, ◌≡◌, ◌≢◌, ◌+◌, List, [], ◌∷◌, Option, Some, None, is_some, refl, sym, ◌∙◌, ap, length, arith, length-append}
+use Rattle.std.proofs.Common.{true, false, ◌++◌, ◌≡◌, ◌≢◌, List, [], ◌∷◌, Option, Some, None, is_some, refl, sym, ◌∙◌, ap, length, arith, length-append}
 use Rattle.expr_terms.specs.declared.raws.Raw.TheViews.{out-Raw}
 use Rattle.expr_terms.specs.declared.raws.Raw.TheOpen.{Raw-F, Leaf, Node}
-use Rattle.expr_terms.specs.Productions.{Production, parens, otherwise, conditional, passes}
+use Rattle.expr_terms.specs.Productions.{Production, parens, else_expr, if_expr, passes}
 use Rattle.expr_terms.specs.Raws.{Raw, node, only_parens, as_chain, only_chain, as_inner_chain, only_inner, as_last, as_parts, as_else, chain_or, in_chain, build_parens, build_else, build_chain, build_plain}
+use Rattle.xt_names.proofs.BoolLemmas.{never}
 
 longer : (xs : List Raw) (x v : Raw) → length ((x ∷ xs) ++ v ∷ []) ≡ 1 → ⊥
 longer xs x v e = omega (arith, length-append (x ∷ xs) (v ∷ []))
-
-never : {P : Type 0} → false ≡ true → P
-never e = cc
 
 pub only_chain-many : (vs : List Raw) → length vs ≢ 1 → only_chain vs ≡ None
 only_chain-many [] h = refl
@@ -35,16 +33,16 @@ build_parens-only (u ∷ []) [] v e s = rw e (head_same s)
 build_parens-only (u ∷ []) (x ∷ xs) v e s = absurd (longer xs x v (sym (ap length s)))
 build_parens-only (u ∷ w ∷ vs) xs v e s = never e
 
-pub build_else-kept : (vs : List Raw) → only_inner vs ≡ false → build_else vs ≡ node otherwise vs
+pub build_else-kept : (vs : List Raw) → only_inner vs ≡ false → build_else vs ≡ node else_expr vs
 build_else-kept [] e = refl
 build_else-kept (v ∷ []) e = go (as_inner_chain (out-Raw v)) e
   where
-    go : (o : Option (List Raw)) → is_some o ≡ false → chain_or o v ≡ node otherwise (v ∷ [])
+    go : (o : Option (List Raw)) → is_some o ≡ false → chain_or o v ≡ node else_expr (v ∷ [])
     go None e = refl
     go (Some ws) e = never (sym e)
 build_else-kept (v ∷ w ∷ vs) e = refl
 
-pub build_else-only : (vs xs ws : List Raw) (v : Raw) → only_inner vs ≡ true → vs ≡ xs ++ v ∷ [] → as_inner_chain (out-Raw v) ≡ Some ws → build_else vs ≡ node otherwise ws
+pub build_else-only : (vs xs ws : List Raw) (v : Raw) → only_inner vs ≡ true → vs ≡ xs ++ v ∷ [] → as_inner_chain (out-Raw v) ≡ Some ws → build_else vs ≡ node else_expr ws
 build_else-only [] xs ws v e s c = never e
 build_else-only (u ∷ []) [] ws v e s c =
     let same : u ≡ v = cc in
@@ -61,7 +59,7 @@ only_inner-one (u ∷ []) [] v e s c =
 only_inner-one (u ∷ []) (x ∷ xs) v e s c = longer xs x v (sym (ap length s))
 only_inner-one (u ∷ w ∷ vs) xs v e s c = never e
 
-pub build_chain-many : (vs : List Raw) → length vs ≢ 3 → build_chain vs ≡ node conditional vs
+pub build_chain-many : (vs : List Raw) → length vs ≢ 3 → build_chain vs ≡ node if_expr vs
 build_chain-many [] h = refl
 build_chain-many (v ∷ []) h = refl
 build_chain-many (v ∷ w ∷ []) h = refl

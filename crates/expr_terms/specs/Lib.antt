@@ -1,6 +1,3 @@
-pub mod Keys
-pub mod TokenNames
-pub mod Tokens
 pub mod Productions
 pub mod Choices
 pub mod Raws

@@ -1,6 +1,6 @@
 -- How deep a raw value nests: as the expression that it means does.
 use Rattle.std.specs.Prelude.{ℕ, ◌+◌, ◌-◌, ◌==◌, max, Bool, true, false, List, [], ◌∷◌, if◌then◌else◌}
-use Rattle.expr_terms.specs.Productions.{Level, ors, ands, Production, listing, conditional, otherwise, flwor, quantified, chain, signed, rooted, root_steps, rooted_deep, steps, deep_after, axis_step, attribute_step, test_step, parent_step, filter_step, number, literal, variable, parens, context, call, computed, constructed, pi_constructed, enclosing, element, child}
+use Rattle.expr_terms.specs.Productions.{Level, or_level, and_level, Production, expr_list, if_expr, else_expr, flwor_expr, quantified_expr, operator_chain, signed, rooted, root_steps, rooted_deep, steps, deep_after, axis_step, attribute_step, test_step, parent_step, filter_step, number, literal, variable, parens, context, call, computed, constructed, pi_constructed, enclosing, direct_element, child_element}
 use Rattle.expr_terms.specs.declared.raws.Raw.{Raw}
 use Rattle.expr_terms.specs.declared.raws.Raw.TheFolds.{fold-Raw}
 use Rattle.expr_terms.specs.declared.raws.Raw.TheOpen.{Raw-F, Leaf, Node}
@@ -17,17 +17,17 @@ pub record Levels : Type 0 where
 
 abbrev pub mark_of : Production → Mark
 mark_of deep_after = deep
-mark_of otherwise = last
+mark_of else_expr = last
 mark_of _ = plain
 
 -- the parts nest to the left
 abbrev pub is_left_level : Level → Bool
-is_left_level ors = false
-is_left_level ands = false
+is_left_level or_level = false
+is_left_level and_level = false
 is_left_level _ = true
 
 abbrev pub is_left : Production → Bool
-is_left (chain l) = is_left_level l
+is_left (operator_chain l) = is_left_level l
 is_left steps = true
 is_left root_steps = true
 is_left rooted_deep = true
@@ -35,11 +35,11 @@ is_left _ = false
 
 -- the parts of a conditional
 abbrev pub is_arms : Production → Bool
-is_arms conditional = true
-is_arms otherwise = true
+is_arms if_expr = true
+is_arms else_expr = true
 is_arms _ = false
 
--- behind the root stands a step, behind `//` at the front one more
+-- after the root stands a step, behind `//` at the front one more
 abbrev pub before_parts : Production → ℕ
 before_parts root_steps = 1
 before_parts rooted_deep = 2
@@ -63,12 +63,12 @@ with_parts p a (v ∷ vs) = with_parts p (with_part p a v) vs
 
 -- a level of its own, a form without content, which counts as `()` there, and parts that count alone
 abbrev pub whole_nest : Production → ℕ → ℕ
-whole_nest listing a = 1 + a
-whole_nest conditional a = 1 + a
-whole_nest otherwise a = 1 + a
-whole_nest flwor a = 1 + a
-whole_nest quantified a = 1 + a
-whole_nest (chain l) a = if is_left_level l then a else 1 + a
+whole_nest expr_list a = 1 + a
+whole_nest if_expr a = 1 + a
+whole_nest else_expr a = 1 + a
+whole_nest flwor_expr a = 1 + a
+whole_nest quantified_expr a = 1 + a
+whole_nest (operator_chain l) a = if is_left_level l then a else 1 + a
 whole_nest signed a = 1 + a
 whole_nest rooted a = max 1 a
 whole_nest axis_step a = 1 + a
@@ -86,8 +86,8 @@ whole_nest computed a = 1 + a
 whole_nest constructed a = 1 + max 1 a
 whole_nest pi_constructed a = 1 + max 1 a
 whole_nest enclosing a = 1 + a
-whole_nest element a = 1 + a
-whole_nest child a = 1 + a
+whole_nest direct_element a = 1 + a
+whole_nest child_element a = 1 + a
 whole_nest _ a = a
 
 abbrev pub levels_step : Raw-F Levels → Levels

@@ -1,181 +1,97 @@
 -- The grammar of XPath expressions and of the expressions of queries as a table of productions (XPath 2.0, A.1; XQuery 1.0, A.1).
-use Rattle.std.specs.Prelude.{ℕ, pos, int_le, nat_eq, Bool, true, false, ◌||◌, if◌then◌else◌, List, [], ◌∷◌}
-use Rattle.expr_terms.specs.Keys.{Key, open_paren, close_paren, open_bracket, close_bracket, open_brace, close_brace, comma, dot, dots, slash, slashes, at_sign, colons, plus, minus, star, dollar, question, assign, if_word, then_word, else_word, for_word, in_word, return_word, some_word, every_word, satisfies_word, let_word, at_word, where_word, order_word, by_word, stable_word, ascending_word, descending_word, empty_word, least_word, as_word, of_word, instance_word, treat_word, castable_word, cast_word, document_word, attribute_word, comment_word, document_node_word, element_word, empty_sequence_word, item_word, node_word, pi_word, text_word}
-use Rattle.expr_terms.specs.TokenNames as token
-use Rattle.expr_terms.specs.Tokens.{Token, force, fits_name, fits_word, fits_axis, fits_function, fits_wild, fits_key}
-pub use Rattle.expr_terms.specs.declared.productions.Language.{Language}
-pub use Rattle.expr_terms.specs.declared.productions.Language.TheVariants.{Xpath as xpath, Xquery as xquery}
-pub use Rattle.expr_terms.specs.declared.productions.Level.{Level}
-pub use Rattle.expr_terms.specs.declared.productions.Level.TheVariants.{Ors as ors, Ands as ands, Compares as compares, Ranges as ranges, Adds as adds, Multiplies as multiplies, Unions as unions, Crosses as crosses, Instances as instances, Treats as treats, Castables as castables, Casts as casts}
-pub use Rattle.expr_terms.specs.declared.productions.Nonterminal.{Nonterminal}
-pub use Rattle.expr_terms.specs.declared.productions.Nonterminal.TheVariants.{Whole as whole, WholeType as whole_type, Expr as expr, CommaItem as comma_item, Arguments as arguments, Single as single, ElsePart as else_part, Clause as clause, NextClause as next_clause, Binding as binding, CommaBinding as comma_binding, LetBinding as let_binding, CommaLet as comma_let, Quant as quant, CommaQuant as comma_quant, Typing as typing, Placing as placing, WherePart as where_part, OrderPart as order_part, Spec as spec, CommaSpec as comma_spec, Direction as direction, EmptyPart as empty_part, Level as level, Tail as tail, Unary as unary, Path as path, AfterRoot as after_root, Relative as relative, StepMore as step_more, Step as step, Predicate as predicate, NodeTest as node_test, KindTest as kind_test, PiArgument as pi_argument, NamedArgument as named_argument, Primary as primary, SeqType as seq_type, ItemType as item_type, Occurrence as occurrence, SingleType as single_type, QuestionPart as question_part, Direct as direct, Closing as closing, Pair as pair, Part as part, Item as item}
-pub use Rattle.expr_terms.specs.declared.productions.Class.{Class}
-pub use Rattle.expr_terms.specs.declared.productions.Class.TheVariants.{Key as key, Sign as sign_class, Mark as mark_class, Way as way_class, Quantifier as quantifier_class, PlainKind as plain_class, NamedKind as named_class, Encloser as enclosing_class, Maker as maker_class, Operator as operator, Digits as digits, Quoted as quoted, Axis as axis, Word as word, Name as name, Function as function, NameTest as name_test, Target as target, NameOrStar as name_or_star, Outer as outer, Inner as inner, Shut as shut, Attribute as attribute, Unquote as unquote, TagEnd as tag_end, EmptyEnd as empty_end, Chars as chars, Enter as enter}
-pub use Rattle.expr_terms.specs.declared.productions.Symbol.{Symbol}
-pub use Rattle.expr_terms.specs.declared.productions.Symbol.TheVariants.{Tok as tok, One as one, Maybe as maybe, Many as many, Longest as longest}
-pub use Rattle.expr_terms.specs.declared.productions.Production.{Production}
-pub use Rattle.expr_terms.specs.declared.productions.Production.TheVariants.{Top as top, TypeTop as type_top, Listing as listing, ItemAfter as item_after, Argued as argued, Conditional as conditional, Otherwise as otherwise, Flwor as flwor, Quantified as quantified, Plain as plain, ForClause as for_clause, LetClause as let_clause, FollowingClause as following_clause, Bind as bind, BindAfter as bind_after, LetBind as let_bind, LetAfter as let_after, QuantBind as quant_bind, QuantAfter as quant_after, Typed as typed, Placed as placed, WhereTest as where_test, Ordered as ordered, Stable as stable, KeySpec as key_spec, SpecAfter as spec_after, Directed as directed, Empties as empties, Chain as chain, Operated as operated, Signed as signed, Unsigned as unsigned, Rooted as rooted, RootedDeep as rooted_deep, Unrooted as unrooted, RootSteps as root_steps, Steps as steps, StepAfter as step_after, DeepAfter as deep_after, AxisStep as axis_step, AttributeStep as attribute_step, TestStep as test_step, ParentStep as parent_step, FilterStep as filter_step, Predicated as predicated, NameTested as name_tested, KindTested as kind_tested, PlainKind as plain_kind, PiKind as pi_kind, PiNamed as pi_named, NamedKind as named_kind, KindNamed as kind_named, Number as number, Literal as literal, Variable as variable, Parens as parens, Context as context, Call as call, Computed as computed, Constructed as constructed, PiConstructed as pi_constructed, Enclosing as enclosing, Directly as directly, EmptyType as empty_type, ItemsType as items_type, Marked as marked, AnyItem as any_item, KindItem as kind_item, AtomicItem as atomic_item, OneType as one_type, Questioned as questioned, Element as element, Full as full, NoContent as no_content, Paired as paired, PartChars as part_chars, PartEnclosed as part_enclosed, Child as child, ItemChars as item_chars, ItemEnclosed as item_enclosed}
-
--- the place of the operators of the level
-abbrev pub tight : Level → ℕ
-tight ors = 14
-tight ands = 13
-tight compares = 12
-tight ranges = 11
-tight adds = 10
-tight multiplies = 9
-tight unions = 8
-tight crosses = 7
-tight instances = 6
-tight treats = 5
-tight castables = 4
-tight casts = 3
+use Rattle.std.specs.Prelude.{Bool, true, false, if◌then◌else◌, List, [], ◌∷◌}
+use Rattle.expr_keys.specs.declared.keys.Key.TheVariants.{OpenParen as open_paren, CloseParen as close_paren, OpenBracket as open_bracket, CloseBracket as close_bracket, OpenBrace as open_brace, CloseBrace as close_brace, Comma as comma, Dot as dot, Dots as dots, Slash as slash, Slashes as slashes, AtSign as at_sign, Colons as colons, Dollar as dollar, Question as question, Assign as assign, IfWord as if_word, ThenWord as then_word, ElseWord as else_word, ForWord as for_word, InWord as in_word, ReturnWord as return_word, SatisfiesWord as satisfies_word, LetWord as let_word, AtWord as at_word, WhereWord as where_word, OrderWord as order_word, ByWord as by_word, StableWord as stable_word, EmptyWord as empty_word, LeastWord as least_word, AsWord as as_word, OfWord as of_word, InstanceWord as instance_word, TreatWord as treat_word, CastableWord as castable_word, CastWord as cast_word, EmptySequenceWord as empty_sequence_word, ItemWord as item_word, ProcessingInstructionWord as pi_word}
+pub use Rattle.expr_keys.specs.declared.productions.Language.{Language}
+pub use Rattle.expr_keys.specs.declared.productions.Language.TheVariants.{Xpath as xpath, Xquery as xquery}
+pub use Rattle.expr_keys.specs.declared.productions.Level.{Level}
+pub use Rattle.expr_keys.specs.declared.productions.Level.TheVariants.{Or as or_level, And as and_level, Comparison as comparison_level, Range as range_level, Additive as additive_level, Multiplicative as multiplicative_level, Union as union_level, Intersect as intersect_level, InstanceOf as instance_of_level, Treat as treat_level, Castable as castable_level, Cast as cast_level}
+pub use Rattle.expr_keys.specs.declared.productions.Nonterminal.{Nonterminal}
+pub use Rattle.expr_keys.specs.declared.productions.Nonterminal.TheVariants.{Whole as whole, WholeType as whole_type, Expr as expr, CommaExprSingle as comma_expr_single, Arguments as arguments, ExprSingle as expr_single, ElsePart as else_part, Clause as clause, NextClause as next_clause, ForBinding as for_binding, CommaForBinding as comma_for_binding, LetBinding as let_binding, CommaLetBinding as comma_let_binding, QuantifiedBinding as quantified_binding, CommaQuantifiedBinding as comma_quantified_binding, TypeDeclaration as type_declaration, PositionalVar as positional_var, WhereClause as where_clause, OrderByClause as order_by_clause, OrderSpec as order_spec, CommaOrderSpec as comma_order_spec, Direction as direction, EmptyPart as empty_part, Level as level, Tail as tail, UnaryExpr as unary_expr, PathExpr as path_expr, AfterRoot as after_root, RelativePathExpr as relative_path_expr, StepMore as step_more, StepExpr as step_expr, Predicate as predicate, NodeTest as node_test, KindTest as kind_test, PiArgument as pi_argument, NamedArgument as named_argument, PrimaryExpr as primary_expr, SequenceType as sequence_type, ItemType as item_type, OccurrenceIndicator as occurrence_indicator, SingleType as single_type, QuestionPart as question_part, DirElemConstructor as dir_elem_constructor, DirElemClosing as dir_elem_closing, DirAttribute as dir_attribute, AttrValueContent as attr_value_content, DirElemContent as dir_elem_content}
+pub use Rattle.expr_keys.specs.declared.productions.Class.{Class}
+pub use Rattle.expr_keys.specs.declared.productions.Class.TheVariants.{Key as key, Sign as sign_class, Mark as mark_class, Way as way_class, Quantifier as quantifier_class, PlainKind as plain_class, NamedKind as named_class, Encloser as enclosing_class, Maker as maker_class, Operator as operator, Digits as digits, Quoted as quoted, Axis as axis, Word as word, Name as name, Function as function, NameTest as name_test, Target as target, NameOrStar as name_or_star, StartTagOpen as start_tag_open, ChildTagOpen as child_tag_open, EndTag as end_tag, Attribute as attribute, AttributeEnd as attribute_end, TagEnd as tag_end, EmptyEnd as empty_end, Chars as chars, EnclosedOpen as enclosed_open}
+pub use Rattle.expr_keys.specs.declared.productions.Symbol.{Symbol}
+pub use Rattle.expr_keys.specs.declared.productions.Symbol.TheVariants.{Tok as tok, One as one, Maybe as maybe, Many as many, Longest as longest}
+pub use Rattle.expr_keys.specs.declared.productions.Production.{Production}
+pub use Rattle.expr_keys.specs.declared.productions.Production.TheVariants.{WholeExpr as whole_expr, WholeSequenceType as whole_sequence_type, ExprList as expr_list, NextExprSingle as next_expr_single, ArgumentList as argument_list, IfExpr as if_expr, ElseExpr as else_expr, FlworExpr as flwor_expr, QuantifiedExpr as quantified_expr, OperatorExpr as operator_expr, ForClause as for_clause, LetClause as let_clause, FollowingClause as following_clause, ForIn as for_in, NextForBinding as next_for_binding, LetAssign as let_assign, NextLetBinding as next_let_binding, QuantifiedIn as quantified_in, NextQuantifiedBinding as next_quantified_binding, AsType as as_type, AtVariable as at_variable, WhereTest as where_test, OrderBy as order_by, StableOrderBy as stable_order_by, OrderKey as order_key, NextOrderSpec as next_order_spec, OrderDirection as order_direction, EmptyLeast as empty_least, OperatorChain as operator_chain, OperatorTail as operator_tail, Signed as signed, Unsigned as unsigned, Rooted as rooted, RootedDeep as rooted_deep, Unrooted as unrooted, RootSteps as root_steps, Steps as steps, StepAfter as step_after, DeepAfter as deep_after, AxisStep as axis_step, AttributeStep as attribute_step, TestStep as test_step, ParentStep as parent_step, FilterStep as filter_step, Predicated as predicated, NameTested as name_tested, KindTested as kind_tested, PlainKind as plain_kind, PiKind as pi_kind, PiNamed as pi_named, NamedKind as named_kind, KindNamed as kind_named, Number as number, Literal as literal, Variable as variable, Parens as parens, Context as context, Call as call, Computed as computed, Constructed as constructed, PiConstructed as pi_constructed, Enclosing as enclosing, DirectConstructor as direct_constructor, EmptyType as empty_type, ItemsType as items_type, OccurrenceMark as occurrence_mark, AnyItem as any_item, KindItem as kind_item, AtomicItem as atomic_item, SingleAtomicType as single_atomic_type, QuestionMark as question_mark, DirectElement as direct_element, ElementContent as element_content, EmptyElement as empty_element, AttributeValue as attribute_value, PartChars as part_chars, PartEnclosed as part_enclosed, ChildElement as child_element, ItemChars as item_chars, ItemEnclosed as item_enclosed}
 
 -- whether operators of the level follow one another
 abbrev pub repeats : Level → Bool
-repeats compares = false
-repeats ranges = false
-repeats instances = false
-repeats treats = false
-repeats castables = false
-repeats casts = false
+repeats comparison_level = false
+repeats range_level = false
+repeats instance_of_level = false
+repeats treat_level = false
+repeats castable_level = false
+repeats cast_level = false
 repeats _ = true
-
-abbrev pub fits_any : List Key → Token → Bool
-fits_any [] t = false
-fits_any (a ∷ more) t = fits_key a t || fits_any more t
-
--- the keys of a class
-abbrev pub keys_of : Class → List Key
-keys_of sign_class = plus ∷ minus ∷ []
-keys_of mark_class = question ∷ star ∷ plus ∷ []
-keys_of way_class = ascending_word ∷ descending_word ∷ []
-keys_of quantifier_class = some_word ∷ every_word ∷ []
-keys_of plain_class = node_word ∷ text_word ∷ comment_word ∷ document_node_word ∷ []
-keys_of named_class = element_word ∷ attribute_word ∷ []
-keys_of enclosing_class = document_word ∷ text_word ∷ comment_word ∷ []
-keys_of maker_class = element_word ∷ attribute_word ∷ pi_word ∷ []
-keys_of _ = []
-
-abbrev pub fits_digits : Token → Bool
-fits_digits (token.digits n) = int_le (pos 0) n
-fits_digits _ = false
-
-abbrev pub fits_quoted : Token → Bool
-fits_quoted (token.quoted cs) = true
-fits_quoted _ = false
-
-abbrev pub fits_piece : Class → Token → Bool
-fits_piece attribute (token.attribute p n) = true
-fits_piece outer (token.outer p n) = true
-fits_piece inner (token.inner p n) = true
-fits_piece shut (token.shut p n) = true
-fits_piece unquote token.unquote = true
-fits_piece tag_end token.tag_end = true
-fits_piece empty_end token.empty_end = true
-fits_piece chars (token.chars cs b) = true
-fits_piece enter token.enter = true
-fits_piece _ _ = false
-
--- whether the token is of the class
-abbrev pub fits : Class → Token → Bool
-fits (key k) t = fits_key k t
-fits sign_class t = fits_any (keys_of sign_class) t
-fits mark_class t = fits_any (keys_of mark_class) t
-fits way_class t = fits_any (keys_of way_class) t
-fits quantifier_class t = fits_any (keys_of quantifier_class) t
-fits plain_class t = fits_any (keys_of plain_class) t
-fits named_class t = fits_any (keys_of named_class) t
-fits enclosing_class t = fits_any (keys_of enclosing_class) t
-fits maker_class t = fits_any (keys_of maker_class) t
-fits (operator l) t = nat_eq (force t) (tight l)
-fits digits t = fits_digits t
-fits quoted t = fits_quoted t
-fits axis t = fits_axis t
-fits word t = fits_word t
-fits name t = fits_name t
-fits function t = fits_function t
-fits name_test t = fits_name t || fits_wild t
-fits target t = fits_word t || fits_quoted t
-fits name_or_star t = fits_name t || fits_key star t
-fits outer t = fits_piece outer t
-fits inner t = fits_piece inner t
-fits shut t = fits_piece shut t
-fits attribute t = fits_piece attribute t
-fits unquote t = fits_piece unquote t
-fits tag_end t = fits_piece tag_end t
-fits empty_end t = fits_piece empty_end t
-fits chars t = fits_piece chars t
-fits enter t = fits_piece enter t
 
 -- what stands below the level
 abbrev pub below : Level → Nonterminal
-below ors = level ands
-below ands = level compares
-below compares = level ranges
-below ranges = level adds
-below adds = level multiplies
-below multiplies = level unions
-below unions = level crosses
-below crosses = level instances
-below instances = level treats
-below treats = level castables
-below castables = level casts
-below casts = unary
+below or_level = level and_level
+below and_level = level comparison_level
+below comparison_level = level range_level
+below range_level = level additive_level
+below additive_level = level multiplicative_level
+below multiplicative_level = level union_level
+below union_level = level intersect_level
+below intersect_level = level instance_of_level
+below instance_of_level = level treat_level
+below treat_level = level castable_level
+below castable_level = level cast_level
+below cast_level = unary_expr
 
 abbrev pub operation : Level → List Symbol
-operation instances = tok (key instance_word) ∷ tok (key of_word) ∷ one seq_type ∷ []
-operation treats = tok (key treat_word) ∷ tok (key as_word) ∷ one seq_type ∷ []
-operation castables = tok (key castable_word) ∷ tok (key as_word) ∷ one single_type ∷ []
-operation casts = tok (key cast_word) ∷ tok (key as_word) ∷ one single_type ∷ []
+operation instance_of_level = tok (key instance_word) ∷ tok (key of_word) ∷ one sequence_type ∷ []
+operation treat_level = tok (key treat_word) ∷ tok (key as_word) ∷ one sequence_type ∷ []
+operation castable_level = tok (key castable_word) ∷ tok (key as_word) ∷ one single_type ∷ []
+operation cast_level = tok (key cast_word) ∷ tok (key as_word) ∷ one single_type ∷ []
 operation l = tok (operator l) ∷ one (below l) ∷ []
 
 -- the parts of a production
 abbrev pub body : Production → List Symbol
-body top = one expr ∷ []
-body type_top = one seq_type ∷ []
-body listing = one single ∷ many comma_item ∷ []
-body item_after = tok (key comma) ∷ one single ∷ []
-body argued = one single ∷ many comma_item ∷ []
-body conditional = tok (key if_word) ∷ tok (key open_paren) ∷ one expr ∷ tok (key close_paren) ∷ tok (key then_word) ∷ one single ∷ one else_part ∷ []
-body otherwise = tok (key else_word) ∷ one single ∷ []
-body flwor = one clause ∷ many next_clause ∷ maybe where_part ∷ maybe order_part ∷ tok (key return_word) ∷ one single ∷ []
-body quantified = tok quantifier_class ∷ one quant ∷ many comma_quant ∷ tok (key satisfies_word) ∷ one single ∷ []
-body plain = one (level ors) ∷ []
-body for_clause = tok (key for_word) ∷ one binding ∷ many comma_binding ∷ []
-body let_clause = tok (key let_word) ∷ one let_binding ∷ many comma_let ∷ []
+body whole_expr = one expr ∷ []
+body whole_sequence_type = one sequence_type ∷ []
+body expr_list = one expr_single ∷ many comma_expr_single ∷ []
+body next_expr_single = tok (key comma) ∷ one expr_single ∷ []
+body argument_list = one expr_single ∷ many comma_expr_single ∷ []
+body if_expr = tok (key if_word) ∷ tok (key open_paren) ∷ one expr ∷ tok (key close_paren) ∷ tok (key then_word) ∷ one expr_single ∷ one else_part ∷ []
+body else_expr = tok (key else_word) ∷ one expr_single ∷ []
+body flwor_expr = one clause ∷ many next_clause ∷ maybe where_clause ∷ maybe order_by_clause ∷ tok (key return_word) ∷ one expr_single ∷ []
+body quantified_expr = tok quantifier_class ∷ one quantified_binding ∷ many comma_quantified_binding ∷ tok (key satisfies_word) ∷ one expr_single ∷ []
+body operator_expr = one (level or_level) ∷ []
+body for_clause = tok (key for_word) ∷ one for_binding ∷ many comma_for_binding ∷ []
+body let_clause = tok (key let_word) ∷ one let_binding ∷ many comma_let_binding ∷ []
 body following_clause = one clause ∷ []
-body bind = tok (key dollar) ∷ tok name ∷ maybe typing ∷ maybe placing ∷ tok (key in_word) ∷ one single ∷ []
-body bind_after = tok (key comma) ∷ one binding ∷ []
-body let_bind = tok (key dollar) ∷ tok name ∷ maybe typing ∷ tok (key assign) ∷ one single ∷ []
-body let_after = tok (key comma) ∷ one let_binding ∷ []
-body quant_bind = tok (key dollar) ∷ tok name ∷ maybe typing ∷ tok (key in_word) ∷ one single ∷ []
-body quant_after = tok (key comma) ∷ one quant ∷ []
-body typed = tok (key as_word) ∷ one seq_type ∷ []
-body placed = tok (key at_word) ∷ tok (key dollar) ∷ tok name ∷ []
-body where_test = tok (key where_word) ∷ one single ∷ []
-body ordered = tok (key order_word) ∷ tok (key by_word) ∷ one spec ∷ many comma_spec ∷ []
-body stable = tok (key stable_word) ∷ tok (key order_word) ∷ tok (key by_word) ∷ one spec ∷ many comma_spec ∷ []
-body key_spec = one single ∷ maybe direction ∷ maybe empty_part ∷ []
-body spec_after = tok (key comma) ∷ one spec ∷ []
-body directed = tok way_class ∷ []
-body empties = tok (key empty_word) ∷ tok (key least_word) ∷ []
-body (chain l) = one (below l) ∷ (if repeats l then many (tail l) else maybe (tail l)) ∷ []
-body (operated l) = operation l
-body signed = tok sign_class ∷ one unary ∷ []
-body unsigned = one path ∷ []
+body for_in = tok (key dollar) ∷ tok name ∷ maybe type_declaration ∷ maybe positional_var ∷ tok (key in_word) ∷ one expr_single ∷ []
+body next_for_binding = tok (key comma) ∷ one for_binding ∷ []
+body let_assign = tok (key dollar) ∷ tok name ∷ maybe type_declaration ∷ tok (key assign) ∷ one expr_single ∷ []
+body next_let_binding = tok (key comma) ∷ one let_binding ∷ []
+body quantified_in = tok (key dollar) ∷ tok name ∷ maybe type_declaration ∷ tok (key in_word) ∷ one expr_single ∷ []
+body next_quantified_binding = tok (key comma) ∷ one quantified_binding ∷ []
+body as_type = tok (key as_word) ∷ one sequence_type ∷ []
+body at_variable = tok (key at_word) ∷ tok (key dollar) ∷ tok name ∷ []
+body where_test = tok (key where_word) ∷ one expr_single ∷ []
+body order_by = tok (key order_word) ∷ tok (key by_word) ∷ one order_spec ∷ many comma_order_spec ∷ []
+body stable_order_by = tok (key stable_word) ∷ tok (key order_word) ∷ tok (key by_word) ∷ one order_spec ∷ many comma_order_spec ∷ []
+body order_key = one expr_single ∷ maybe direction ∷ maybe empty_part ∷ []
+body next_order_spec = tok (key comma) ∷ one order_spec ∷ []
+body order_direction = tok way_class ∷ []
+body empty_least = tok (key empty_word) ∷ tok (key least_word) ∷ []
+body (operator_chain l) = one (below l) ∷ (if repeats l then many (tail l) else maybe (tail l)) ∷ []
+body (operator_tail l) = operation l
+body signed = tok sign_class ∷ one unary_expr ∷ []
+body unsigned = one path_expr ∷ []
 body rooted = tok (key slash) ∷ longest after_root ∷ []
-body rooted_deep = tok (key slashes) ∷ one step ∷ many step_more ∷ []
-body unrooted = one relative ∷ []
-body root_steps = one step ∷ many step_more ∷ []
-body steps = one step ∷ many step_more ∷ []
-body step_after = tok (key slash) ∷ one step ∷ []
-body deep_after = tok (key slashes) ∷ one step ∷ []
+body rooted_deep = tok (key slashes) ∷ one step_expr ∷ many step_more ∷ []
+body unrooted = one relative_path_expr ∷ []
+body root_steps = one step_expr ∷ many step_more ∷ []
+body steps = one step_expr ∷ many step_more ∷ []
+body step_after = tok (key slash) ∷ one step_expr ∷ []
+body deep_after = tok (key slashes) ∷ one step_expr ∷ []
 body axis_step = tok axis ∷ tok (key colons) ∷ one node_test ∷ many predicate ∷ []
 body attribute_step = tok (key at_sign) ∷ one node_test ∷ many predicate ∷ []
 body test_step = one node_test ∷ many predicate ∷ []
 body parent_step = tok (key dots) ∷ many predicate ∷ []
-body filter_step = one primary ∷ many predicate ∷ []
+body filter_step = one primary_expr ∷ many predicate ∷ []
 body predicated = tok (key open_bracket) ∷ one expr ∷ tok (key close_bracket) ∷ []
 body name_tested = tok name_test ∷ []
 body kind_tested = one kind_test ∷ []
@@ -194,71 +110,71 @@ body computed = tok maker_class ∷ tok (key open_brace) ∷ one expr ∷ tok (k
 body constructed = tok named_class ∷ tok name ∷ tok (key open_brace) ∷ maybe expr ∷ tok (key close_brace) ∷ []
 body pi_constructed = tok (key pi_word) ∷ tok word ∷ tok (key open_brace) ∷ maybe expr ∷ tok (key close_brace) ∷ []
 body enclosing = tok enclosing_class ∷ tok (key open_brace) ∷ one expr ∷ tok (key close_brace) ∷ []
-body directly = one direct ∷ []
+body direct_constructor = one dir_elem_constructor ∷ []
 body empty_type = tok (key empty_sequence_word) ∷ tok (key open_paren) ∷ tok (key close_paren) ∷ []
-body items_type = one item_type ∷ longest occurrence ∷ []
-body marked = tok mark_class ∷ []
+body items_type = one item_type ∷ longest occurrence_indicator ∷ []
+body occurrence_mark = tok mark_class ∷ []
 body any_item = tok (key item_word) ∷ tok (key open_paren) ∷ tok (key close_paren) ∷ []
 body kind_item = one kind_test ∷ []
 body atomic_item = tok name ∷ []
-body one_type = tok name ∷ maybe question_part ∷ []
-body questioned = tok (key question) ∷ []
-body element = tok outer ∷ many pair ∷ one closing ∷ []
-body full = tok tag_end ∷ many item ∷ tok shut ∷ []
-body no_content = tok empty_end ∷ []
-body paired = tok attribute ∷ many part ∷ tok unquote ∷ []
+body single_atomic_type = tok name ∷ maybe question_part ∷ []
+body question_mark = tok (key question) ∷ []
+body direct_element = tok start_tag_open ∷ many dir_attribute ∷ one dir_elem_closing ∷ []
+body element_content = tok tag_end ∷ many dir_elem_content ∷ tok end_tag ∷ []
+body empty_element = tok empty_end ∷ []
+body attribute_value = tok attribute ∷ many attr_value_content ∷ tok attribute_end ∷ []
 body part_chars = tok chars ∷ []
-body part_enclosed = tok enter ∷ one expr ∷ tok (key close_brace) ∷ []
-body child = tok inner ∷ many pair ∷ one closing ∷ []
+body part_enclosed = tok enclosed_open ∷ one expr ∷ tok (key close_brace) ∷ []
+body child_element = tok child_tag_open ∷ many dir_attribute ∷ one dir_elem_closing ∷ []
 body item_chars = tok chars ∷ []
-body item_enclosed = tok enter ∷ one expr ∷ tok (key close_brace) ∷ []
+body item_enclosed = tok enclosed_open ∷ one expr ∷ tok (key close_brace) ∷ []
 
 -- what the production is a form of
 abbrev pub head : Production → Nonterminal
-head top = whole
-head type_top = whole_type
-head listing = expr
-head item_after = comma_item
-head argued = arguments
-head conditional = single
-head otherwise = else_part
-head flwor = single
-head quantified = single
-head plain = single
+head whole_expr = whole
+head whole_sequence_type = whole_type
+head expr_list = expr
+head next_expr_single = comma_expr_single
+head argument_list = arguments
+head if_expr = expr_single
+head else_expr = else_part
+head flwor_expr = expr_single
+head quantified_expr = expr_single
+head operator_expr = expr_single
 head for_clause = clause
 head let_clause = clause
 head following_clause = next_clause
-head bind = binding
-head bind_after = comma_binding
-head let_bind = let_binding
-head let_after = comma_let
-head quant_bind = quant
-head quant_after = comma_quant
-head typed = typing
-head placed = placing
-head where_test = where_part
-head ordered = order_part
-head stable = order_part
-head key_spec = spec
-head spec_after = comma_spec
-head directed = direction
-head empties = empty_part
-head (chain l) = level l
-head (operated l) = tail l
-head signed = unary
-head unsigned = unary
-head rooted = path
-head rooted_deep = path
-head unrooted = path
+head for_in = for_binding
+head next_for_binding = comma_for_binding
+head let_assign = let_binding
+head next_let_binding = comma_let_binding
+head quantified_in = quantified_binding
+head next_quantified_binding = comma_quantified_binding
+head as_type = type_declaration
+head at_variable = positional_var
+head where_test = where_clause
+head order_by = order_by_clause
+head stable_order_by = order_by_clause
+head order_key = order_spec
+head next_order_spec = comma_order_spec
+head order_direction = direction
+head empty_least = empty_part
+head (operator_chain l) = level l
+head (operator_tail l) = tail l
+head signed = unary_expr
+head unsigned = unary_expr
+head rooted = path_expr
+head rooted_deep = path_expr
+head unrooted = path_expr
 head root_steps = after_root
-head steps = relative
+head steps = relative_path_expr
 head step_after = step_more
 head deep_after = step_more
-head axis_step = step
-head attribute_step = step
-head test_step = step
-head parent_step = step
-head filter_step = step
+head axis_step = step_expr
+head attribute_step = step_expr
+head test_step = step_expr
+head parent_step = step_expr
+head filter_step = step_expr
 head predicated = predicate
 head name_tested = node_test
 head kind_tested = node_test
@@ -267,78 +183,78 @@ head pi_kind = kind_test
 head pi_named = pi_argument
 head named_kind = kind_test
 head kind_named = named_argument
-head number = primary
-head literal = primary
-head variable = primary
-head parens = primary
-head context = primary
-head call = primary
-head computed = primary
-head constructed = primary
-head pi_constructed = primary
-head enclosing = primary
-head directly = primary
-head empty_type = seq_type
-head items_type = seq_type
-head marked = occurrence
+head number = primary_expr
+head literal = primary_expr
+head variable = primary_expr
+head parens = primary_expr
+head context = primary_expr
+head call = primary_expr
+head computed = primary_expr
+head constructed = primary_expr
+head pi_constructed = primary_expr
+head enclosing = primary_expr
+head direct_constructor = primary_expr
+head empty_type = sequence_type
+head items_type = sequence_type
+head occurrence_mark = occurrence_indicator
 head any_item = item_type
 head kind_item = item_type
 head atomic_item = item_type
-head one_type = single_type
-head questioned = question_part
-head element = direct
-head full = closing
-head no_content = closing
-head paired = pair
-head part_chars = part
-head part_enclosed = part
-head child = item
-head item_chars = item
-head item_enclosed = item
+head single_atomic_type = single_type
+head question_mark = question_part
+head direct_element = dir_elem_constructor
+head element_content = dir_elem_closing
+head empty_element = dir_elem_closing
+head attribute_value = dir_attribute
+head part_chars = attr_value_content
+head part_enclosed = attr_value_content
+head child_element = dir_elem_content
+head item_chars = dir_elem_content
+head item_enclosed = dir_elem_content
 
 -- the productions of queries alone
 abbrev pub of_queries : Production → Bool
 of_queries let_clause = true
 of_queries following_clause = true
-of_queries typed = true
-of_queries placed = true
+of_queries as_type = true
+of_queries at_variable = true
 of_queries where_test = true
-of_queries ordered = true
-of_queries stable = true
+of_queries order_by = true
+of_queries stable_order_by = true
 of_queries computed = true
 of_queries constructed = true
 of_queries pi_constructed = true
 of_queries enclosing = true
-of_queries directly = true
+of_queries direct_constructor = true
 of_queries _ = false
 
 abbrev pub speaks : Language → Production → Bool
 speaks xquery p = true
 speaks xpath p = if of_queries p then false else true
 
--- whether the token tells more than its production does, and so stands in the value
+-- whether the token tells more than its production does, and so is in the value
 abbrev pub keeps : Class → Bool
 keeps (key k) = false
-keeps unquote = false
+keeps attribute_end = false
 keeps tag_end = false
 keeps empty_end = false
-keeps enter = false
+keeps enclosed_open = false
 keeps _ = true
 
 -- a production that adds nothing to its part, where it has one alone
 abbrev pub passes : Production → Bool
-passes top = true
-passes type_top = true
-passes listing = true
-passes item_after = true
-passes plain = true
+passes whole_expr = true
+passes whole_sequence_type = true
+passes expr_list = true
+passes next_expr_single = true
+passes operator_expr = true
 passes following_clause = true
-passes bind_after = true
-passes let_after = true
-passes quant_after = true
-passes spec_after = true
-passes directed = true
-passes (chain l) = true
+passes next_for_binding = true
+passes next_let_binding = true
+passes next_quantified_binding = true
+passes next_order_spec = true
+passes order_direction = true
+passes (operator_chain l) = true
 passes unsigned = true
 passes rooted = true
 passes unrooted = true
@@ -349,23 +265,11 @@ passes name_tested = true
 passes kind_tested = true
 passes pi_named = true
 passes kind_named = true
-passes directly = true
+passes direct_constructor = true
 passes items_type = true
-passes marked = true
+passes occurrence_mark = true
 passes kind_item = true
 passes atomic_item = true
 passes part_chars = true
 passes item_chars = true
 passes _ = false
-
--- whether the token can begin a step
-abbrev pub begins_step : Token → Bool
-begins_step t = fits_name t || fits_wild t || fits_digits t || fits_quoted t || fits_any (dollar ∷ open_paren ∷ dot ∷ dots ∷ at_sign ∷ []) t || fits_piece outer t
-
-abbrev pub is_after_root : Nonterminal → Bool
-is_after_root after_root = true
-is_after_root _ = false
-
--- whether the token can begin a step, or is a mark
-abbrev pub begins : Nonterminal → Token → Bool
-begins n t = if is_after_root n then begins_step t else fits mark_class t

@@ -1,7 +1,7 @@
 -- The values: what was read, by its productions.
 use Rattle.std.specs.Prelude.{Bool, true, false, List, [], ◌∷◌, ◌++◌, Option, Some, None, is_some, if◌then◌else◌}
-use Rattle.expr_terms.specs.Tokens.{Token}
-use Rattle.expr_terms.specs.Productions.{Class, Production, parens, conditional, otherwise, keeps, passes}
+use Rattle.expr_keys.specs.declared.tokens.Token.{Token}
+use Rattle.expr_terms.specs.Productions.{Class, Production, parens, if_expr, else_expr, keeps, passes}
 pub use Rattle.expr_terms.specs.declared.raws.Raw.{Raw}
 pub use Rattle.expr_terms.specs.declared.raws.Raw.TheVariants.{Leaf as leaf, Node as node}
 use Rattle.expr_terms.specs.declared.raws.Raw.TheViews.{out-Raw}
@@ -15,11 +15,11 @@ is_parens parens = true
 is_parens _ = false
 
 abbrev pub is_conditional : Production → Bool
-is_conditional conditional = true
+is_conditional if_expr = true
 is_conditional _ = false
 
 abbrev pub is_otherwise : Production → Bool
-is_otherwise otherwise = true
+is_otherwise else_expr = true
 is_otherwise _ = false
 
 abbrev pub as_parens : Raw-F Raw → Bool
@@ -56,8 +56,8 @@ only_inner (v ∷ []) = is_some (as_inner_chain (out-Raw v))
 only_inner (v ∷ w ∷ vs) = false
 
 abbrev pub chain_or : Option (List Raw) → Raw → Raw
-chain_or None v = node otherwise (v ∷ [])
-chain_or (Some vs) v = node otherwise vs
+chain_or None v = node else_expr (v ∷ [])
+chain_or (Some vs) v = node else_expr vs
 
 -- An `if` that is the last part of an `if`, in parentheses or not, goes on with its chain. The parts of a chain stand in the
 -- order in which they are joined: the last `else`, then the last arm (`then`, test), and so on to the first.
@@ -78,7 +78,7 @@ as_else v (Leaf t) = v ∷ []
 as_else v (Node p vs) = if is_otherwise p then vs else v ∷ []
 
 abbrev pub in_chain : Raw → Raw → Raw → Raw
-in_chain test arm last = node conditional (as_else last (out-Raw last) ++ arm ∷ test ∷ [])
+in_chain test arm last = node if_expr (as_else last (out-Raw last) ++ arm ∷ test ∷ [])
 
 abbrev pub build_parens : List Raw → Raw
 build_parens [] = node parens []
@@ -86,16 +86,16 @@ build_parens (v ∷ []) = in_parens v
 build_parens (v ∷ w ∷ vs) = node parens (v ∷ w ∷ vs)
 
 abbrev pub build_else : List Raw → Raw
-build_else [] = node otherwise []
+build_else [] = node else_expr []
 build_else (v ∷ []) = in_else v
-build_else (v ∷ w ∷ vs) = node otherwise (v ∷ w ∷ vs)
+build_else (v ∷ w ∷ vs) = node else_expr (v ∷ w ∷ vs)
 
 abbrev pub build_chain : List Raw → Raw
-build_chain [] = node conditional []
-build_chain (v ∷ []) = node conditional (v ∷ [])
-build_chain (v ∷ w ∷ []) = node conditional (v ∷ w ∷ [])
+build_chain [] = node if_expr []
+build_chain (v ∷ []) = node if_expr (v ∷ [])
+build_chain (v ∷ w ∷ []) = node if_expr (v ∷ w ∷ [])
 build_chain (v ∷ w ∷ x ∷ []) = in_chain v w x
-build_chain (v ∷ w ∷ x ∷ y ∷ vs) = node conditional (v ∷ w ∷ x ∷ y ∷ vs)
+build_chain (v ∷ w ∷ x ∷ y ∷ vs) = node if_expr (v ∷ w ∷ x ∷ y ∷ vs)
 
 abbrev pub build_plain : Production → List Raw → Raw
 build_plain p [] = node p []

@@ -2,172 +2,174 @@
 ghost use Rattle.std.specs.Prelude.{◌≡◌};
 ghost use Rattle.expr_terms.specs.Productions.{body, speaks, of_queries, keeps, passes};
 
-use crate::keys::Key;
 use crate::levels::{chain_body, operation};
-use crate::productions::{Class, Language, Level, Nonterminal, Production, Symbol};
+use expr_keys::{Class, Key, Language, Level, Nonterminal, Production, Symbol};
 
 /// The parts of the production.
 pub fn body(production: Production) -> &'static [Symbol]
     ensures { result.now ≡ body production }
 {
     match production {
-        Production::Top => &[Symbol::One(Nonterminal::Expr)],
-        Production::TypeTop => &[Symbol::One(Nonterminal::SeqType)],
-        Production::Listing => &[
-            Symbol::One(Nonterminal::Single),
-            Symbol::Many(Nonterminal::CommaItem),
+        Production::WholeExpr => &[Symbol::One(Nonterminal::Expr)],
+        Production::WholeSequenceType => &[Symbol::One(Nonterminal::SequenceType)],
+        Production::ExprList => &[
+            Symbol::One(Nonterminal::ExprSingle),
+            Symbol::Many(Nonterminal::CommaExprSingle),
         ],
-        Production::ItemAfter => &[
+        Production::NextExprSingle => &[
             Symbol::Tok(Class::Key(Key::Comma)),
-            Symbol::One(Nonterminal::Single),
+            Symbol::One(Nonterminal::ExprSingle),
         ],
-        Production::Argued => &[
-            Symbol::One(Nonterminal::Single),
-            Symbol::Many(Nonterminal::CommaItem),
+        Production::ArgumentList => &[
+            Symbol::One(Nonterminal::ExprSingle),
+            Symbol::Many(Nonterminal::CommaExprSingle),
         ],
-        Production::Conditional => &[
+        Production::IfExpr => &[
             Symbol::Tok(Class::Key(Key::IfWord)),
             Symbol::Tok(Class::Key(Key::OpenParen)),
             Symbol::One(Nonterminal::Expr),
             Symbol::Tok(Class::Key(Key::CloseParen)),
             Symbol::Tok(Class::Key(Key::ThenWord)),
-            Symbol::One(Nonterminal::Single),
+            Symbol::One(Nonterminal::ExprSingle),
             Symbol::One(Nonterminal::ElsePart),
         ],
-        Production::Otherwise => &[
+        Production::ElseExpr => &[
             Symbol::Tok(Class::Key(Key::ElseWord)),
-            Symbol::One(Nonterminal::Single),
+            Symbol::One(Nonterminal::ExprSingle),
         ],
-        Production::Flwor => &[
+        Production::FlworExpr => &[
             Symbol::One(Nonterminal::Clause),
             Symbol::Many(Nonterminal::NextClause),
-            Symbol::Maybe(Nonterminal::WherePart),
-            Symbol::Maybe(Nonterminal::OrderPart),
+            Symbol::Maybe(Nonterminal::WhereClause),
+            Symbol::Maybe(Nonterminal::OrderByClause),
             Symbol::Tok(Class::Key(Key::ReturnWord)),
-            Symbol::One(Nonterminal::Single),
+            Symbol::One(Nonterminal::ExprSingle),
         ],
-        Production::Quantified => &[
+        Production::QuantifiedExpr => &[
             Symbol::Tok(Class::Quantifier),
-            Symbol::One(Nonterminal::Quant),
-            Symbol::Many(Nonterminal::CommaQuant),
+            Symbol::One(Nonterminal::QuantifiedBinding),
+            Symbol::Many(Nonterminal::CommaQuantifiedBinding),
             Symbol::Tok(Class::Key(Key::SatisfiesWord)),
-            Symbol::One(Nonterminal::Single),
+            Symbol::One(Nonterminal::ExprSingle),
         ],
-        Production::Plain => &[Symbol::One(Nonterminal::Level(Level::Ors))],
+        Production::OperatorExpr => &[Symbol::One(Nonterminal::Level(Level::Or))],
         Production::ForClause => &[
             Symbol::Tok(Class::Key(Key::ForWord)),
-            Symbol::One(Nonterminal::Binding),
-            Symbol::Many(Nonterminal::CommaBinding),
+            Symbol::One(Nonterminal::ForBinding),
+            Symbol::Many(Nonterminal::CommaForBinding),
         ],
         Production::LetClause => &[
             Symbol::Tok(Class::Key(Key::LetWord)),
             Symbol::One(Nonterminal::LetBinding),
-            Symbol::Many(Nonterminal::CommaLet),
+            Symbol::Many(Nonterminal::CommaLetBinding),
         ],
         Production::FollowingClause => &[Symbol::One(Nonterminal::Clause)],
-        Production::Bind => &[
+        Production::ForIn => &[
             Symbol::Tok(Class::Key(Key::Dollar)),
             Symbol::Tok(Class::Name),
-            Symbol::Maybe(Nonterminal::Typing),
-            Symbol::Maybe(Nonterminal::Placing),
+            Symbol::Maybe(Nonterminal::TypeDeclaration),
+            Symbol::Maybe(Nonterminal::PositionalVar),
             Symbol::Tok(Class::Key(Key::InWord)),
-            Symbol::One(Nonterminal::Single),
+            Symbol::One(Nonterminal::ExprSingle),
         ],
-        Production::BindAfter => &[
+        Production::NextForBinding => &[
             Symbol::Tok(Class::Key(Key::Comma)),
-            Symbol::One(Nonterminal::Binding),
+            Symbol::One(Nonterminal::ForBinding),
         ],
-        Production::LetBind => &[
+        Production::LetAssign => &[
             Symbol::Tok(Class::Key(Key::Dollar)),
             Symbol::Tok(Class::Name),
-            Symbol::Maybe(Nonterminal::Typing),
+            Symbol::Maybe(Nonterminal::TypeDeclaration),
             Symbol::Tok(Class::Key(Key::Assign)),
-            Symbol::One(Nonterminal::Single),
+            Symbol::One(Nonterminal::ExprSingle),
         ],
-        Production::LetAfter => &[
+        Production::NextLetBinding => &[
             Symbol::Tok(Class::Key(Key::Comma)),
             Symbol::One(Nonterminal::LetBinding),
         ],
-        Production::QuantBind => &[
+        Production::QuantifiedIn => &[
             Symbol::Tok(Class::Key(Key::Dollar)),
             Symbol::Tok(Class::Name),
-            Symbol::Maybe(Nonterminal::Typing),
+            Symbol::Maybe(Nonterminal::TypeDeclaration),
             Symbol::Tok(Class::Key(Key::InWord)),
-            Symbol::One(Nonterminal::Single),
+            Symbol::One(Nonterminal::ExprSingle),
         ],
-        Production::QuantAfter => &[
+        Production::NextQuantifiedBinding => &[
             Symbol::Tok(Class::Key(Key::Comma)),
-            Symbol::One(Nonterminal::Quant),
+            Symbol::One(Nonterminal::QuantifiedBinding),
         ],
-        Production::Typed => &[
+        Production::AsType => &[
             Symbol::Tok(Class::Key(Key::AsWord)),
-            Symbol::One(Nonterminal::SeqType),
+            Symbol::One(Nonterminal::SequenceType),
         ],
-        Production::Placed => &[
+        Production::AtVariable => &[
             Symbol::Tok(Class::Key(Key::AtWord)),
             Symbol::Tok(Class::Key(Key::Dollar)),
             Symbol::Tok(Class::Name),
         ],
         Production::WhereTest => &[
             Symbol::Tok(Class::Key(Key::WhereWord)),
-            Symbol::One(Nonterminal::Single),
+            Symbol::One(Nonterminal::ExprSingle),
         ],
-        Production::Ordered => &[
+        Production::OrderBy => &[
             Symbol::Tok(Class::Key(Key::OrderWord)),
             Symbol::Tok(Class::Key(Key::ByWord)),
-            Symbol::One(Nonterminal::Spec),
-            Symbol::Many(Nonterminal::CommaSpec),
+            Symbol::One(Nonterminal::OrderSpec),
+            Symbol::Many(Nonterminal::CommaOrderSpec),
         ],
-        Production::Stable => &[
+        Production::StableOrderBy => &[
             Symbol::Tok(Class::Key(Key::StableWord)),
             Symbol::Tok(Class::Key(Key::OrderWord)),
             Symbol::Tok(Class::Key(Key::ByWord)),
-            Symbol::One(Nonterminal::Spec),
-            Symbol::Many(Nonterminal::CommaSpec),
+            Symbol::One(Nonterminal::OrderSpec),
+            Symbol::Many(Nonterminal::CommaOrderSpec),
         ],
-        Production::KeySpec => &[
-            Symbol::One(Nonterminal::Single),
+        Production::OrderKey => &[
+            Symbol::One(Nonterminal::ExprSingle),
             Symbol::Maybe(Nonterminal::Direction),
             Symbol::Maybe(Nonterminal::EmptyPart),
         ],
-        Production::SpecAfter => &[
+        Production::NextOrderSpec => &[
             Symbol::Tok(Class::Key(Key::Comma)),
-            Symbol::One(Nonterminal::Spec),
+            Symbol::One(Nonterminal::OrderSpec),
         ],
-        Production::Directed => &[Symbol::Tok(Class::Way)],
-        Production::Empties => &[
+        Production::OrderDirection => &[Symbol::Tok(Class::Way)],
+        Production::EmptyLeast => &[
             Symbol::Tok(Class::Key(Key::EmptyWord)),
             Symbol::Tok(Class::Key(Key::LeastWord)),
         ],
-        Production::Chain(level) => chain_body(level),
-        Production::Operated(level) => operation(level),
-        Production::Signed => &[Symbol::Tok(Class::Sign), Symbol::One(Nonterminal::Unary)],
-        Production::Unsigned => &[Symbol::One(Nonterminal::Path)],
+        Production::OperatorChain(level) => chain_body(level),
+        Production::OperatorTail(level) => operation(level),
+        Production::Signed => &[
+            Symbol::Tok(Class::Sign),
+            Symbol::One(Nonterminal::UnaryExpr),
+        ],
+        Production::Unsigned => &[Symbol::One(Nonterminal::PathExpr)],
         Production::Rooted => &[
             Symbol::Tok(Class::Key(Key::Slash)),
             Symbol::Longest(Nonterminal::AfterRoot),
         ],
         Production::RootedDeep => &[
             Symbol::Tok(Class::Key(Key::Slashes)),
-            Symbol::One(Nonterminal::Step),
+            Symbol::One(Nonterminal::StepExpr),
             Symbol::Many(Nonterminal::StepMore),
         ],
-        Production::Unrooted => &[Symbol::One(Nonterminal::Relative)],
+        Production::Unrooted => &[Symbol::One(Nonterminal::RelativePathExpr)],
         Production::RootSteps => &[
-            Symbol::One(Nonterminal::Step),
+            Symbol::One(Nonterminal::StepExpr),
             Symbol::Many(Nonterminal::StepMore),
         ],
         Production::Steps => &[
-            Symbol::One(Nonterminal::Step),
+            Symbol::One(Nonterminal::StepExpr),
             Symbol::Many(Nonterminal::StepMore),
         ],
         Production::StepAfter => &[
             Symbol::Tok(Class::Key(Key::Slash)),
-            Symbol::One(Nonterminal::Step),
+            Symbol::One(Nonterminal::StepExpr),
         ],
         Production::DeepAfter => &[
             Symbol::Tok(Class::Key(Key::Slashes)),
-            Symbol::One(Nonterminal::Step),
+            Symbol::One(Nonterminal::StepExpr),
         ],
         Production::AxisStep => &[
             Symbol::Tok(Class::Axis),
@@ -189,7 +191,7 @@ pub fn body(production: Production) -> &'static [Symbol]
             Symbol::Many(Nonterminal::Predicate),
         ],
         Production::FilterStep => &[
-            Symbol::One(Nonterminal::Primary),
+            Symbol::One(Nonterminal::PrimaryExpr),
             Symbol::Many(Nonterminal::Predicate),
         ],
         Production::Predicated => &[
@@ -265,7 +267,7 @@ pub fn body(production: Production) -> &'static [Symbol]
             Symbol::One(Nonterminal::Expr),
             Symbol::Tok(Class::Key(Key::CloseBrace)),
         ],
-        Production::Directly => &[Symbol::One(Nonterminal::Direct)],
+        Production::DirectConstructor => &[Symbol::One(Nonterminal::DirElemConstructor)],
         Production::EmptyType => &[
             Symbol::Tok(Class::Key(Key::EmptySequenceWord)),
             Symbol::Tok(Class::Key(Key::OpenParen)),
@@ -273,9 +275,9 @@ pub fn body(production: Production) -> &'static [Symbol]
         ],
         Production::ItemsType => &[
             Symbol::One(Nonterminal::ItemType),
-            Symbol::Longest(Nonterminal::Occurrence),
+            Symbol::Longest(Nonterminal::OccurrenceIndicator),
         ],
-        Production::Marked => &[Symbol::Tok(Class::Mark)],
+        Production::OccurrenceMark => &[Symbol::Tok(Class::Mark)],
         Production::AnyItem => &[
             Symbol::Tok(Class::Key(Key::ItemWord)),
             Symbol::Tok(Class::Key(Key::OpenParen)),
@@ -283,41 +285,41 @@ pub fn body(production: Production) -> &'static [Symbol]
         ],
         Production::KindItem => &[Symbol::One(Nonterminal::KindTest)],
         Production::AtomicItem => &[Symbol::Tok(Class::Name)],
-        Production::OneType => &[
+        Production::SingleAtomicType => &[
             Symbol::Tok(Class::Name),
             Symbol::Maybe(Nonterminal::QuestionPart),
         ],
-        Production::Questioned => &[Symbol::Tok(Class::Key(Key::Question))],
-        Production::Element => &[
-            Symbol::Tok(Class::Outer),
-            Symbol::Many(Nonterminal::Pair),
-            Symbol::One(Nonterminal::Closing),
+        Production::QuestionMark => &[Symbol::Tok(Class::Key(Key::Question))],
+        Production::DirectElement => &[
+            Symbol::Tok(Class::StartTagOpen),
+            Symbol::Many(Nonterminal::DirAttribute),
+            Symbol::One(Nonterminal::DirElemClosing),
         ],
-        Production::Full => &[
+        Production::ElementContent => &[
             Symbol::Tok(Class::TagEnd),
-            Symbol::Many(Nonterminal::Item),
-            Symbol::Tok(Class::Shut),
+            Symbol::Many(Nonterminal::DirElemContent),
+            Symbol::Tok(Class::EndTag),
         ],
-        Production::NoContent => &[Symbol::Tok(Class::EmptyEnd)],
-        Production::Paired => &[
+        Production::EmptyElement => &[Symbol::Tok(Class::EmptyEnd)],
+        Production::AttributeValue => &[
             Symbol::Tok(Class::Attribute),
-            Symbol::Many(Nonterminal::Part),
-            Symbol::Tok(Class::Unquote),
+            Symbol::Many(Nonterminal::AttrValueContent),
+            Symbol::Tok(Class::AttributeEnd),
         ],
         Production::PartChars => &[Symbol::Tok(Class::Chars)],
         Production::PartEnclosed => &[
-            Symbol::Tok(Class::Enter),
+            Symbol::Tok(Class::EnclosedOpen),
             Symbol::One(Nonterminal::Expr),
             Symbol::Tok(Class::Key(Key::CloseBrace)),
         ],
-        Production::Child => &[
-            Symbol::Tok(Class::Inner),
-            Symbol::Many(Nonterminal::Pair),
-            Symbol::One(Nonterminal::Closing),
+        Production::ChildElement => &[
+            Symbol::Tok(Class::ChildTagOpen),
+            Symbol::Many(Nonterminal::DirAttribute),
+            Symbol::One(Nonterminal::DirElemClosing),
         ],
         Production::ItemChars => &[Symbol::Tok(Class::Chars)],
         Production::ItemEnclosed => &[
-            Symbol::Tok(Class::Enter),
+            Symbol::Tok(Class::EnclosedOpen),
             Symbol::One(Nonterminal::Expr),
             Symbol::Tok(Class::Key(Key::CloseBrace)),
         ],
@@ -331,16 +333,16 @@ pub fn of_queries(production: Production) -> bool
     match production {
         Production::LetClause
         | Production::FollowingClause
-        | Production::Typed
-        | Production::Placed
+        | Production::AsType
+        | Production::AtVariable
         | Production::WhereTest
-        | Production::Ordered
-        | Production::Stable
+        | Production::OrderBy
+        | Production::StableOrderBy
         | Production::Computed
         | Production::Constructed
         | Production::PiConstructed
         | Production::Enclosing
-        | Production::Directly => true,
+        | Production::DirectConstructor => true,
         _ => false,
     }
 }
@@ -355,12 +357,16 @@ pub fn speaks(language: Language, production: Production) -> bool
     }
 }
 
-/// Whether a token of the class tells more than its production does, and so stands in the value.
+/// Whether a token of the class tells more than its production does, and so is in the value.
 pub fn keeps(class: Class) -> bool
     ensures { result ≡ keeps class }
 {
     match class {
-        Class::Key(_) | Class::Unquote | Class::TagEnd | Class::EmptyEnd | Class::Enter => false,
+        Class::Key(_)
+        | Class::AttributeEnd
+        | Class::TagEnd
+        | Class::EmptyEnd
+        | Class::EnclosedOpen => false,
         _ => true,
     }
 }
@@ -370,18 +376,18 @@ pub fn passes(production: Production) -> bool
     ensures { result ≡ passes production }
 {
     match production {
-        Production::Top => true,
-        Production::TypeTop => true,
-        Production::Listing => true,
-        Production::ItemAfter => true,
-        Production::Plain => true,
+        Production::WholeExpr => true,
+        Production::WholeSequenceType => true,
+        Production::ExprList => true,
+        Production::NextExprSingle => true,
+        Production::OperatorExpr => true,
         Production::FollowingClause => true,
-        Production::BindAfter => true,
-        Production::LetAfter => true,
-        Production::QuantAfter => true,
-        Production::SpecAfter => true,
-        Production::Directed => true,
-        Production::Chain(_) => true,
+        Production::NextForBinding => true,
+        Production::NextLetBinding => true,
+        Production::NextQuantifiedBinding => true,
+        Production::NextOrderSpec => true,
+        Production::OrderDirection => true,
+        Production::OperatorChain(_) => true,
         Production::Unsigned => true,
         Production::Rooted => true,
         Production::Unrooted => true,
@@ -392,9 +398,9 @@ pub fn passes(production: Production) -> bool
         Production::KindTested => true,
         Production::PiNamed => true,
         Production::KindNamed => true,
-        Production::Directly => true,
+        Production::DirectConstructor => true,
         Production::ItemsType => true,
-        Production::Marked => true,
+        Production::OccurrenceMark => true,
         Production::KindItem => true,
         Production::AtomicItem => true,
         Production::PartChars => true,

@@ -2,12 +2,9 @@
 ghost use Rattle.std.specs.Prelude.{◌≡◌};
 ghost use Rattle.expr_terms.specs.Choices.{second_key, second_token, open_next, second_of, with_paren, with_dollar, with_brace, with_named, starter_word, starter_mark, starter_name, starter_of, in_kinds, in_tests, in_primaries, in_direct, in_items, in_parts, in_closing, in_steps, in_paths, in_unaries, in_singles, in_clauses, in_more_steps, in_item_types, in_types, then_one, pick, is_order, choose};
 
-use crate::classes::{fits_key, fits_name};
-use crate::keys::{Key, is_worded};
-use crate::productions::{Nonterminal, Production};
-use crate::tokens::Token;
+use expr_keys::{Key, Nonterminal, Production, Token, fits_key, fits_name, is_worded};
 
-/// What the tokens behind a word tell of it.
+/// What the tokens after a word tell of it.
 #[derive(Clone, Copy)]
 pub enum Second {
     /// `(` comes next.
@@ -54,10 +51,10 @@ pub enum Starter {
     Enclosing,
     ItemType,
     EmptyType,
-    Outer,
-    Inner,
+    StartTagOpen,
+    ChildTagOpen,
     Chars,
-    Enter,
+    EnclosedOpen,
     FullTag,
     EmptyTag,
     Nothing,
@@ -178,10 +175,10 @@ pub fn starter_of(token: &Token, second: Second) -> Starter
         Token::AnyLocal(_) | Token::AnyPrefix(_) => Starter::Wild,
         Token::Digits(_) => Starter::Digits,
         Token::Quoted(_) => Starter::Quoted,
-        Token::Outer(_, _) => Starter::Outer,
-        Token::Inner(_, _) => Starter::Inner,
+        Token::StartTagOpen(_, _) => Starter::StartTagOpen,
+        Token::ChildTagOpen(_, _) => Starter::ChildTagOpen,
         Token::Chars(_, _) => Starter::Chars,
-        Token::Enter => Starter::Enter,
+        Token::EnclosedOpen => Starter::EnclosedOpen,
         Token::TagEnd => Starter::FullTag,
         Token::EmptyEnd => Starter::EmptyTag,
         _ => Starter::Nothing,
@@ -232,7 +229,7 @@ fn in_primaries(of: Starter) -> Option<Production>
         Starter::Constructed => Some(Production::Constructed),
         Starter::PiConstructed => Some(Production::PiConstructed),
         Starter::Enclosing => Some(Production::Enclosing),
-        Starter::Outer => Some(Production::Directly),
+        Starter::StartTagOpen => Some(Production::DirectConstructor),
         _ => None,
     }
 }
@@ -241,7 +238,7 @@ fn in_direct(of: Starter) -> Option<Production>
     ensures { result ≡ in_direct of }
 {
     match of {
-        Starter::Outer => Some(Production::Element),
+        Starter::StartTagOpen => Some(Production::DirectElement),
         _ => None,
     }
 }
@@ -250,7 +247,7 @@ fn in_items(of: Starter) -> Option<Production>
     ensures { result ≡ in_items of }
 {
     match of {
-        Starter::Inner => Some(Production::Child),
+        Starter::ChildTagOpen => Some(Production::ChildElement),
         Starter::Chars => Some(Production::ItemChars),
         _ => Some(Production::ItemEnclosed),
     }
@@ -269,8 +266,8 @@ fn in_closing(of: Starter) -> Option<Production>
     ensures { result ≡ in_closing of }
 {
     match of {
-        Starter::FullTag => Some(Production::Full),
-        _ => Some(Production::NoContent),
+        Starter::FullTag => Some(Production::ElementContent),
+        _ => Some(Production::EmptyElement),
     }
 }
 
@@ -296,7 +293,7 @@ fn in_steps(of: Starter) -> Option<Production>
         | Starter::Constructed
         | Starter::PiConstructed
         | Starter::Enclosing
-        | Starter::Outer => Some(Production::FilterStep),
+        | Starter::StartTagOpen => Some(Production::FilterStep),
         _ => None,
     }
 }
@@ -324,10 +321,10 @@ fn in_singles(of: Starter) -> Option<Production>
     ensures { result ≡ in_singles of }
 {
     match of {
-        Starter::Conditional => Some(Production::Conditional),
-        Starter::Looping | Starter::Letting => Some(Production::Flwor),
-        Starter::Quantifying => Some(Production::Quantified),
-        _ => then_one(in_unaries(of), Production::Plain),
+        Starter::Conditional => Some(Production::IfExpr),
+        Starter::Looping | Starter::Letting => Some(Production::FlworExpr),
+        Starter::Quantifying => Some(Production::QuantifiedExpr),
+        _ => then_one(in_unaries(of), Production::OperatorExpr),
     }
 }
 
@@ -375,53 +372,53 @@ pub fn pick(nonterminal: Nonterminal, of: Starter) -> Option<Production>
     ensures { result ≡ pick nonterminal of }
 {
     match nonterminal {
-        Nonterminal::Whole => Some(Production::Top),
-        Nonterminal::WholeType => Some(Production::TypeTop),
-        Nonterminal::Expr => then_one(in_singles(of), Production::Listing),
-        Nonterminal::CommaItem => Some(Production::ItemAfter),
-        Nonterminal::Arguments => then_one(in_singles(of), Production::Argued),
-        Nonterminal::Single => in_singles(of),
-        Nonterminal::ElsePart => Some(Production::Otherwise),
+        Nonterminal::Whole => Some(Production::WholeExpr),
+        Nonterminal::WholeType => Some(Production::WholeSequenceType),
+        Nonterminal::Expr => then_one(in_singles(of), Production::ExprList),
+        Nonterminal::CommaExprSingle => Some(Production::NextExprSingle),
+        Nonterminal::Arguments => then_one(in_singles(of), Production::ArgumentList),
+        Nonterminal::ExprSingle => in_singles(of),
+        Nonterminal::ElsePart => Some(Production::ElseExpr),
         Nonterminal::Clause => in_clauses(of),
         Nonterminal::NextClause => Some(Production::FollowingClause),
-        Nonterminal::Binding => Some(Production::Bind),
-        Nonterminal::CommaBinding => Some(Production::BindAfter),
-        Nonterminal::LetBinding => Some(Production::LetBind),
-        Nonterminal::CommaLet => Some(Production::LetAfter),
-        Nonterminal::Quant => Some(Production::QuantBind),
-        Nonterminal::CommaQuant => Some(Production::QuantAfter),
-        Nonterminal::Typing => Some(Production::Typed),
-        Nonterminal::Placing => Some(Production::Placed),
-        Nonterminal::WherePart => Some(Production::WhereTest),
-        Nonterminal::OrderPart => Some(Production::Ordered),
-        Nonterminal::Spec => Some(Production::KeySpec),
-        Nonterminal::CommaSpec => Some(Production::SpecAfter),
-        Nonterminal::Direction => Some(Production::Directed),
-        Nonterminal::EmptyPart => Some(Production::Empties),
-        Nonterminal::Level(level) => then_one(in_unaries(of), Production::Chain(level)),
-        Nonterminal::Tail(level) => Some(Production::Operated(level)),
-        Nonterminal::Unary => in_unaries(of),
-        Nonterminal::Path => in_paths(of),
+        Nonterminal::ForBinding => Some(Production::ForIn),
+        Nonterminal::CommaForBinding => Some(Production::NextForBinding),
+        Nonterminal::LetBinding => Some(Production::LetAssign),
+        Nonterminal::CommaLetBinding => Some(Production::NextLetBinding),
+        Nonterminal::QuantifiedBinding => Some(Production::QuantifiedIn),
+        Nonterminal::CommaQuantifiedBinding => Some(Production::NextQuantifiedBinding),
+        Nonterminal::TypeDeclaration => Some(Production::AsType),
+        Nonterminal::PositionalVar => Some(Production::AtVariable),
+        Nonterminal::WhereClause => Some(Production::WhereTest),
+        Nonterminal::OrderByClause => Some(Production::OrderBy),
+        Nonterminal::OrderSpec => Some(Production::OrderKey),
+        Nonterminal::CommaOrderSpec => Some(Production::NextOrderSpec),
+        Nonterminal::Direction => Some(Production::OrderDirection),
+        Nonterminal::EmptyPart => Some(Production::EmptyLeast),
+        Nonterminal::Level(level) => then_one(in_unaries(of), Production::OperatorChain(level)),
+        Nonterminal::Tail(level) => Some(Production::OperatorTail(level)),
+        Nonterminal::UnaryExpr => in_unaries(of),
+        Nonterminal::PathExpr => in_paths(of),
         Nonterminal::AfterRoot => then_one(in_steps(of), Production::RootSteps),
-        Nonterminal::Relative => then_one(in_steps(of), Production::Steps),
+        Nonterminal::RelativePathExpr => then_one(in_steps(of), Production::Steps),
         Nonterminal::StepMore => in_more_steps(of),
-        Nonterminal::Step => in_steps(of),
+        Nonterminal::StepExpr => in_steps(of),
         Nonterminal::Predicate => Some(Production::Predicated),
         Nonterminal::NodeTest => in_tests(of),
         Nonterminal::KindTest => in_kinds(of),
         Nonterminal::PiArgument => Some(Production::PiNamed),
         Nonterminal::NamedArgument => Some(Production::KindNamed),
-        Nonterminal::Primary => in_primaries(of),
-        Nonterminal::SeqType => in_types(of),
+        Nonterminal::PrimaryExpr => in_primaries(of),
+        Nonterminal::SequenceType => in_types(of),
         Nonterminal::ItemType => in_item_types(of),
-        Nonterminal::Occurrence => Some(Production::Marked),
-        Nonterminal::SingleType => Some(Production::OneType),
-        Nonterminal::QuestionPart => Some(Production::Questioned),
-        Nonterminal::Direct => in_direct(of),
-        Nonterminal::Closing => in_closing(of),
-        Nonterminal::Pair => Some(Production::Paired),
-        Nonterminal::Part => in_parts(of),
-        Nonterminal::Item => in_items(of),
+        Nonterminal::OccurrenceIndicator => Some(Production::OccurrenceMark),
+        Nonterminal::SingleType => Some(Production::SingleAtomicType),
+        Nonterminal::QuestionPart => Some(Production::QuestionMark),
+        Nonterminal::DirElemConstructor => in_direct(of),
+        Nonterminal::DirElemClosing => in_closing(of),
+        Nonterminal::DirAttribute => Some(Production::AttributeValue),
+        Nonterminal::AttrValueContent => in_parts(of),
+        Nonterminal::DirElemContent => in_items(of),
     }
 }
 
@@ -429,7 +426,7 @@ fn is_order(nonterminal: Nonterminal) -> bool
     ensures { result ≡ is_order nonterminal }
 {
     match nonterminal {
-        Nonterminal::OrderPart => true,
+        Nonterminal::OrderByClause => true,
         _ => false,
     }
 }
@@ -440,9 +437,9 @@ pub fn choose(nonterminal: Nonterminal, token: &Token, second: Second) -> Option
 {
     if is_order(nonterminal) {
         if fits_key(Key::StableWord, token) {
-            Some(Production::Stable)
+            Some(Production::StableOrderBy)
         } else {
-            Some(Production::Ordered)
+            Some(Production::OrderBy)
         }
     } else {
         pick(nonterminal, starter_of(token, second))

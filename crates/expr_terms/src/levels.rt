@@ -1,62 +1,61 @@
 // The productions of the levels of operators.
 ghost use Rattle.std.specs.Prelude.{◌≡◌};
-ghost use Rattle.expr_terms.specs.Productions.{body, chain, operation};
+ghost use Rattle.expr_terms.specs.Productions.{body, operator_chain, operation};
 
-use crate::keys::Key;
-use crate::productions::{Class, Level, Nonterminal, Symbol};
+use expr_keys::{Class, Key, Level, Nonterminal, Symbol};
 
 /// The parts of a level.
 pub fn chain_body(level: Level) -> &'static [Symbol]
-    ensures { result.now ≡ body (chain level) }
+    ensures { result.now ≡ body (operator_chain level) }
 {
     match level {
-        Level::Ors => &[
-            Symbol::One(Nonterminal::Level(Level::Ands)),
-            Symbol::Many(Nonterminal::Tail(Level::Ors)),
+        Level::Or => &[
+            Symbol::One(Nonterminal::Level(Level::And)),
+            Symbol::Many(Nonterminal::Tail(Level::Or)),
         ],
-        Level::Ands => &[
-            Symbol::One(Nonterminal::Level(Level::Compares)),
-            Symbol::Many(Nonterminal::Tail(Level::Ands)),
+        Level::And => &[
+            Symbol::One(Nonterminal::Level(Level::Comparison)),
+            Symbol::Many(Nonterminal::Tail(Level::And)),
         ],
-        Level::Compares => &[
-            Symbol::One(Nonterminal::Level(Level::Ranges)),
-            Symbol::Maybe(Nonterminal::Tail(Level::Compares)),
+        Level::Comparison => &[
+            Symbol::One(Nonterminal::Level(Level::Range)),
+            Symbol::Maybe(Nonterminal::Tail(Level::Comparison)),
         ],
-        Level::Ranges => &[
-            Symbol::One(Nonterminal::Level(Level::Adds)),
-            Symbol::Maybe(Nonterminal::Tail(Level::Ranges)),
+        Level::Range => &[
+            Symbol::One(Nonterminal::Level(Level::Additive)),
+            Symbol::Maybe(Nonterminal::Tail(Level::Range)),
         ],
-        Level::Adds => &[
-            Symbol::One(Nonterminal::Level(Level::Multiplies)),
-            Symbol::Many(Nonterminal::Tail(Level::Adds)),
+        Level::Additive => &[
+            Symbol::One(Nonterminal::Level(Level::Multiplicative)),
+            Symbol::Many(Nonterminal::Tail(Level::Additive)),
         ],
-        Level::Multiplies => &[
-            Symbol::One(Nonterminal::Level(Level::Unions)),
-            Symbol::Many(Nonterminal::Tail(Level::Multiplies)),
+        Level::Multiplicative => &[
+            Symbol::One(Nonterminal::Level(Level::Union)),
+            Symbol::Many(Nonterminal::Tail(Level::Multiplicative)),
         ],
-        Level::Unions => &[
-            Symbol::One(Nonterminal::Level(Level::Crosses)),
-            Symbol::Many(Nonterminal::Tail(Level::Unions)),
+        Level::Union => &[
+            Symbol::One(Nonterminal::Level(Level::Intersect)),
+            Symbol::Many(Nonterminal::Tail(Level::Union)),
         ],
-        Level::Crosses => &[
-            Symbol::One(Nonterminal::Level(Level::Instances)),
-            Symbol::Many(Nonterminal::Tail(Level::Crosses)),
+        Level::Intersect => &[
+            Symbol::One(Nonterminal::Level(Level::InstanceOf)),
+            Symbol::Many(Nonterminal::Tail(Level::Intersect)),
         ],
-        Level::Instances => &[
-            Symbol::One(Nonterminal::Level(Level::Treats)),
-            Symbol::Maybe(Nonterminal::Tail(Level::Instances)),
+        Level::InstanceOf => &[
+            Symbol::One(Nonterminal::Level(Level::Treat)),
+            Symbol::Maybe(Nonterminal::Tail(Level::InstanceOf)),
         ],
-        Level::Treats => &[
-            Symbol::One(Nonterminal::Level(Level::Castables)),
-            Symbol::Maybe(Nonterminal::Tail(Level::Treats)),
+        Level::Treat => &[
+            Symbol::One(Nonterminal::Level(Level::Castable)),
+            Symbol::Maybe(Nonterminal::Tail(Level::Treat)),
         ],
-        Level::Castables => &[
-            Symbol::One(Nonterminal::Level(Level::Casts)),
-            Symbol::Maybe(Nonterminal::Tail(Level::Castables)),
+        Level::Castable => &[
+            Symbol::One(Nonterminal::Level(Level::Cast)),
+            Symbol::Maybe(Nonterminal::Tail(Level::Castable)),
         ],
-        Level::Casts => &[
-            Symbol::One(Nonterminal::Unary),
-            Symbol::Maybe(Nonterminal::Tail(Level::Casts)),
+        Level::Cast => &[
+            Symbol::One(Nonterminal::UnaryExpr),
+            Symbol::Maybe(Nonterminal::Tail(Level::Cast)),
         ],
     }
 }
@@ -66,54 +65,54 @@ pub fn operation(level: Level) -> &'static [Symbol]
     ensures { result.now ≡ operation level }
 {
     match level {
-        Level::Ors => &[
-            Symbol::Tok(Class::Operator(Level::Ors)),
-            Symbol::One(Nonterminal::Level(Level::Ands)),
+        Level::Or => &[
+            Symbol::Tok(Class::Operator(Level::Or)),
+            Symbol::One(Nonterminal::Level(Level::And)),
         ],
-        Level::Ands => &[
-            Symbol::Tok(Class::Operator(Level::Ands)),
-            Symbol::One(Nonterminal::Level(Level::Compares)),
+        Level::And => &[
+            Symbol::Tok(Class::Operator(Level::And)),
+            Symbol::One(Nonterminal::Level(Level::Comparison)),
         ],
-        Level::Compares => &[
-            Symbol::Tok(Class::Operator(Level::Compares)),
-            Symbol::One(Nonterminal::Level(Level::Ranges)),
+        Level::Comparison => &[
+            Symbol::Tok(Class::Operator(Level::Comparison)),
+            Symbol::One(Nonterminal::Level(Level::Range)),
         ],
-        Level::Ranges => &[
-            Symbol::Tok(Class::Operator(Level::Ranges)),
-            Symbol::One(Nonterminal::Level(Level::Adds)),
+        Level::Range => &[
+            Symbol::Tok(Class::Operator(Level::Range)),
+            Symbol::One(Nonterminal::Level(Level::Additive)),
         ],
-        Level::Adds => &[
-            Symbol::Tok(Class::Operator(Level::Adds)),
-            Symbol::One(Nonterminal::Level(Level::Multiplies)),
+        Level::Additive => &[
+            Symbol::Tok(Class::Operator(Level::Additive)),
+            Symbol::One(Nonterminal::Level(Level::Multiplicative)),
         ],
-        Level::Multiplies => &[
-            Symbol::Tok(Class::Operator(Level::Multiplies)),
-            Symbol::One(Nonterminal::Level(Level::Unions)),
+        Level::Multiplicative => &[
+            Symbol::Tok(Class::Operator(Level::Multiplicative)),
+            Symbol::One(Nonterminal::Level(Level::Union)),
         ],
-        Level::Unions => &[
-            Symbol::Tok(Class::Operator(Level::Unions)),
-            Symbol::One(Nonterminal::Level(Level::Crosses)),
+        Level::Union => &[
+            Symbol::Tok(Class::Operator(Level::Union)),
+            Symbol::One(Nonterminal::Level(Level::Intersect)),
         ],
-        Level::Crosses => &[
-            Symbol::Tok(Class::Operator(Level::Crosses)),
-            Symbol::One(Nonterminal::Level(Level::Instances)),
+        Level::Intersect => &[
+            Symbol::Tok(Class::Operator(Level::Intersect)),
+            Symbol::One(Nonterminal::Level(Level::InstanceOf)),
         ],
-        Level::Instances => &[
+        Level::InstanceOf => &[
             Symbol::Tok(Class::Key(Key::InstanceWord)),
             Symbol::Tok(Class::Key(Key::OfWord)),
-            Symbol::One(Nonterminal::SeqType),
+            Symbol::One(Nonterminal::SequenceType),
         ],
-        Level::Treats => &[
+        Level::Treat => &[
             Symbol::Tok(Class::Key(Key::TreatWord)),
             Symbol::Tok(Class::Key(Key::AsWord)),
-            Symbol::One(Nonterminal::SeqType),
+            Symbol::One(Nonterminal::SequenceType),
         ],
-        Level::Castables => &[
+        Level::Castable => &[
             Symbol::Tok(Class::Key(Key::CastableWord)),
             Symbol::Tok(Class::Key(Key::AsWord)),
             Symbol::One(Nonterminal::SingleType),
         ],
-        Level::Casts => &[
+        Level::Cast => &[
             Symbol::Tok(Class::Key(Key::CastWord)),
             Symbol::Tok(Class::Key(Key::AsWord)),
             Symbol::One(Nonterminal::SingleType),

@@ -1,12 +1,11 @@
 // What was read, by its productions.
 ghost use Rattle.std.specs.Prelude.{◌≡◌, ◌++◌, ◌∷◌, [], IfOk, is_some};
 ghost use Rattle.expr_terms.specs.declared.raws.Raw.TheViews.{out-Raw};
-ghost use Rattle.expr_terms.specs.Productions.{conditional};
+ghost use Rattle.expr_terms.specs.Productions.{if_expr};
 ghost use Rattle.expr_terms.specs.Raws.{is_parens, is_otherwise, is_conditional, as_parens, as_chain, only_chain, as_inner_chain, only_parens, only_inner, as_else, as_last, as_parts, in_chain, build_parens, build_else, build_chain, build_plain, build, node};
 
 use crate::bodies::passes;
-use crate::productions::Production;
-use crate::tokens::Token;
+use expr_keys::{Production, Token};
 use std::alloc::{AllocError, Global};
 use xt_names::List;
 
@@ -34,7 +33,7 @@ fn is_otherwise(production: Production) -> bool
     ensures { result ≡ is_otherwise production }
 {
     match production {
-        Production::Otherwise => true,
+        Production::ElseExpr => true,
         _ => false,
     }
 }
@@ -43,7 +42,7 @@ fn is_conditional(production: Production) -> bool
     ensures { result ≡ is_conditional production }
 {
     match production {
-        Production::Conditional => true,
+        Production::IfExpr => true,
         _ => false,
     }
 }
@@ -145,7 +144,7 @@ fn inner_chain(value: Raw) -> Option<List<Raw>>
     }
 }
 
-/// Whether the only one of the parts stands in parentheses.
+/// Whether the only one of the parts is in parentheses.
 fn is_only_parens(parts: &[Raw]) -> bool
     ensures { result ≡ only_parens parts.now }
 {
@@ -188,11 +187,11 @@ fn build_else(parts: Vec<Raw>) -> Raw
     if is_only_inner(parts.as_slice()) {
         if let Some(value) = parts.pop() {
             if let Some(arms) = inner_chain(value) {
-                return Raw::Node(Production::Otherwise, arms);
+                return Raw::Node(Production::ElseExpr, arms);
             }
         }
     }
-    Raw::Node(Production::Otherwise, List::of_vec(parts))
+    Raw::Node(Production::ElseExpr, List::of_vec(parts))
 }
 
 fn as_last(value: &Raw) -> bool
@@ -239,13 +238,13 @@ fn in_chain(alloc: Global, test: Raw, arm: Raw, last: Raw) -> Result<Raw, AllocE
     let arms = as_else(alloc, last)?;
     let arms = pushed(arms, arm)?;
     let arms = pushed(arms, test)?;
-    Ok(Raw::Node(Production::Conditional, List::of_vec(arms)))
+    Ok(Raw::Node(Production::IfExpr, List::of_vec(arms)))
 }
 
 fn as_conditional(parts: Vec<Raw>) -> Raw
-    ensures { result ≡ node conditional parts.items }
+    ensures { result ≡ node if_expr parts.items }
 {
-    Raw::Node(Production::Conditional, List::of_vec(parts))
+    Raw::Node(Production::IfExpr, List::of_vec(parts))
 }
 
 #[tactic(auto, using(crate::proofs::BuildLemmas::builds))]

@@ -3,10 +3,12 @@ use Rattle.std.proofs.Common.{◌≡◌, ℕ, List, [], ◌∷◌, Bool, true, f
 use Rattle.std.proofs.lemmas.Slice.Eq.{bytes_eq-Decides}
 use Rattle.std.specs.List.{list_all}
 use Rattle.std.specs.Str.{bytes_eq, chars}
-use Rattle.expr_terms.specs.Keys.{key_text, is_worded}
+use Rattle.expr_keys.specs.Keys.{key_text, is_worded}
 use Rattle.expr_tokens.specs.Words.{words_by, symbols_by, key_in, key_of_word, key_of_symbol}
-use Rattle.expr_terms.specs.declared.keys.Key.{Key}
-use Rattle.expr_terms.specs.declared.keys.Key.TheVariants.{OpenParen as open_paren, CloseParen as close_paren, OpenBracket as open_bracket, CloseBracket as close_bracket, OpenBrace as open_brace, CloseBrace as close_brace, Comma as comma, Dot as dot, Dots as dots, Slash as slash, Slashes as slashes, AtSign as at_sign, Colons as colons, Bar as bar, Plus as plus, Minus as minus, Star as star, Equal as equal, NotEqual as not_equal, Less as less, LessEqual as less_equal, Greater as greater, GreaterEqual as greater_equal, Before as before, After as after, Dollar as dollar, Question as question, Semicolon as semicolon, Assign as assign, IfWord as if_word, ThenWord as then_word, ElseWord as else_word, ForWord as for_word, InWord as in_word, ReturnWord as return_word, SomeWord as some_word, EveryWord as every_word, SatisfiesWord as satisfies_word, LetWord as let_word, AtWord as at_word, WhereWord as where_word, OrderWord as order_word, ByWord as by_word, StableWord as stable_word, AscendingWord as ascending_word, DescendingWord as descending_word, EmptyWord as empty_word, LeastWord as least_word, AsWord as as_word, OfWord as of_word, InstanceWord as instance_word, TreatWord as treat_word, CastableWord as castable_word, CastWord as cast_word, ToWord as to_word, UnionWord as union_word, IntersectWord as intersect_word, ExceptWord as except_word, IdivWord as idiv_word, ModWord as mod_word, AndWord as and_word, OrWord as or_word, IsWord as is_key_word, EqWord as eq_word, NeWord as ne_word, LtWord as lt_word, LeWord as le_word, GtWord as gt_word, GeWord as ge_word, DocumentWord as document_word, AncestorWord as ancestor_word, AncestorOrSelfWord as ancestor_or_self_word, ChildWord as child_word, DescendantWord as descendant_word, DescendantOrSelfWord as descendant_or_self_word, FollowingWord as following_word, FollowingSiblingWord as following_sibling_word, NamespaceWord as namespace_word, ParentWord as parent_word, PrecedingWord as preceding_word, PrecedingSiblingWord as preceding_sibling_word, SelfWord as self_word, AttributeWord as attribute_word, CommentWord as comment_word, DocumentNodeWord as document_node_word, ElementWord as element_word, EmptySequenceWord as empty_sequence_word, ItemWord as item_word, NodeWord as node_word, ProcessingInstructionWord as pi_word, SchemaAttributeWord as schema_attribute_word, SchemaElementWord as schema_element_word, TextWord as text_word, TypeswitchWord as typeswitch_word}
+use Rattle.expr_keys.specs.declared.keys.Key.{Key}
+use Rattle.expr_keys.specs.declared.keys.Key.TheVariants.{OpenParen as open_paren, CloseParen as close_paren, OpenBracket as open_bracket, CloseBracket as close_bracket, OpenBrace as open_brace, CloseBrace as close_brace, Comma as comma, Dot as dot, Dots as dots, Slash as slash, Slashes as slashes, AtSign as at_sign, Colons as colons, Bar as bar, Plus as plus, Minus as minus, Star as star, Equal as equal, NotEqual as not_equal, Less as less, LessEqual as less_equal, Greater as greater, GreaterEqual as greater_equal, Before as before, After as after, Dollar as dollar, Question as question, Semicolon as semicolon, Assign as assign, IfWord as if_word, ThenWord as then_word, ElseWord as else_word, ForWord as for_word, InWord as in_word, ReturnWord as return_word, SomeWord as some_word, EveryWord as every_word, SatisfiesWord as satisfies_word, LetWord as let_word, AtWord as at_word, WhereWord as where_word, OrderWord as order_word, ByWord as by_word, StableWord as stable_word, AscendingWord as ascending_word, DescendingWord as descending_word, EmptyWord as empty_word, LeastWord as least_word, AsWord as as_word, OfWord as of_word, InstanceWord as instance_word, TreatWord as treat_word, CastableWord as castable_word, CastWord as cast_word, ToWord as to_word, UnionWord as union_word, IntersectWord as intersect_word, ExceptWord as except_word, IdivWord as idiv_word, ModWord as mod_word, AndWord as and_word, OrWord as or_word, IsWord as is_key_word, EqWord as eq_word, NeWord as ne_word, LtWord as lt_word, LeWord as le_word, GtWord as gt_word, GeWord as ge_word, DocumentWord as document_word, AncestorWord as ancestor_word, AncestorOrSelfWord as ancestor_or_self_word, ChildWord as child_word, DescendantWord as descendant_word, DescendantOrSelfWord as descendant_or_self_word, FollowingWord as following_word, FollowingSiblingWord as following_sibling_word, NamespaceWord as namespace_word, ParentWord as parent_word, PrecedingWord as preceding_word, PrecedingSiblingWord as preceding_sibling_word, SelfWord as self_word, AttributeWord as attribute_word, CommentWord as comment_word, DocumentNodeWord as document_node_word, ElementWord as element_word, EmptySequenceWord as empty_sequence_word, ItemWord as item_word, NodeWord as node_word, ProcessingInstructionWord as pi_word, SchemaAttributeWord as schema_attribute_word, SchemaElementWord as schema_element_word, TextWord as text_word, TypeswitchWord as typeswitch_word}
+use Rattle.xt_names.proofs.BoolLemmas.{never as wrong}
+use Rattle.xt_names.proofs.ListLemmas.{some_same}
 
 pub ascii_key : (k : Key) → list_all (λ b. nat_lt b 128) (key_text k) ≡ true
 ascii_key open_paren = refl
@@ -121,9 +123,6 @@ word_by_first s rest x r e f g = g ∙ by_first_word (chars s) x (rw (← e) f)
 pub symbol_by_first : (s rest : List ℕ) (x : ℕ) (r : Option Key) → rest ≡ s → Some x ≡ slice_get (chars rest) 0 → r ≡ key_in (symbols_by x) (chars s) → r ≡ key_of_symbol (chars s)
 symbol_by_first s rest x r e f g = g ∙ by_first_symbol (chars s) x (rw (← e) f)
 
-wrong : {P : Type 0} → false ≡ true → P
-wrong e = cc
-
 pub word_found : (k : Key) → is_worded k ≡ true → key_of_word (key_text k) ≡ Some k
 word_found if_word e = refl
 word_found then_word e = refl
@@ -224,9 +223,6 @@ symbol_found semicolon e = refl
 symbol_found assign e = refl
 symbol_found _ e = wrong (sym e)
 
-some_key : {a b : Key} → Some a ≡ Some b → a ≡ b
-some_key e = cc
-
 never : {k : Key} {P : Type 0} → None ≡ Some k → P
 never e = cc
 
@@ -235,7 +231,7 @@ key_in-text [] cs k e = never e
 key_in-text (x ∷ ks) cs k e = go (bytes_eq cs (key_text x)) refl e (key_in-text ks cs k)
   where
     go : (b : Bool) → bytes_eq cs (key_text x) ≡ b → cond b (Some x) (key_in ks cs) ≡ Some k → (key_in ks cs ≡ Some k → key_text k ≡ cs) → key_text k ≡ cs
-    go true f e rec = ap key_text (sym (some_key e)) ∙ sym ((bytes_eq-Decides cs (key_text x)).0 f)
+    go true f e rec = ap key_text (sym (some_same e)) ∙ sym ((bytes_eq-Decides cs (key_text x)).0 f)
     go false f e rec = rec e
 
 pub word_text : (k : Key) (cs : List ℕ) → key_of_word cs ≡ Some k → key_text k ≡ cs

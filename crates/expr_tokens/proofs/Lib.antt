@@ -2,3 +2,4 @@ pub mod KeyLemmas
 pub mod NumberLemmas
 pub mod QuoteLemmas
 pub mod TermLemmas
+pub mod TextTokens

@@ -1,7 +1,8 @@
 -- Numbers, digit by digit.
 use Rattle.std.proofs.Common.{◌≡◌, ◌≤◌, ◌<◌, ℕ, ◌+◌, ◌*◌, List, [], ◌∷◌, ◌++◌, Some, None, pos, refl, subst, ap, ◌∙◌, arith}
 use Rattle.std.proofs.lemmas.Bool.{le-leb, lt-leb}
-use Rattle.expr_tokens.specs.Literals.{digit, value, number_value}
+use Rattle.expr_tokens.specs.Literals.{value, number_value}
+use Rattle.xt_names.specs.Characters.{digit}
 
 value-push : (n : ℕ) (cs : List ℕ) (c : ℕ) → value n (cs ++ c ∷ []) ≡ 10 * value n cs + digit c
 unfolding value

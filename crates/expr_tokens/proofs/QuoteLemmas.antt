@@ -2,7 +2,7 @@
 use Rattle.std.proofs.Common.{◌≡◌, ℕ, List, [], ◌∷◌, ◌++◌, Bool, false, Option, None, Result, Ok, Err, IfOk, refl, sym, ap, ◌∙◌, append_assoc, append-nil}
 use Rattle.expr_tokens.specs.Literals.{piece, next_quote, next_doubling, within_quotes, unquoted}
 
--- the state behind the characters
+-- the state after the characters
 pub quote_after : Option ℕ → List ℕ → Option ℕ
 quote_after q [] = q
 quote_after q (c ∷ cs) = quote_after (next_quote q c) cs

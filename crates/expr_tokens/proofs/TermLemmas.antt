@@ -1,14 +1,13 @@
--- Tokens, one behind the other.
-use Rattle.std.proofs.Common.{◌≡◌, ℕ, List, [], ◌∷◌, ◌++◌, Option, Some, None, option_map, refl, sym, ap, ◌∙◌, append_assoc, append-nil, codes, arith, map, drop, drop-cons, add-one, get_or, length, ◌<◌, ◌≤◌, ◌+◌}
-use Rattle.std.proofs.lemmas.Str.{chars-IsAscii}
-use Rattle.std.proofs.lemmas.Str.Ascii.{IsAscii-nil, IsAscii-cons}
+-- Tokens, one after the other.
+use Rattle.std.proofs.Common.{◌≡◌, ℕ, List, [], ◌∷◌, ◌++◌, Option, Some, None, option_map, refl, sym, ap, ◌∙◌, append_assoc, append-nil, map, drop, get_or, length, ◌<◌, ◌≤◌, ◌+◌}
 use Rattle.std.specs.Str.{chars}
-use Rattle.expr_terms.specs.declared.tokens.Token.{Token}
+use Rattle.expr_keys.specs.declared.tokens.Token.{Token}
 use Rattle.std.proofs.Math.ListN.{drop_of_length-le}
 use Rattle.xpath_lex.specs.declared.lexing.Token.{Token as Lexed}
 use Rattle.expr_tokens.specs.Terms.{Written, written, term_of, terms_of}
+use Rattle.xt_names.proofs.ListLemmas.{drop_next}
 
--- the terms of these tokens behind those
+-- the terms of these tokens after those
 pub behind : List Token → Option (List Token) → Option (List Token)
 behind us o = option_map (λ vs. us ++ vs) o
 
@@ -41,9 +40,6 @@ pub ends_behind : (us : List Token) → behind us (terms_of []) ≡ Some us
 unfolding behind terms_of
 ends_behind us = ap Some (append-nil us)
 
-drop_next : {A : Type 0} (xs : List A) (k : ℕ) (d : A) → k < length xs → drop k xs ≡ get_or xs k d ∷ drop (k + 1) xs
-drop_next xs k d h = rw (add-one, drop-cons xs k d) refl
-
 pub more_at : (all : List Lexed) (i : ℕ) (t : Lexed) (us : List Token) (u : Token) → i < length all → Some u ≡ term_of (get_or all i t).kind (chars (get_or all i t).text.now) → behind us (terms_of (map written (drop i all))) ≡ behind (us ++ u ∷ []) (terms_of (map written (drop (i + 1) all)))
 more_at all i t us u h e = ap (λ x. behind us (terms_of (map written x))) (drop_next all i t h) ∙ more_behind us u _ _ (sym e)
 
@@ -54,6 +50,3 @@ pub ends_at : (all : List Lexed) (i : ℕ) (us : List Token) → length all ≤ 
 ends_at all i us h g = sym (g ∙ ap (λ x. behind us (terms_of (map written x))) (drop_of_length-le all h) ∙ ends_behind us)
 
 pub ruleset terms = (begins_behind, more_at, stops_at, ends_at)
-
-pub colon_chars : chars (codes ":") ≡ codes ":"
-colon_chars = chars-IsAscii (58 ∷ []) (IsAscii-cons 58 [] (omega arith) IsAscii-nil)

@@ -1,10 +1,8 @@
 -- What digits and literals are (XPath 2.0, 3.1.1 and A.2).
-use Rattle.std.specs.Prelude.{ℕ, ◌+◌, ◌*◌, ◌-◌, ℤ, pos, List, [], ◌∷◌, ◌++◌, Bool, false, not, ◌&&◌, ◌==◌, nat_le, Option, Some, None, if◌then◌else◌}
+use Rattle.std.specs.Prelude.{ℕ, ◌+◌, ◌*◌, ℤ, pos, List, [], ◌∷◌, ◌++◌, Bool, false, not, ◌&&◌, ◌==◌, nat_le, Option, Some, None, if◌then◌else◌}
+use Rattle.xt_names.specs.Characters.{digit}
 
-abbrev pub digit : ℕ → ℕ
-digit c = c - 48
-
--- the number of the digits, behind what stands before them
+-- the number of the digits, after what comes before them
 unfoldable pub value : ℕ → List ℕ → ℕ
 value n [] = n
 value n (c ∷ cs) = value (10 * n + digit c) cs
@@ -12,7 +10,7 @@ value n (c ∷ cs) = value (10 * n + digit c) cs
 unfoldable pub number_value : List ℕ → Option ℤ
 number_value cs = if nat_le (value 0 cs) 9223372036854775807 then Some (pos (value 0 cs)) else None
 
--- what becomes of a character of a literal, behind its opening quote, and where a quote stands directly before that may be
+-- what becomes of a character of a literal, after its opening quote, and where a quote stands directly before that may be
 -- the first of two
 abbrev pub piece : Option ℕ → Bool → ℕ → List ℕ
 piece None doubling c = []

@@ -5,9 +5,9 @@ use Rattle.text_operations.specs.Searches.{text_before, text_after}
 use Rattle.xpath_lex.specs.declared.lexing.TokenKind.{TokenKind}
 use Rattle.xpath_lex.specs.declared.lexing.TokenKind.TheVariants.{Integer, Literal, Word, QWord, AnyLocal, AnyPrefix, Symbol}
 use Rattle.xpath_lex.specs.declared.lexing.Token.{Token as Lexed}
-use Rattle.expr_terms.specs.declared.keys.Key.{Key}
-use Rattle.expr_terms.specs.declared.tokens.Token.{Token}
-use Rattle.expr_terms.specs.declared.tokens.Token.TheVariants.{Key as key, Name as name, Qname as qname, AnyLocal as any_local, AnyPrefix as any_prefix, Digits as digits, Quoted as quoted}
+use Rattle.expr_keys.specs.declared.keys.Key.{Key}
+use Rattle.expr_keys.specs.declared.tokens.Token.{Token}
+use Rattle.expr_keys.specs.declared.tokens.Token.TheVariants.{Key as key, Name as name, Qname as qname, AnyLocal as any_local, AnyPrefix as any_prefix, Digits as digits, Quoted as quoted}
 use Rattle.expr_tokens.specs.Words.{key_of_word, key_of_symbol}
 use Rattle.expr_tokens.specs.Literals.{number_value, unquoted}
 

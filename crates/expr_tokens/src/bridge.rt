@@ -38,7 +38,7 @@ fn symbol_term(text: &str) -> Option<Token>
     }
 }
 
-#[tactic(auto, using(crate::proofs::TermLemmas::colon_chars))]
+#[tactic(auto, using(xt_names::proofs::TextLemmas::colon_chars))]
 fn qname_term(alloc: Global, text: &str) -> Result<Option<Token>, AllocError>
     ensures { IfOk result (λ term. term ≡ qname_term (chars text.now)) }
 {
@@ -52,7 +52,7 @@ fn qname_term(alloc: Global, text: &str) -> Result<Option<Token>, AllocError>
     }
 }
 
-#[tactic(auto, using(crate::proofs::TermLemmas::colon_chars))]
+#[tactic(auto, using(xt_names::proofs::TextLemmas::colon_chars))]
 fn any_local_term(alloc: Global, text: &str) -> Result<Option<Token>, AllocError>
     ensures { IfOk result (λ term. term ≡ any_local_term (chars text.now)) }
 {
@@ -62,7 +62,7 @@ fn any_local_term(alloc: Global, text: &str) -> Result<Option<Token>, AllocError
     }
 }
 
-#[tactic(auto, using(crate::proofs::TermLemmas::colon_chars))]
+#[tactic(auto, using(xt_names::proofs::TextLemmas::colon_chars))]
 fn any_prefix_term(alloc: Global, text: &str) -> Result<Option<Token>, AllocError>
     ensures { IfOk result (λ term. term ≡ any_prefix_term (chars text.now)) }
 {

@@ -1,7 +1,7 @@
 // What the look-up of keys finds.
 ghost use Rattle.std.specs.Prelude.{◌≡◌, ℕ, List, Some, true, false};
-ghost use Rattle.expr_terms.specs.declared.keys.Key.{Key};
-ghost use Rattle.expr_terms.specs.Keys.{key_text, is_worded};
+ghost use Rattle.expr_keys.specs.declared.keys.Key.{Key};
+ghost use Rattle.expr_keys.specs.Keys.{key_text, is_worded};
 ghost use Rattle.expr_tokens.specs.Words.{key_of_word, key_of_symbol};
 
 /// A word or a symbol is a key exactly where it is the text of that key, and each key is found by its

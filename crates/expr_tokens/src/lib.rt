@@ -13,6 +13,7 @@ mod bridge;
 mod keys;
 mod laws;
 mod literals;
+pub mod text_tokens;
 
 pub use bridge::{term, terms};
 pub use keys::{key_of_symbol, key_of_word};

@@ -1,7 +1,8 @@
 // Numbers and literals.
 ghost use Rattle.std.specs.Prelude.{◌≡◌, ◌≤◌, ◌++◌, OnOk, IfOk};
 ghost use Rattle.std.specs.Str.{chars};
-ghost use Rattle.expr_tokens.specs.Literals.{digit, number_value, unquoted, piece, next_quote, next_doubling};
+ghost use Rattle.expr_tokens.specs.Literals.{number_value, unquoted, piece, next_quote, next_doubling};
+ghost use Rattle.xt_names.specs.Characters.{digit};
 
 use std::alloc::{AllocError, Global};
 use xt_names::{Text, TextBuilder};

@@ -1,18 +1,17 @@
 -- The keys of tuples, and whole FLWOR expressions.
-use Rattle.std.proofs.Common.{◌≡◌, ℕ, refl, ap, List, [], ◌∷◌, ◌++◌, map, rules}
+use Rattle.std.proofs.Common.{◌≡◌, ℕ, refl, ap, List, [], ◌∷◌, ◌++◌, map}
 use Rattle.std.specs.Prelude.{Result, Ok, Err, Bool, true, false, Option, Some, None, option_map}
 use Rattle.xt_names.specs.declared.codes.Code.{Code}
 use Rattle.xt_atoms.specs.Casts.{wrong_type}
 use Rattle.xdm_items.specs.declared.items.Item.{Item}
 use Rattle.xt_syntax.specs.declared.exprs.Order.{Order}
 use Rattle.xt_syntax.specs.declared.exprs.Flwor.{Flwor}
-use Rattle.xt_syntax.specs.declared.exprs.Clause.TheViews.{out-Flwor, the_lemmas}
-use Rattle.xt_syntax.specs.declared.exprs.Clause.TheFolds.{fold_out-Flwor}
+use Rattle.xt_syntax.specs.declared.exprs.Clause.TheViews.{out-Flwor}
 use Rattle.order_group.specs.Rows.{Row, Cell, Keyed}
-use Rattle.outcomes.specs.Outcome.{Outcome, Ends, Fails, Deep, and_then, step_outcome, for_each}
-use Rattle.sort_meaning.specs.Sorted.{key_cell, row_of, ordered}
+use Rattle.expr_meaning.specs.Outcomes.Outcome.{Outcome, Ends, Fails, Deep, and_then, step_outcome, for_each}
+use Rattle.expr_meaning.specs.SortMeaning.Sorted.{key_cell, row_of, ordered}
 use Rattle.expr_meaning.specs.Env.{Binding, Env, Meaning, Program, bind_all}
-use Rattle.expr_meaning.specs.Flow.{OrderMeaning, Tuples, columns_at, flow_of, flwor_of, keyed}
+use Rattle.expr_meaning.specs.Flow.{OrderMeaning, Tuples, columns_at, flow_of, keyed}
 use Rattle.expr_meaning.specs.Flow.{kept_tuple, where_clause}
 use Rattle.expr_meaning.specs.Meaning.{outcome}
 use Rattle.eval_steps.specs.Parts.{clause_outcome, order_outcome, flwor_outcome}
@@ -22,6 +21,7 @@ use Rattle.flow_eval.specs.Rows.{directions_of, row_outcome}
 use Rattle.eval_steps.specs.Steps.{keys_of, test_at}
 use Rattle.eval_steps.proofs.Follow.{fault_first}
 use Rattle.eval_steps.proofs.Forms.{order_means}
+use Rattle.flow_eval.proofs.FlowStreams.Clauses.{flwor_means}
 
 cell_step : (cell : Result Cell Code) (k : ℕ) (g h : ℕ → Outcome Row) → ((j : ℕ) → g j ≡ h j) →
     and_then (step_outcome cell k) (λ c j. and_then (g j) (λ cs i. Ends (c ∷ cs) i))
@@ -50,12 +50,6 @@ pub directions_are : (p : Program) (orders : List Order) →
     map (λ (o : OrderMeaning). o.1) (map (order_outcome p) orders) ≡ directions_of orders
 directions_are p [] = refl
 directions_are p (o ∷ os) = rw (order_means p o, directions_are p os) refl
-
-pub flwor_means : (p : Program) (f : Flwor) → flwor_outcome p f
-    ≡ flwor_of (map (clause_outcome p) (out-Flwor f).clauses)
-    (option_map (outcome p) (out-Flwor f).test) (map (order_outcome p) (out-Flwor f).orders)
-    (outcome p (out-Flwor f).body)
-flwor_means p f = search (rules, the_lemmas, fold_out-Flwor)
 
 -- a FLWOR expression, once its tuples are made
 module _ (p : Program) (f : Flwor) (env : Env) (k : ℕ) where
@@ -94,7 +88,7 @@ keyed_by os bound env k =
     ap (λ o. and_then o (λ cells j. Ends (record { cells = cells; value = bound } ∷ []) j))
     (row_is os bound env k)
 
--- what stands behind the clauses, for a tuple
+-- what comes after the clauses, for a tuple
 module _ (p : Program) (f : Flwor) (bound : List Binding) (env : Env) (k : ℕ) where
   abbrev tested : Outcome Bool
   tested = test_at (option_map (outcome p) (out-Flwor f).test) (bind_all bound env) k

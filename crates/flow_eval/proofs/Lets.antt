@@ -6,14 +6,14 @@ use Rattle.xt_names.specs.declared.names.ExprName.{ExprName}
 use Rattle.xdm_items.specs.declared.items.Item.{Item}
 use Rattle.xt_syntax.specs.declared.exprs.Bind.{Bind}
 use Rattle.xt_syntax.specs.declared.exprs.Clause.TheViews.{out-Bind}
-use Rattle.outcomes.specs.Outcome.{Outcome, Ends, Fails, Deep, and_then, step_outcome}
+use Rattle.expr_meaning.specs.Outcomes.Outcome.{Outcome, Ends, Fails, Deep, and_then, step_outcome}
 use Rattle.expr_meaning.specs.Env.{Env, Meaning, Program, bind, bind_all}
 use Rattle.expr_meaning.specs.Meaning.{outcome}
 use Rattle.expr_meaning.specs.Logic.{typed}
 use Rattle.eval_steps.specs.Parts.{bind_outcome}
 use Rattle.eval_steps.specs.Steps.{bound_outcome}
 use Rattle.eval_steps.proofs.Forms.{bind_means}
-use Rattle.flow_streams.specs.Streams.{stream_let}
+use Rattle.flow_eval.specs.FlowStreams.Streams.{stream_let}
 
 -- what a list of a type is followed by follows the variable that has it
 behind : (name : ExprName) (kind : List Item → Result (List Item) Code) (rest : Meaning)

@@ -2,3 +2,4 @@ pub mod RowLemmas
 pub mod Tuples
 pub mod Keys
 mod Lets
+pub mod FlowStreams

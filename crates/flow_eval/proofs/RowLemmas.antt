@@ -8,13 +8,14 @@ use Rattle.xt_atoms.specs.Casts.{wrong_type}
 use Rattle.order_group.specs.declared.sorts.KeyRow.{KeyRow}
 use Rattle.order_group.specs.Rows.{Keyed, in_order, stands_before, mixed_column}
 use Rattle.order_group.specs.Sorts.{cells_of, numbered}
-use Rattle.order_group.specs.Stable.{stable_order}
 use Rattle.order_group.proofs.Natural.{natural}
-use Rattle.outcomes.specs.Outcome.{Ends, and_then, step_outcome}
-use Rattle.sort_meaning.specs.Sorted.{ordered, unless_mixed}
+use Rattle.expr_meaning.specs.Outcomes.Outcome.{Ends, and_then, step_outcome}
+use Rattle.expr_meaning.specs.SortMeaning.Sorted.{ordered, unless_mixed}
 use Rattle.eval_scopes.specs.declared.scopes.Variable.{Variable}
-use Rattle.eval_steps.specs.EvalValues.Orders.{places_in_order, unless_mixed as or_mixed}
+use Rattle.eval_scopes.specs.EvalValues.Orders.{places_in_order, unless_mixed as or_mixed}
 use Rattle.flow_eval.specs.Rows.{tuple_of, tuple_at, with_tuple}
+use Rattle.std.proofs.lemmas.List.{map-append}
+use Rattle.xt_names.specs.Lists.{stable_order}
 
 abbrev Tuple : Type 0
 Tuple = Vec Variable Global
@@ -45,10 +46,6 @@ same_tuples ts t i (x ∷ ks) h =
     let here = before_end ts t i (omega (arith, h)) in
     rw (here, same_tuples ts t (suc i) ks (omega (arith, h))) refl
 
-map_append : {A B : Type 0} (f : A → B) (xs ys : List A) → map f (xs ++ ys) ≡ map f xs ++ map f ys
-map_append f [] ys = refl
-map_append f (x ∷ xs) ys = ap (λ zs. f x ∷ zs) (map_append f xs ys)
-
 -- a tuple that is put at the end is the last row
 pub pushed_row : (ts : List Tuple) (ks : List KeyRow) (t : Tuple) (k : KeyRow) →
     length ts ≡ length ks →
@@ -58,7 +55,7 @@ pub pushed_row : (ts : List Tuple) (ks : List KeyRow) (t : Tuple) (k : KeyRow) �
 pushed_row ts ks t k e =
     let last : slice_get (ts ++ t ∷ []) (0 + length ks) ≡ Some t =
     ap (λ n. slice_get (ts ++ t ∷ []) n) (omega (arith, e)) ∙ at_end ts t in
-    rw (numbered_last 0 ks k, map_append, same_tuples ts t 0 ks (omega (arith, e)), last) refl
+    rw (numbered_last 0 ks k, map-append, same_tuples ts t 0 ks (omega (arith, e)), last) refl
 
 keys_stay : (ts : List Tuple) (i : ℕ) (ks : List KeyRow) →
     map (λ row. row.cells) (map (with_tuple ts) (numbered i ks)) ≡ cells_of ks

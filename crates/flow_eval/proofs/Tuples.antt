@@ -2,16 +2,15 @@
 use Rattle.std.proofs.Common.{◌≡◌, ℕ, refl, ap, sym, ◌∙◌, List, [], ◌∷◌, ◌++◌, append_assoc, ◌+◌}
 use Rattle.std.proofs.Common.{◌<◌, ◌≤◌, suc, length, drop, get_or, add-one, drop-cons}
 use Rattle.std.proofs.lemmas.List.{drop_all, append-nil}
-use Rattle.std.specs.Prelude.{Result, Ok, Err, pos, Option, Some, None}
-use Rattle.xt_names.specs.declared.codes.Code.{Code}
+use Rattle.std.specs.Prelude.{pos, Option, Some, None}
 use Rattle.xt_names.specs.declared.names.ExprName.{ExprName}
 use Rattle.xdm_items.specs.declared.items.Item.{Item}
 use Rattle.order_group.specs.Rows.{Keyed}
-use Rattle.outcomes.specs.Outcome.{Outcome, Ends, and_then, for_each, step_outcome}
+use Rattle.expr_meaning.specs.Outcomes.Outcome.{Outcome, Ends, and_then, for_each, step_outcome}
 use Rattle.xt_syntax.specs.declared.exprs.Bind.{Bind}
 use Rattle.xt_syntax.specs.declared.exprs.Clause.TheViews.{out-Bind}
-use Rattle.function_arguments.specs.Answers.{of_integer}
-use Rattle.sort_meaning.specs.Sorted.{Placed, places}
+use Rattle.xdm_items.specs.FunctionArguments.Answers.{of_integer}
+use Rattle.expr_meaning.specs.SortMeaning.Sorted.{Placed, places}
 use Rattle.expr_meaning.specs.Env.{Binding, Env, Meaning, Program, bind_all, with_bound}
 use Rattle.expr_meaning.specs.Flow.{Tuples, for_item, for_place, let_clause}
 use Rattle.expr_meaning.specs.Meaning.{outcome, placed_clause}
@@ -27,6 +26,8 @@ use Rattle.flow_eval.specs.declared.rows.Rows.{Rows}
 use Rattle.flow_eval.specs.Rows.{rows_of, tuple_of, are_even}
 use Rattle.eval_steps.specs.Steps.{bound_outcome}
 use Rattle.eval_steps.proofs.Follow.{so_far, so_far_first, so_far_more, so_far_last, so_far_fault}
+use Rattle.eval_scopes.proofs.ScopeLemmas.{pushed_last}
+use Rattle.flow_eval.proofs.FlowStreams.Turns.{from_bound}
 
 -- bindings before bindings
 bound_behind : (a b c : List Binding) → with_bound (with_bound a b) c ≡ with_bound a
@@ -34,7 +35,7 @@ bound_behind : (a b c : List Binding) → with_bound (with_bound a b) c ≡ with
 bound_behind [] b c = refl
 bound_behind (x ∷ xs) b c = ap (λ ys. x ∷ ys) (bound_behind xs b c)
 
--- what is bound within an outer scope stands before what that binds
+-- what is bound within an outer scope comes before what that binds
 pub tuple_within : (outer : List Binding) (vs : List Variable) →
     pushed_on outer vs ≡ with_bound (tuple_of vs) outer
 tuple_within outer [] = refl
@@ -43,29 +44,16 @@ tuple_within outer (v ∷ vs) =
     ∙ sym (bound_behind (tuple_of vs) (binding_of v ∷ []) outer)
     ∙ ap (λ bs. with_bound bs outer) (sym (tuple_within (binding_of v ∷ []) vs))
 
-pushed_last : (outer : List Binding) (vs : List Variable) (v : Variable) →
-    pushed_on outer (vs ++ v ∷ []) ≡ binding_of v ∷ pushed_on outer vs
-pushed_last outer [] v = refl
-pushed_last outer (x ∷ vs) v = pushed_last (binding_of x ∷ outer) vs v
-
 -- a variable that is put at the end is the innermost
 pub tuple_more : (vs : List Variable) (v : Variable) →
     tuple_of (vs ++ v ∷ []) ≡ binding_of v ∷ tuple_of vs
 tuple_more vs v = pushed_last [] vs v
 
--- what goes on from a value goes on from the variable that has it
-pub from_bound : {B : Type 0} (name : ExprName) (value : Result (List Item) Code) (k : ℕ)
-    (go : Binding → ℕ → Outcome B) →
-    and_then (step_outcome value k) (λ ys. go (name, ys))
-    ≡ and_then (bound_outcome name value k) go
-from_bound name (Ok xs) k go = refl
-from_bound name (Err code) k go = refl
-
 abbrev Row : Type 0
 Row = Keyed (List Binding)
 
 -- After i turns of a loop over xs, with the next number k, the rows have what was made of the whole
--- outcome behind the old ones.
+-- outcome after the old ones.
 pub record Turns {A : Type 0} (f : A → ℕ → Outcome (List Row)) (xs : List A)
     (o : Outcome (List Row)) (old now : Rows) (i k : ℕ) : Type 0 where
   pub more : List Row

@@ -8,7 +8,7 @@ use Rattle.xt_syntax.specs.declared.exprs.Flwor.{Flwor}
 use Rattle.xt_syntax.specs.declared.exprs.Clause.TheViews.{out-Order, out-Flwor}
 use Rattle.order_group.specs.Rows.{Keyed}
 use Rattle.order_group.specs.Sorts.{numbered}
-use Rattle.outcomes.specs.Outcome.{Outcome, Ends}
+use Rattle.expr_meaning.specs.Outcomes.Outcome.{Outcome, Ends}
 use Rattle.expr_meaning.specs.Env.{Binding, Program}
 use Rattle.expr_meaning.specs.Meaning.{outcome}
 use Rattle.expr_meaning.specs.Flow.{Tuples, where_clause, keyed}
@@ -49,7 +49,7 @@ AnswersRows (Ok u) old new k o =
     × (rows_of new ≡ rows_of old ++ more) × are_even new
 AnswersRows (Err fault) old new k o = IsFaultOf fault o
 
--- what stands behind the clauses: the test, and then the keys
+-- what comes after the clauses: the test, and then the keys
 abbrev pub row_outcome : Program → Flwor → Tuples
 row_outcome p f =
     where_clause (option_map (outcome p) (out-Flwor f).test)

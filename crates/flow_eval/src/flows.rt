@@ -1,33 +1,32 @@
 // FLWOR expressions: all tuples with their keys, then their order, and then the bodies.
 ghost use Rattle.std.specs.Prelude.{◌≡◌, ◌≤◌, ◌+◌, OnOk, map, option_map};
-ghost use Rattle.eval_inner.specs.Inner.{CanEvaluate, Evaluates};
+ghost use Rattle.eval_steps.specs.EvalInner.Inner.{CanEvaluate, Evaluates};
 ghost use Rattle.flow_eval.specs.Rows.{AnswersRows, row_outcome, tuple_of, tuple_at, are_even};
 ghost use Rattle.eval_steps.specs.Lists.{AnswersAs};
-ghost use Rattle.eval_steps.specs.Sizes.{bind_nodes, clause_nodes, flwor_nodes, nodes, or_0};
-ghost use Rattle.eval_steps.specs.Sizes.{order_nodes, total};
+ghost use Rattle.eval_steps.specs.Sizes.{bind_nodes, clause_nodes, flwor_nodes, nodes, or_0, order_nodes};
+ghost use Rattle.xt_names.specs.Lists.{total};
 ghost use Rattle.eval_steps.specs.Steps.{keys_of, test_at};
 ghost use Rattle.expr_meaning.specs.Flow.{flow_of, let_clause, for_item, for_place};
 ghost use Rattle.expr_meaning.specs.Meaning.{placed_clause, outcome};
-ghost use Rattle.eval_steps.specs.Parts.{clause_outcome, order_outcome, flwor_outcome};
-ghost use Rattle.eval_steps.specs.Parts.{bind_outcome};
+ghost use Rattle.eval_steps.specs.Parts.{clause_outcome, order_outcome, flwor_outcome, bind_outcome};
 ghost use Rattle.expr_meaning.specs.Env.{bind_all};
 ghost use Rattle.eval_scopes.specs.Answers.{Answers};
-ghost use Rattle.eval_inner.specs.ValueSlots.Slots.{Leaves};
+ghost use Rattle.eval_steps.specs.ValueSlots.Slots.{Leaves};
 ghost use Rattle.eval_scopes.specs.Scopes.{env_of};
-ghost use Rattle.outcomes.specs.Outcome.{and_then, for_each, step_outcome};
-ghost use Rattle.sort_meaning.specs.Sorted.{places};
+ghost use Rattle.expr_meaning.specs.Outcomes.Outcome.{and_then, for_each, step_outcome};
+ghost use Rattle.expr_meaning.specs.SortMeaning.Sorted.{places};
 
+use crate::flow_streams::is_streamed;
 use crate::inner::Flows;
 use crate::rows::Rows;
-use eval_inner::Within;
-use eval_inner::value_slots::put;
+use eval_scopes::eval_values::append;
 use eval_scopes::{Env, EvalFault, Variable};
-use eval_steps::eval_values::append;
+use eval_steps::eval_inner::Within;
+use eval_steps::value_slots::put;
 use eval_steps::{
     list_size, place_in, pop_variable, push_cell, push_item, push_position, push_value, truth_of,
     tuple_key,
 };
-use flow_streams::is_streamed;
 use order_group::KeyRow;
 use xdm_items::{Item, ItemList};
 use xt_names::{ExprName, List, Shared};

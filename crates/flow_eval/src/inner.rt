@@ -1,16 +1,16 @@
 // The expressions within a FLWOR expression.
 ghost use Rattle.std.specs.Prelude.{◌≤◌};
-ghost use Rattle.eval_inner.specs.Inner.{CanEvaluate, Evaluates};
+ghost use Rattle.eval_steps.specs.EvalInner.Inner.{CanEvaluate, Evaluates};
 ghost use Rattle.eval_scopes.specs.Answers.{Answers};
 ghost use Rattle.eval_scopes.specs.Scopes.{env_of};
 ghost use Rattle.eval_steps.specs.Sizes.{flwor_nodes, nodes};
 ghost use Rattle.expr_meaning.specs.Env.{bind_all};
 ghost use Rattle.expr_meaning.specs.Meaning.{outcome};
 ghost use Rattle.flow_eval.specs.Rows.{tuple_of};
-ghost use Rattle.eval_inner.specs.ValueSlots.Slots.{Leaves};
+ghost use Rattle.eval_steps.specs.ValueSlots.Slots.{Leaves};
 
-use eval_inner::Within;
 use eval_scopes::{Env, EvalFault, Scope, Variable};
+use eval_steps::eval_inner::Within;
 use std::alloc::Global;
 use xdm_items::ItemList;
 use xt_syntax::{Expr, Flwor};
@@ -32,7 +32,7 @@ impl<'a, W: Within, E: Fn(&Env, &mut u64, &Expr, &mut ItemList) -> Result<(), Ev
     E,
 > {
     /// Puts the value of an expression within it.
-    #[tactic(auto, unfolding(eval_inner::specs::Inner::CanEvaluate, eval_inner::specs::Inner::Evaluates))]
+    #[tactic(auto, unfolding(eval_steps::specs::EvalInner::Inner::CanEvaluate, eval_steps::specs::EvalInner::Inner::Evaluates))]
     pub(crate) fn eval_into(
         &self,
         env: &Env,
@@ -49,7 +49,7 @@ impl<'a, W: Within, E: Fn(&Env, &mut u64, &Expr, &mut ItemList) -> Result<(), Ev
         (self.eval)(env, next, e, value)
     }
 
-    /// The list of an expression behind what is bound (XQuery 1.0, 3.8.1).
+    /// The list of an expression after what is bound (XQuery 1.0, 3.8.1).
     #[inline(never)]
     pub(crate) fn eval_behind(
         &self,

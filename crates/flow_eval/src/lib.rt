@@ -7,11 +7,10 @@
 //! Example: `for $x in (1, 2) return $x + 1` gives the list of 2 and 3.
 #![tactic(auto)]
 
+pub mod flow_streams;
 mod flows;
 mod inner;
 mod rows;
 mod streams;
 
-pub use eval_inner;
-pub use eval_inner::value_slots;
 pub use inner::Flows;

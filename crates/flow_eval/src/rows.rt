@@ -1,16 +1,16 @@
 // The tuples of a FLWOR expression.
 ghost use Rattle.std.specs.Prelude.{◌≡◌, ◌++◌, ◌∷◌, [], ℕ, map, length, IfOk, OnOk};
 ghost use Rattle.xt_atoms.specs.Casts.{wrong_type};
-ghost use Rattle.sort_meaning.specs.Sorted.{ordered};
-ghost use Rattle.outcomes.specs.Outcome.{step_outcome};
+ghost use Rattle.expr_meaning.specs.SortMeaning.Sorted.{ordered};
+ghost use Rattle.expr_meaning.specs.Outcomes.Outcome.{step_outcome};
 ghost use Rattle.eval_scopes.specs.Answers.{Answers};
-ghost use Rattle.eval_steps.specs.EvalValues.Orders.{places_in_order};
+ghost use Rattle.eval_scopes.specs.EvalValues.Orders.{places_in_order};
 ghost use Rattle.eval_steps.specs.Lists.{AnswersAs};
 ghost use Rattle.flow_eval.specs.Rows.{rows_of, tuple_at, tuple_of, are_even, directions_of};
 
+use eval_scopes::eval_values::sorted_places;
 use eval_scopes::{EvalFault, Variable, copy_variables};
 use eval_steps::WRONG_TYPE;
-use eval_steps::eval_values::sorted_places;
 use order_group::KeyRow;
 use std::alloc::{AllocError, Global};
 use xt_names::List;

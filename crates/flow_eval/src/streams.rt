@@ -1,24 +1,24 @@
 // FLWOR expressions whose tuples are not held.
 ghost use Rattle.std.specs.Prelude.{◌≡◌, ◌≤◌, ◌+◌, [], map};
 ghost use Rattle.xt_syntax.specs.declared.exprs.Clause.TheViews.{out-Bind, out-Flwor};
-ghost use Rattle.outcomes.specs.Outcome.{and_then, for_each, step_outcome};
-ghost use Rattle.sort_meaning.specs.Sorted.{places};
+ghost use Rattle.expr_meaning.specs.Outcomes.Outcome.{and_then, for_each, step_outcome};
+ghost use Rattle.expr_meaning.specs.SortMeaning.Sorted.{places};
 ghost use Rattle.expr_meaning.specs.Logic.{typed};
 ghost use Rattle.expr_meaning.specs.Meaning.{outcome};
-ghost use Rattle.eval_inner.specs.Inner.{CanEvaluate, Evaluates};
+ghost use Rattle.eval_steps.specs.EvalInner.Inner.{CanEvaluate, Evaluates};
 ghost use Rattle.eval_steps.specs.Lists.{AnswersPushed};
 ghost use Rattle.eval_steps.specs.Parts.{bind_outcome};
-ghost use Rattle.eval_steps.specs.Sizes.{bind_nodes, clause_nodes, flwor_nodes, total};
+ghost use Rattle.eval_steps.specs.Sizes.{bind_nodes, clause_nodes, flwor_nodes};
+ghost use Rattle.xt_names.specs.Lists.{total};
 ghost use Rattle.eval_steps.specs.Steps.{bound_outcome};
-ghost use Rattle.eval_inner.specs.ValueSlots.Slots.{Leaves};
+ghost use Rattle.eval_steps.specs.ValueSlots.Slots.{Leaves};
 ghost use Rattle.eval_scopes.specs.Scopes.{env_of};
-ghost use Rattle.flow_streams.specs.Streams.{stream_of, stream_for, stream_let, stream_item};
-ghost use Rattle.flow_streams.specs.Streams.{stream_place, binder_of};
+ghost use Rattle.flow_eval.specs.FlowStreams.Streams.{stream_of, stream_for, stream_let, stream_item, stream_place, binder_of};
 
 use crate::inner::Flows;
-use eval_inner::Within;
-use eval_inner::value_slots::join;
 use eval_scopes::{Env, EvalFault, Scope, Variable};
+use eval_steps::eval_inner::Within;
+use eval_steps::value_slots::join;
 use eval_steps::{list_size, place_in, pop_variable, push_item, push_position, push_value};
 use xdm_items::{Item, ItemList};
 use xt_names::ExprName;
@@ -120,7 +120,7 @@ impl<'a, W: Within, E: Fn(&Env, &mut u64, &Expr, &mut ItemList) -> Result<(), Ev
         }
     }
 
-    /// The variable of a `let` behind those that are bound (XQuery 1.0, 3.8.1).
+    /// The variable of a `let` after those that are bound (XQuery 1.0, 3.8.1).
     #[inline(never)]
     fn push_let(
         &self,

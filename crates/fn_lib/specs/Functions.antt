@@ -7,14 +7,14 @@ use Rattle.xdm_items.specs.Values.{atomized}
 use Rattle.xdm_items.specs.declared.items.Item.{Item}
 use Rattle.function_table.specs.declared.builtins.Builtin.{Builtin}
 use Rattle.function_table.specs.declared.builtins.Builtin.TheVariants as function
-use Rattle.name_functions.specs.FunctionArguments.Answers.{of_truth}
+use Rattle.xdm_items.specs.FunctionArguments.Answers.{of_truth}
 use Rattle.text_functions.specs.TextFunctions.{codepoint_equal_of, codepoints_to_string_of, compare_of, concat_of, contains_of, ends_with_of, normalize_space_of, starts_with_of, string_of, string_join_of, string_length_of, string_to_codepoints_of, substring_after_of, substring_before_of, translate_of}
 use Rattle.item_functions.specs.SequenceFunctions.Cardinality.{exactly_one, one_or_more, zero_or_one}
 use Rattle.item_functions.specs.Outcomes.{Outcome}
 use Rattle.item_functions.specs.OnSequences.{count_of, deep_equal_of, distinct_values_of, empty_of, exists_of, index_of_of, insert_before_of, remove_of}
 use Rattle.item_functions.specs.OnValues.{abs_of, boolean_of, extreme_of, not_of, root_of}
-use Rattle.name_functions.specs.NodeNames.{name_of, local_name_of, namespace_uri_of, node_name_of}
-use Rattle.name_functions.specs.QNames.{qname_of, prefix_from_qname_of, local_name_from_qname_of, namespace_uri_from_qname_of}
+use Rattle.text_functions.specs.NameFunctions.NodeNames.{name_of, local_name_of, namespace_uri_of, node_name_of}
+use Rattle.text_functions.specs.NameFunctions.QNames.{qname_of, prefix_from_qname_of, local_name_from_qname_of, namespace_uri_from_qname_of}
 use Rattle.fn_lib.specs.Values.{argument, error_value, subsequence_value, substring_value, sum_value}
 
 -- one line a function: its value of all arguments, and of the first three

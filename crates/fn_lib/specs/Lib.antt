@@ -1,4 +1,4 @@
 pub mod Functions
 pub mod Values
 pub use Rattle.item_functions.specs as ItemFunctions
-pub use Rattle.name_functions.specs.TextOperations
+pub use Rattle.text_functions.specs.TextOperations

@@ -6,9 +6,9 @@ use crate::arguments::argument;
 use crate::{arities, values};
 use function_table::Builtin;
 use item_functions as items;
-use name_functions as names;
 use std::alloc::Global;
 use text_functions as texts;
+use text_functions::name_functions as names;
 use xdm_items::ItemList;
 use xt_atoms::ValueFault;
 

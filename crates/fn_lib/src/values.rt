@@ -2,13 +2,13 @@
 ghost use Rattle.std.specs.Prelude.{Ok, reverse};
 ghost use Rattle.xt_atoms.specs.Casts.{Answers};
 ghost use Rattle.xdm_items.specs.Values.{atomized};
-ghost use Rattle.name_functions.specs.FunctionArguments.Answers.{of_truth};
+ghost use Rattle.xdm_items.specs.FunctionArguments.Answers.{of_truth};
 ghost use Rattle.item_functions.specs.SequenceFunctions.Cardinality.{exactly_one, one_or_more, zero_or_one};
 ghost use Rattle.fn_lib.specs.Values.{error_value};
 
 use item_functions::sequence_functions as sequences;
-use name_functions::function_arguments::truth_list;
 use std::alloc::Global;
+use xdm_items::function_arguments::truth_list;
 use xdm_items::{ItemList, atomize, copy_item_list};
 use xt_atoms::ValueFault;
 use xt_names::{Code, DynamicCode};

@@ -9,7 +9,7 @@ use Rattle.xt_syntax.specs.declared.exprs.Clause.TheOpen.{General, Value, Is, Be
 use Rattle.xt_syntax.specs.declared.exprs.Clause.TheOpen.{Range, Arith, Minus, Plus, Union}
 use Rattle.xt_syntax.specs.declared.exprs.Clause.TheOpen.{Intersect, Except, InstanceOf, Treat}
 use Rattle.xt_syntax.specs.declared.exprs.Clause.TheOpen.{Castable, Cast}
-use Rattle.outcomes.specs.Outcome.{and_then, step_outcome}
+use Rattle.expr_meaning.specs.Outcomes.Outcome.{and_then, step_outcome}
 use Rattle.expr_meaning.specs.Env.{Env, Meaning, Program}
 use Rattle.expr_meaning.specs.Meaning.{outcome}
 use Rattle.expr_meaning.specs.Values.{unary, binary}

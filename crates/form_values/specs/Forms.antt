@@ -25,7 +25,7 @@ use Rattle.operator_values.specs.Numbers.{signed_value}
 use Rattle.operator_values.specs.Types.{instance_value, treated_value, cast_value, castable_value}
 use Rattle.node_walks.specs.Moves.{given}
 use Rattle.lazy_seq.specs.Flow.{Flow}
-use Rattle.outcomes.specs.Outcome.{Ends}
+use Rattle.expr_meaning.specs.Outcomes.Outcome.{Ends}
 use Rattle.expr_meaning.specs.Env.{Env, Program}
 use Rattle.expr_meaning.specs.Meaning.{outcome}
 

@@ -3,10 +3,10 @@ ghost use Rattle.std.specs.Prelude.{◌≡◌, IfOk, Some, is_some, true};
 ghost use Rattle.node_walks.specs.Moves.{given};
 ghost use Rattle.operator_values.specs.Numbers.{AnswersItems};
 ghost use Rattle.operator_values.specs.Types.{instance_value, treated_value};
-ghost use Rattle.eval_values.specs.Operators.{value_of_one, value_of_two};
+ghost use Rattle.eval_scopes.specs.EvalValues.Operators.{value_of_one, value_of_two};
 ghost use Rattle.form_values.specs.Forms.{Answer, lists_of, value_of, with_one, with_two};
 
-use eval_values::{OneOperator, Operator, apply, apply_to_one};
+use eval_scopes::eval_values::{OneOperator, Operator, apply, apply_to_one};
 use lazy_seq::Seq;
 use operator_values::{instance, range, treated};
 use std::alloc::{AllocError, Global};

@@ -2,7 +2,7 @@
 ghost use Rattle.std.specs.Prelude.{◌≡◌, ℕ, List, Some};
 ghost use Rattle.xdm_items.specs.declared.items.Item.{Item};
 ghost use Rattle.xt_syntax.specs.declared.exprs.Expr.{Expr};
-ghost use Rattle.outcomes.specs.Outcome.{step_outcome};
+ghost use Rattle.expr_meaning.specs.Outcomes.Outcome.{step_outcome};
 ghost use Rattle.expr_meaning.specs.Env.{Env, Program};
 ghost use Rattle.expr_meaning.specs.Meaning.{outcome};
 ghost use Rattle.form_values.specs.Forms.{Answer, EndWith, parts_of, value_of};

@@ -3,7 +3,7 @@ use Rattle.std.proofs.Common.{◌≡◌, ◌<◌, ℕ, List, [], length, sym, ap
 use Rattle.xt_sheets.specs.declared.sheets.Global.{Global}
 use Rattle.xt_sheets.specs.declared.sheets.Sheet.{Sheet}
 use Rattle.global_order.specs.Order.{order_of}
-use Rattle.graph_orders.specs.Needs.{needs_from}
+use Rattle.global_order.specs.GraphOrders.Needs.{needs_from}
 use Rattle.global_needs.specs.Needs.{graph_of, needs}
 use Rattle.global_needs.specs.Shapes.{shape_of}
 

@@ -1,11 +1,11 @@
 -- On which globals each global depends (XSLT 2.0, 9.5).
 use Rattle.std.specs.Prelude.{ℕ, List, ◌++◌, map, length, true, false}
 use Rattle.xt_sheets.specs.declared.sheets.Sheet.{Sheet}
-use Rattle.reached_places.specs.Walks.{Graph}
-use Rattle.graph_orders.specs.Needs.{needs_from}
+use Rattle.global_order.specs.GraphOrders.Needs.{needs_from}
 use Rattle.global_needs.specs.declared.shapes.Shape.{Shape}
 use Rattle.global_needs.specs.Shapes.{shape_of}
 use Rattle.global_needs.specs.Rows.{global_row, function_row, template_row, no_row, with_rules}
+use Rattle.global_order.specs.Order.{Graph}
 
 abbrev pub graph_of : Shape → Sheet → Graph
 graph_of shape s =

@@ -6,7 +6,7 @@
 //! The mode `#current` is the default mode in the global itself, in functions, and in templates that
 //! these call by name; elsewhere the mode that it stands for is reached already. `needed_order` puts
 //! the globals in the order in which they are evaluated, and `globals_stand_behind` tells whether
-//! each stands behind those on which it depends.
+//! each comes after those on which it depends.
 //!
 //! Example: where `x` is `f:a()`, the function `f:a` applies templates in the default mode, and a rule
 //! of that mode names `$y`, `x` depends on `y`.

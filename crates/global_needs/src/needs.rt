@@ -1,13 +1,13 @@
 // On which globals each depends.
 ghost use Rattle.std.specs.Prelude.{◌≡◌, ◌++◌, IfOk, OnOk, map, length};
 ghost use Rattle.global_order.specs.Order.{order_of};
-ghost use Rattle.graph_orders.specs.Needs.{needs_from};
-ghost use Rattle.graph_orders.specs.Behind.{are_behind};
+ghost use Rattle.global_order.specs.GraphOrders.Needs.{needs_from};
+ghost use Rattle.global_order.specs.GraphOrders.Behind.{are_behind};
 ghost use Rattle.global_needs.specs.Needs.{graph_of, needs};
 
 use crate::rows::{push_ends, push_functions, push_globals, push_rules, push_templates};
 use crate::shapes::{Shape, measured};
-use graph_orders::{are_behind_by, needs_by, order_by};
+use global_order::graph_orders::{are_behind_by, needs_by, order_by};
 use std::alloc::{AllocError, Global};
 use xt_names::List;
 use xt_sheets::Sheet;
@@ -60,7 +60,7 @@ pub fn needed_order(alloc: Global, sheet: &Sheet) -> Result<List<usize>, AllocEr
     )
 }
 
-/// Whether each global stands behind those on which it depends, without the list of these (XSLT 2.0,
+/// Whether each global comes after those on which it depends, without the list of these (XSLT 2.0,
 /// 9.5).
 pub fn globals_stand_behind(alloc: Global, sheet: &Sheet) -> Result<bool, AllocError>
     ensures { IfOk result (λ behind. behind ≡ are_behind 0 (needs sheet.now)) }

@@ -6,7 +6,7 @@ ghost use Rattle.global_needs.specs.Rows.{template_row, no_row};
 ghost use Rattle.global_needs.specs.Rows.{with_place, with_mode, with_modes, with_rules};
 
 use crate::shapes::{Shape, sum};
-use name_rules::Scope;
+use name_rules::VariableScope;
 use sheet_uses::{Use, push_bound_uses, push_callee_uses};
 use std::alloc::{AllocError, Global};
 use xt_names::{ExprName, List};
@@ -111,7 +111,7 @@ fn row_of(
 fn bound_row(alloc: Global, shape: &Shape, bound: &Bound) -> Result<List<usize>, AllocError>
     ensures { IfOk result (λ row. row ≡ bound_leads shape.now bound.now) }
 {
-    let scope = Scope::new(alloc)?;
+    let scope = VariableScope::new(alloc)?;
     let mut uses = List::new(alloc);
     push_bound_uses(bound, &scope, &mut uses)?;
     row_of(alloc, shape, false, uses.as_slice())
@@ -126,7 +126,7 @@ fn callee_row(
 ) -> Result<List<usize>, AllocError>
     ensures { IfOk result (λ row. row ≡ callee_leads shape.now in_rule params.now body.now) }
 {
-    let scope = Scope::new(alloc)?;
+    let scope = VariableScope::new(alloc)?;
     let mut uses = List::new(alloc);
     push_callee_uses(params, body, &scope, &mut uses)?;
     row_of(alloc, shape, in_rule, uses.as_slice())

@@ -1,5 +1,5 @@
 -- Marks on what is done.
-use Rattle.std.proofs.Common.{◌≡◌, ◌∙◌, ap, sym, refl, ℕ, zero, suc, ◌+◌, ◌-◌, ◌<◌, ◌≤◌, List, [], ◌∷◌, ◌++◌, Bool, true, false, ◌||◌, Some, None, length, nat_eq, get_or, set, arith}
+use Rattle.std.proofs.Common.{◌≡◌, ◌∙◌, ap, sym, refl, ℕ, zero, suc, ◌+◌, ◌-◌, ◌<◌, ◌≤◌, List, [], ◌∷◌, ◌++◌, Bool, true, false, Some, None, length, nat_eq, get_or, set, arith}
 use Rattle.std.proofs.Math.Nat.{eq-or-lt_of_le}
 use mathlib.Core.Logic.{⊎_elim}
 use Rattle.std.proofs.lemmas.Bool.{cases_lt}
@@ -8,7 +8,9 @@ use Rattle.std.specs.List.{list_all}
 use Rattle.std.proofs.lemmas.List.{get_or-set_same, get_or-set_other}
 use Rattle.global_order.specs.Order.{Graph, needs_of, is_in, is_ready, is_next, next_of, next}
 use Rattle.global_order.specs.Marks.{marked, are_marked, is_next_marked, next_marked_of}
-use Rattle.global_order.proofs.OrderLemmas.{is_in-more, nat_eq-same, no_true}
+use Rattle.global_order.proofs.OrderLemmas.{is_in-more, nat_eq-same}
+use Rattle.std.proofs.Math.Bool.{or-true, or-false}
+use Rattle.global_order.proofs.GraphOrders.Tests.{no_true}
 
 -- the marks are on what is done
 abbrev pub Marks : List Bool → List ℕ → Type 0
@@ -70,26 +72,18 @@ pub ruleset turns = (marked-step, marked-here, marked-over)
 
 -- a mark on one more
 
-or_true : (b : Bool) → (b || true) ≡ true
-or_true true = refl
-or_true false = refl
-
-or_false : (b : Bool) → (b || false) ≡ b
-or_false true = refl
-or_false false = refl
-
 mark_here : (marks : List Bool) (done : List ℕ) (p i : ℕ) → p < length marks → nat_eq p i ≡ true → marked (set marks p true) i ≡ is_in (done ++ p ∷ []) i
 unfolding marked
 mark_here marks done p i h e =
     let s : p ≡ i = grind (arith, nat_tests, e) in
     let at : get_or (set marks p true) i false ≡ true = rw (← s) (get_or-set_same marks p true false h) in
-    rw (is_in-more done p i, e) (at ∙ sym (or_true (is_in done i)))
+    rw (is_in-more done p i, e) (at ∙ sym (or-true (is_in done i)))
 
 mark_else : (marks : List Bool) (done : List ℕ) (p i : ℕ) → Marks marks done → nat_eq p i ≡ false → marked (set marks p true) i ≡ is_in (done ++ p ∷ []) i
 unfolding marked
 mark_else marks done p i m e =
     let n : i ≡ p → ⊥ = λ s. (let f : nat_eq p p ≡ false = rw s at e in no_true (sym (nat_eq-same p) ∙ f)) in
-    rw (is_in-more done p i, e) (get_or-set_other marks p i true false n ∙ m i ∙ sym (or_false (is_in done i)))
+    rw (is_in-more done p i, e) (get_or-set_other marks p i true false n ∙ m i ∙ sym (or-false (is_in done i)))
 
 pub set_marks : (marks : List Bool) (done : List ℕ) (p : ℕ) → Marks marks done → p < length marks → Marks (set marks p true) (done ++ p ∷ [])
 set_marks marks done p m h i =

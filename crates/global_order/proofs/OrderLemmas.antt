@@ -6,6 +6,8 @@ use Rattle.std.proofs.lemmas.Bool.Decides.{nat_tests}
 use Rattle.std.specs.List.{list_any, list_all}
 use Rattle.std.proofs.Common.{rules}
 use Rattle.global_order.specs.Order.{Graph, needs_of, is_in, is_ready, is_next, next_of, next, step, steps, order_of, InOrder, nothing, behind, IsCircle, Grown, left_out, StopsAtCircles, IsInOrder}
+use Rattle.xt_names.proofs.BoolLemmas.{one_less, and_second as second}
+use Rattle.global_order.proofs.GraphOrders.Tests.{no_true}
 
 -- what next_of finds is next, and within
 pub next-is : (k i n : ℕ) (g : Graph) (done : List ℕ) → next_of k i g done ≡ Some n → is_next g done n ≡ true
@@ -72,11 +74,6 @@ pub is_in-more : (done : List ℕ) (i n : ℕ) → is_in (done ++ i ∷ []) n �
 unfolding is_in
 is_in-more done i n = any-more (λ d. nat_eq d n) done i
 
-one_less : (a b : Bool) → (if a || b then 0 else 1) ≤ (if a then 0 else 1)
-one_less true b = omega arith
-one_less false true = omega arith
-one_less false false = omega arith
-
 undone-le : (n i : ℕ) (done : List ℕ) → undone n (done ++ i ∷ []) ≤ undone n done
 undone-le zero i done = omega arith
 undone-le (suc n) i done = rw (is_in-more done i n) (omega (arith, undone-le n i done, one_less (is_in done n) (nat_eq i n)))
@@ -84,7 +81,7 @@ undone-le (suc n) i done = rw (is_in-more done i n) (omega (arith, undone-le n i
 pub nat_eq-same : (n : ℕ) → nat_eq n n ≡ true
 nat_eq-same n = search rules
 
-last_is : (done : List ℕ) (i n : ℕ) → i ≡ n → is_in done n ≡ false → (is_in done n || nat_eq i n) ≡ true
+pub last_is : (done : List ℕ) (i n : ℕ) → i ≡ n → is_in done n ≡ false → (is_in done n || nat_eq i n) ≡ true
 last_is done i n same now = rw (now, same) (nat_eq-same n)
 
 undone-less : (n i : ℕ) (done : List ℕ) → i < n → is_in done i ≡ false → undone n (done ++ i ∷ []) < undone n done
@@ -178,10 +175,6 @@ either : (a b : Bool) → (a || b) ≡ true → (P : Type 0) → (a ≡ true →
 either true b h P f g = f refl
 either false b h P f g = g h
 
-second : (a b : Bool) → (a && b) ≡ true → b ≡ true
-second true b h = h
-second false b h = cc
-
 -- a global that is in order is in no circle whose globals are not done
 new_avoids : (g : Graph) (of : ℕ → Bool) → ((i : ℕ) → i < length g → of i ≡ true → list_any of (needs_of g i) ≡ true)
     → (done : List ℕ) → ((n : ℕ) → is_in done n ≡ true → of n ≡ false) → (i : ℕ) → i < length g → is_next g done i ≡ true → of i ≡ false
@@ -203,9 +196,6 @@ avoids : (g : Graph) (of : ℕ → Bool) → ((i : ℕ) → i < length g → of 
 avoids g of each done _ nothing h n e = h n (rw (sym (append-nil done)) e)
 avoids g of each done _ (behind i others less is more) h n e =
     avoids g of each (done ++ i ∷ []) others more (grows of done h i (new_avoids g of each done h i less is)) n (rw (append_assoc done (i ∷ []) others) e)
-
-pub no_true : true ≡ false → ⊥
-no_true h = cc
 
 nothing_done : (of : ℕ → Bool) (n : ℕ) → is_in [] n ≡ true → of n ≡ false
 unfolding is_in

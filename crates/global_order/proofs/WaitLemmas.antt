@@ -2,7 +2,7 @@
 use Rattle.std.proofs.Common.{◌≡◌, ◌∙◌, ap, sym, refl, ℕ, zero, suc, ◌+◌, ◌-◌, ◌<◌, ◌≤◌, List, [], ◌∷◌, ◌++◌, Bool, true, false, not, ◌&&◌, ◌||◌, if◌then◌else◌, Option, Some, None, length, nat_eq, nat_lt, get_or, set, take, drop, arith}
 use Rattle.std.proofs.Math.Nat.{eq-or-lt_of_le}
 use mathlib.Core.Logic.{⊎_elim}
-use Rattle.std.proofs.lemmas.Bool.{cases_lt}
+use Rattle.std.proofs.lemmas.Bool.{cases_lt, false_from_ne_true}
 use Rattle.std.proofs.lemmas.Bool.Decides.{nat_tests}
 use Rattle.std.specs.Prelude.{⊤, Result, Ok, Err, OnOk}
 use Rattle.std.specs.List.{All, list_all}
@@ -17,11 +17,11 @@ use Rattle.std.proofs.lemmas.List.Sorted.{list_any-IsPermutation, le_from_greate
 use Rattle.global_order.specs.Order.{Graph, needs_of, is_in, is_ready, is_next, next_of, next, step, steps, order_of}
 use Rattle.global_order.specs.Marks.{marked, are_marked, next_marked_of}
 use Rattle.global_order.specs.Waits.{has, IsInHeap, Opens, with_waiting, IsWaiting, IsGood, IsGoodBut}
-use Rattle.global_order.proofs.OrderLemmas.{next-inside, undone, undone-all, some-positive, is_in-more, nat_eq-same, no_true}
+use Rattle.global_order.proofs.OrderLemmas.{next-inside, undone, undone-all, some-positive, is_in-more, nat_eq-same}
 use Rattle.global_order.proofs.MarkLemmas.{set_marks, next-from, done-not_next, all_same, nothing_done}
-
-same_place : (i j : ℕ) → nat_eq i j ≡ true → i ≡ j
-same_place i j e = grind (arith, nat_tests, e)
+use Rattle.global_order.proofs.ReachedPlaces.WalkLemmas.{same_place}
+use Rattle.xt_names.proofs.BoolLemmas.{neither}
+use Rattle.global_order.proofs.GraphOrders.Tests.{no_true}
 
 -- more steps than there are globals not done change nothing
 enough : (k j : ℕ) (g : Graph) (done : List ℕ) → undone (length g) done ≤ k → undone (length g) done ≤ j
@@ -216,11 +216,6 @@ has_waited g done marks ready waiting next_rows p need good needed un is = rw is
       go refl);
 })
 
--- the place is next, and done now
-not_last : (a b : Bool) → (a || b) ≡ false → (a ≡ false) × (b ≡ false)
-not_last true b h = absurd (no_true h)
-not_last false b h = (refl, h)
-
 gone : (old new : Bool) → (old ≡ true → new ≡ true) → new ≡ false → old ≡ false
 gone true new f e = absurd (no_true (sym (f refl) ∙ e))
 gone false new f e = refl
@@ -240,7 +235,7 @@ has_finished g done done_next marks marks_next ready ready_next waiting waiting_
       rows = good.rows;
       heap = opens.heap;
       each = λ i within new closed.
-          (let t = not_last (is_in done i) (nat_eq p i) (sym (is_in-more done p i) ∙ new) in
+          (let t = neither (is_in done i) (nat_eq p i) (sym (is_in-more done p i) ∙ new) in
           let was = gone (has ready (length g - i)) (has ready_next (length g - i)) (opens.kept (length g - i)) closed in
           let other : i ≡ p → ⊥ = λ same. (let f : nat_eq p p ≡ false = rw same at t.1 in no_true (sym (nat_eq-same p) ∙ f)) in
           let v = good.each i within t.0 was other in
@@ -271,10 +266,6 @@ at_most x (y ∷ ys) all k h =
     ] in
     go refl h
 
-not_true : (b : Bool) → (b ≡ true → ⊥) → b ≡ false
-not_true true f = absurd (f refl)
-not_true false f = refl
-
 pub popped : (g : Graph) (done : List ℕ) (marks : List Bool) (ready ready_next : List ℕ) (waiting : List (List ℕ)) (x p : ℕ)
     → IsGood g done marks ready waiting → IsPermutation ready (x ∷ ready_next) → IsInHeap ready_next
     → IsUpperBound nat_cmp x ready_next → p ≡ length g - x → p < length g
@@ -290,10 +281,10 @@ popped g done marks ready ready_next waiting x p good perm heap top e inside = r
       (list_any-IsPermutation (nat_eq (length g - i)) ready (x ∷ ready_next) perm
       ∙ rw (
         closed,
-        not_true (nat_eq (length g - i) x)
+        false_from_ne_true (nat_eq (length g - i) x)
             (λ s. (let same = same_place (length g - i) x s in other (omega (arith, same, within, e)))),
       ) refl);
-  before = λ j less. not_true (has ready_next (length g - j))
+  before = λ j less. false_from_ne_true (has ready_next (length g - j))
       (λ h. (let low = at_most x ready_next (le_from_greatest x ready_next top) (length g - j) h in
       absurd (omega (arith, low, less, e, inside))));
 }
@@ -313,7 +304,7 @@ popped_past g done marks ready ready_next waiting x good perm heap past = record
       (list_any-IsPermutation (nat_eq (length g - i)) ready (x ∷ ready_next) perm
       ∙ rw (
         closed,
-        not_true (nat_eq (length g - i) x)
+        false_from_ne_true (nat_eq (length g - i) x)
             (λ s. (let same = same_place (length g - i) x s in absurd (omega (arith, same, within, past)))),
       ) refl);
 }

@@ -42,7 +42,7 @@ steps (suc k) g done = step (steps k g) done (next g done)
 unfoldable pub order_of : Graph → List ℕ
 order_of g = steps (length g) g []
 
--- each of these stands behind all that it depends on, where others are done before
+-- each of these comes after all that it depends on, where others are done before
 pub data InOrder (g : Graph) : List ℕ → List ℕ → Type 0 where
   nothing : {done : List ℕ} → InOrder g done []
   behind : {done : List ℕ} → (i : ℕ) (others : List ℕ) → i < length g → is_next g done i ≡ true → InOrder g (done ++ i ∷ []) others → InOrder g done (i ∷ others)
@@ -67,7 +67,7 @@ IsInOrder g all = InOrder g [] all
 abbrev pub left_out : Graph → ℕ → Bool
 left_out g i = not (is_in (order_of g) i)
 
--- a global that is left out stands in a circle of such, and the order leaves out one of each circle
+-- a global that is left out is in a circle of such, and the order leaves out one of each circle
 pub record StopsAtCircles (g : Graph) : Type 0 where
   pub left_out_by : (i : ℕ) → i < length g → left_out g i ≡ true → IsCircle g (left_out g)
   pub leaves_out : (of : ℕ → Bool) → (circle : IsCircle g of) → left_out g circle.one ≡ true

@@ -8,7 +8,9 @@
 //! order is the second, the third, the first.
 #![tactic(auto)]
 
+pub mod graph_orders;
 mod orders;
+pub mod reached_places;
 mod waits;
 
 pub use orders::order;

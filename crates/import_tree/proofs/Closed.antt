@@ -1,12 +1,12 @@
 -- Stylesheets that files hold are closed.
 use Rattle.std.proofs.Common.{◌≡◌, ℕ, List, [], true, sym, subst}
 use Rattle.xt_sheets.specs.declared.sheets.Sheet.{Sheet}
-use Rattle.closed_stylesheets.specs.SheetClosure.Closed.{is_closed}
+use Rattle.sheet_closure.specs.Closed.{is_closed}
 use Rattle.module_loading.specs.Held.{Holdings}
 use Rattle.module_loading.specs.Loads.{IsLoadedSheet}
 use Rattle.module_loading.specs.declared.loaded.LoadedSheet.{LoadedSheet}
-use Rattle.closed_stylesheets.specs.LoadedSheets.Sheets.{sheet_faults, sheet_value}
-use Rattle.closed_stylesheets.proofs.Loaded.{loaded_closed}
+use Rattle.loaded_sheets.specs.Sheets.{sheet_faults, sheet_value}
+use Rattle.import_tree.proofs.ClosedStylesheets.Loaded.{loaded_closed}
 use Rattle.import_tree.specs.Laws.{SheetsAreClosed}
 use Rattle.import_tree.specs.Sheets.{sheet_links}
 

@@ -13,16 +13,16 @@ use Rattle.doc_grammar.specs.Lines.{text_of}
 use Rattle.doc_grammar.proofs.Runs.{document_one}
 use Rattle.doc_grammar.proofs.DeclaredReads.{declared_one}
 use Rattle.doc_reader.specs.declared.Scoped.{Scoped}
-use Rattle.module_names.specs.Names.{resolved}
+use Rattle.sheet_modules.specs.ModuleNames.Names.{resolved}
 use Rattle.sheet_modules.specs.declared.links.Link.{Link}
-use Rattle.sheet_levels.specs.declared.levels.SheetLevel.{SheetLevel}
+use Rattle.sheet_modules.specs.declared.sheet_levels.levels.SheetLevel.{SheetLevel}
 use Rattle.module_loading.specs.declared.loaded.LoadedModule.{LoadedModule}
 use Rattle.module_loading.specs.declared.loaded.LoadedSheet.{LoadedSheet}
 use Rattle.module_loading.specs.Held.{HoldsModule, StandsFor}
 use Rattle.module_loading.specs.Trees.{Modules, none, linked, listed, all_levels}
 use Rattle.module_loading.specs.Walk.{IsModule, LeadTo}
 use Rattle.module_loading.specs.Loads.{IsLoadedSheet}
-use Rattle.closed_stylesheets.specs.LoadedSheets.Sheets.{sheet_faults, sheet_value}
+use Rattle.loaded_sheets.specs.Sheets.{sheet_faults, sheet_value}
 use Rattle.import_tree.specs.Sheets.{sheet_links, HoldsSheet, BreaksRule}
 
 abbrev Map : Type 0

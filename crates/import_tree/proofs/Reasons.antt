@@ -2,7 +2,7 @@
 use Rattle.std.proofs.Common.{◌<◌, ◌^◌, ℕ, ◌+◌, List, [], ◌∷◌, length, length-append, arith}
 use Rattle.std.proofs.Common.{ap, inl, inr}
 use Rattle.xt_io.specs.Files.{FilesState}
-use Rattle.sheet_levels.specs.declared.levels.SheetLevel.{SheetLevel}
+use Rattle.sheet_modules.specs.declared.sheet_levels.levels.SheetLevel.{SheetLevel}
 use Rattle.module_loading.specs.declared.faults.SheetFault.{SheetFault}
 use Rattle.module_loading.specs.declared.faults.SheetFault.TheVariants.{Load, TooLong, Malformed}
 use Rattle.module_loading.specs.declared.faults.SheetFault.TheVariants.{Static, Memory}
@@ -12,8 +12,8 @@ use Rattle.module_loading.specs.Trees.{spans, levels}
 use Rattle.module_loading.specs.Loads.{IsLoadedSheet}
 use Rattle.module_loading.specs.Refusals.{IsModuleRefusedAs}
 use Rattle.module_loading.proofs.Trees.{length-listed, length-levels, levels_fit}
-use Rattle.loaded_parts.specs.Names.{AllCanBeRead}
-use Rattle.loaded_parts.proofs.Readable.{all_read}
+use Rattle.loaded_sheets.specs.LoadedParts.Names.{AllCanBeRead}
+use Rattle.loaded_sheets.proofs.LoadedParts.Readable.{all_read}
 use Rattle.import_tree.specs.Sheets.{sheet_links, IsUnreadAs, IsSheetRefusedAs}
 
 pub readable : (files : Holdings) (name : List ℕ) (loaded : LoadedSheet)

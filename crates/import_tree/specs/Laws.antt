@@ -3,7 +3,7 @@
 use Rattle.std.specs.Prelude.{◌≡◌, ℕ, List, Option, Some, true}
 use Rattle.xt_names.specs.declared.codes.Code.{Code}
 use Rattle.xt_sheets.specs.declared.sheets.Sheet.{Sheet}
-use Rattle.closed_stylesheets.specs.SheetClosure.Closed.{is_closed}
+use Rattle.sheet_closure.specs.Closed.{is_closed}
 use Rattle.module_loading.specs.Held.{Holdings}
 use Rattle.import_tree.specs.Sheets.{HoldsSheet, BreaksRule}
 

@@ -6,7 +6,7 @@ use Rattle.xt_sheets.specs.declared.sheets.Sheet.{Sheet}
 use Rattle.expr_names.specs.Answers.{first}
 use Rattle.doc_reader.specs.declared.Scoped.{Scoped}
 use Rattle.sheet_modules.specs.declared.links.Link.{Link}
-use Rattle.loaded_parts.specs.ModuleReader.Links.{links_of}
+use Rattle.module_loading.specs.ModuleReader.Links.{links_of}
 use Rattle.module_loading.specs.declared.faults.SheetFault.{SheetFault}
 use Rattle.module_loading.specs.declared.faults.SheetFault.TheVariants.{Load, TooLong, Malformed}
 use Rattle.module_loading.specs.declared.faults.SheetFault.TheVariants.{Static, Memory}
@@ -14,7 +14,7 @@ use Rattle.module_loading.specs.declared.loaded.LoadedSheet.{LoadedSheet}
 use Rattle.module_loading.specs.Held.{Holdings}
 use Rattle.module_loading.specs.Loads.{IsLoadedSheet}
 use Rattle.module_loading.specs.Refusals.{IsModuleRefusedAs}
-use Rattle.closed_stylesheets.specs.LoadedSheets.Sheets.{sheet_faults, sheet_value}
+use Rattle.loaded_sheets.specs.Sheets.{sheet_faults, sheet_value}
 
 -- the links of a module
 abbrev pub sheet_links : Scoped → List Link

@@ -10,11 +10,14 @@
 //! with XTSE0210, whatever else is wrong in it.
 #![tactic(auto)]
 
+pub mod closed_stylesheets;
+pub mod good_stylesheets;
 mod laws;
 mod links;
 mod loads;
 
 pub use laws::{sheets_are_closed, sheets_are_one};
 pub use links::SheetLinks;
+pub use loaded_sheets;
 pub use loads::{ReadSheet, load_sheet, load_with_modules};
 pub use module_loading::{LoadedModule, LoadedSheet, SheetFault};

@@ -2,8 +2,8 @@
 ghost use Rattle.import_tree.specs.Sheets.{sheet_links};
 
 use doc_reader::Scoped;
-use loaded_parts::module_reader::links_of;
 use module_loading::LinkReader;
+use module_loading::module_reader::links_of;
 use sheet_modules::Link;
 use std::alloc::{AllocError, Global};
 use xt_names::List;

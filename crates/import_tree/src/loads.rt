@@ -2,14 +2,14 @@
 ghost use Rattle.std.specs.Prelude.{◌≡◌, ◌+◌, ◌<◌, ◌^◌, [], length, true, Ok, Err, IfOk, IfErr};
 ghost use Rattle.std.specs.Str.{chars};
 ghost use Rattle.xt_io.specs.Files.{KeepsFiles};
-ghost use Rattle.closed_stylesheets.specs.SheetClosure.Closed.{is_closed};
-ghost use Rattle.loaded_parts.specs.Names.{AllCanBeRead};
-ghost use Rattle.closed_stylesheets.specs.LoadedSheets.Sheets.{sheet_faults, sheet_value};
+ghost use Rattle.sheet_closure.specs.Closed.{is_closed};
+ghost use Rattle.loaded_sheets.specs.LoadedParts.Names.{AllCanBeRead};
+ghost use Rattle.loaded_sheets.specs.Sheets.{sheet_faults, sheet_value};
 ghost use Rattle.import_tree.specs.Sheets.{IsSheet, HoldsSheet, IsUnreadAs, IsSheetRefusedAs};
 
 use crate::links::SheetLinks;
-use closed_stylesheets::loaded_sheets::read_sheet;
 use expr_names::ResolveFault;
+use loaded_sheets::read_sheet;
 use module_loading::{LoadedSheet, SheetFault, load_modules};
 use std::alloc::Global;
 use xt_io::Files;

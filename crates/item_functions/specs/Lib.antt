@@ -1,4 +1,6 @@
 pub mod OnSequences
 pub mod OnValues
 pub mod Outcomes
-pub use Rattle.sequence_functions.specs as SequenceFunctions
+pub mod SequenceFunctions
+pub mod NumberFunctions
+pub mod NodeFunctions

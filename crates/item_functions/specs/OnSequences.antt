@@ -1,13 +1,13 @@
 -- The functions on sequences (XQuery 1.0 and XPath 2.0 Functions and Operators, 15) on arguments of
 -- any kind, which are converted in turn to the types of the parameters.
 use Rattle.std.specs.Prelude.{List, Ok}
-use Rattle.function_arguments.specs.XdmItems.declared.items.Item.{Item}
-use Rattle.function_arguments.specs.Answers.{of_truth}
-use Rattle.function_arguments.specs.Arguments.{and_then, atom_argument, atom_arguments, integer_argument}
-use Rattle.sequence_functions.specs.Cardinality.{counted, has_no_item, has_item}
-use Rattle.sequence_functions.specs.Positions.{from_start, from_start_so_many, removed, inserted_before, index_of}
-use Rattle.sequence_functions.specs.Values.{distinct_values}
-use Rattle.node_functions.specs.Deep.{deep_equal}
+use Rattle.xdm_items.specs.declared.items.Item.{Item}
+use Rattle.xdm_items.specs.FunctionArguments.Answers.{of_truth}
+use Rattle.xdm_items.specs.FunctionArguments.Arguments.{and_then, atom_argument, atom_arguments, integer_argument}
+use Rattle.item_functions.specs.SequenceFunctions.Cardinality.{counted, has_no_item, has_item}
+use Rattle.item_functions.specs.SequenceFunctions.Positions.{from_start, from_start_so_many, removed, inserted_before, index_of}
+use Rattle.item_functions.specs.SequenceFunctions.Values.{distinct_values}
+use Rattle.item_functions.specs.NodeFunctions.Deep.{deep_equal}
 use Rattle.item_functions.specs.Outcomes.{Outcome, as_integer}
 
 unfoldable pub count_of : List Item → Outcome

@@ -4,13 +4,13 @@
 use Rattle.std.specs.Prelude.{ℤ, not, List, [], ◌∷◌, Option, Some, None, option_map, Ok}
 use Rattle.xt_names.specs.declared.kinds.CompareOp.{CompareOp}
 use Rattle.xt_atoms.specs.declared.atoms.Atom.{Atom as AtomValue}
-use Rattle.function_arguments.specs.XdmItems.Truth.{truth_of}
-use Rattle.function_arguments.specs.XdmItems.declared.items.Item.{Item}
-use Rattle.function_arguments.specs.Answers.{of_truth}
-use Rattle.function_arguments.specs.Arguments.{and_then, atom_arguments, optional_atom_argument, optional_integer_argument, optional_node_argument}
-use Rattle.number_functions.specs.Sums.{sum_of as integer_sum, absolute}
-use Rattle.number_functions.specs.Extremes.{extreme}
-use Rattle.node_functions.specs.Roots.{root_of as root_place}
+use Rattle.xdm_items.specs.Truth.{truth_of}
+use Rattle.xdm_items.specs.declared.items.Item.{Item}
+use Rattle.xdm_items.specs.FunctionArguments.Answers.{of_truth}
+use Rattle.xdm_items.specs.FunctionArguments.Arguments.{and_then, atom_arguments, optional_atom_argument, optional_integer_argument, optional_node_argument}
+use Rattle.item_functions.specs.NumberFunctions.Sums.{sum_of as integer_sum, absolute}
+use Rattle.item_functions.specs.NumberFunctions.Extremes.{extreme}
+use Rattle.item_functions.specs.NodeFunctions.Roots.{root_of as root_place}
 use Rattle.item_functions.specs.Outcomes.{Outcome, as_integer, as_truth, of_optional_atom, of_optional_node}
 
 -- of no item the second argument is the sum

@@ -3,10 +3,10 @@ use Rattle.std.specs.Prelude.{ℤ, Bool, List, [], ◌∷◌, Option, Some, None
 use Rattle.xt_names.specs.declared.codes.Code.{Code}
 use Rattle.xt_tree.specs.Place.{Place}
 use Rattle.xt_atoms.specs.declared.atoms.Atom.{Atom as AtomValue}
-use Rattle.function_arguments.specs.XdmItems.declared.items.Item.{Item}
-use Rattle.function_arguments.specs.XdmItems.declared.items.Item.TheVariants.{Node, Atom}
-use Rattle.function_arguments.specs.Answers.{of_integer, of_truth}
-use Rattle.function_arguments.specs.Arguments.{and_then}
+use Rattle.xdm_items.specs.declared.items.Item.{Item}
+use Rattle.xdm_items.specs.declared.items.Item.TheVariants.{Node, Atom}
+use Rattle.xdm_items.specs.FunctionArguments.Answers.{of_integer, of_truth}
+use Rattle.xdm_items.specs.FunctionArguments.Arguments.{and_then}
 
 -- the sequence that a call gives, or its error
 abbrev pub Outcome : Type 0

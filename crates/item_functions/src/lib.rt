@@ -8,13 +8,15 @@
 //! Example: `sum` of the attributes `a="1"` and `b="2"` is 3.
 #![tactic(auto)]
 
+pub mod node_functions;
+pub mod number_functions;
 mod on_sequences;
 mod on_values;
 mod outcomes;
+pub mod sequence_functions;
 
 pub use on_sequences::{
     count, deep_equal, distinct_values, empty, exists, index_of, insert_before, remove,
     subsequence, subsequence_for,
 };
 pub use on_values::{abs, boolean, max, min, not, root, sum, sum_with};
-pub use sequence_functions;

@@ -3,11 +3,10 @@ ghost use Rattle.xt_atoms.specs.Casts.{Answers};
 ghost use Rattle.item_functions.specs.OnSequences.{count_of, deep_equal_of, distinct_values_of, empty_of, exists_of, index_of_of, insert_before_of, remove_of, subsequence_for_of, subsequence_of};
 
 use crate::outcomes::integer_outcome;
-use function_arguments::xdm_items::ItemList;
-use function_arguments::{atom, atoms, integer, truth_list};
-use node_functions as nodes;
-use sequence_functions as sequences;
+use crate::{node_functions as nodes, sequence_functions as sequences};
 use std::alloc::Global;
+use xdm_items::ItemList;
+use xdm_items::function_arguments::{atom, atoms, integer, truth_list};
 use xt_atoms::ValueFault;
 
 /// The number of items (`fn:count`, Functions and Operators, 15.4.1).

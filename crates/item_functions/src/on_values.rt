@@ -2,19 +2,18 @@
 ghost use Rattle.std.specs.Prelude.{Ok, option_map};
 ghost use Rattle.xt_names.specs.declared.kinds.CompareOp.TheVariants as op;
 ghost use Rattle.xt_atoms.specs.Casts.{Answers};
-ghost use Rattle.node_functions.specs.Roots.{root_of as root_place};
+ghost use Rattle.item_functions.specs.NodeFunctions.Roots.{root_of as root_place};
 ghost use Rattle.item_functions.specs.OnValues.{abs_of, absolute_of, boolean_of, not_of, root_of};
 ghost use Rattle.item_functions.specs.OnValues.{extreme_atom, extreme_of, sum_of, sum_or, sum_with_of};
 ghost use Rattle.item_functions.specs.Outcomes.{of_optional_node};
 
 use crate::outcomes::{integer_outcome, node_list, optional_atom_list, truth_outcome};
-use function_arguments::xdm_items::{ItemList, ebv};
-use function_arguments::{
+use crate::{node_functions as nodes, number_functions as numbers};
+use std::alloc::Global;
+use xdm_items::function_arguments::{
     are_atoms, atoms, no_items, optional_atom, optional_integer, optional_node, truth_list,
 };
-use node_functions as nodes;
-use number_functions as numbers;
-use std::alloc::Global;
+use xdm_items::{ItemList, ebv};
 use xt_atoms::{Atom, ValueFault};
 use xt_tree::Node;
 

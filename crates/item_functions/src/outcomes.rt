@@ -3,9 +3,9 @@ ghost use Rattle.std.specs.Prelude.{◌≡◌, IfOk, Some};
 ghost use Rattle.xt_atoms.specs.Casts.{Answers};
 ghost use Rattle.item_functions.specs.Outcomes.{as_integer, as_truth, of_optional_atom, of_optional_node};
 
-use function_arguments::xdm_items::{Item, ItemList};
-use function_arguments::{atom_list, integer_list, no_items, truth_list};
 use std::alloc::{AllocError, Global};
+use xdm_items::function_arguments::{atom_list, integer_list, no_items, truth_list};
+use xdm_items::{Item, ItemList};
 use xt_atoms::{Atom, ValueFault};
 use xt_names::Code;
 use xt_tree::Node;

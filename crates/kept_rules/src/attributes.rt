@@ -1,7 +1,7 @@
 // The names of attributes.
 ghost use Rattle.std.specs.Prelude.{◌≡◌, map, IfOk};
 ghost use Rattle.expr_names.specs.Doubles.{names_differ};
-ghost use Rattle.clean_raws.specs.Keeps.{attr_names, kept_attr};
+ghost use Rattle.raw_laws.specs.CleanRaws.Keeps.{attr_names, kept_attr};
 
 use expr_names::names_differ;
 use std::alloc::{AllocError, Global};

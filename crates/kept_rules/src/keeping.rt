@@ -1,11 +1,11 @@
 // The rules, form by form.
 ghost use Rattle.std.specs.Prelude.{◌≡◌, ◌&&◌, true, map, option_map, IfOk};
 ghost use Rattle.expr_names.specs.Doubles.{names_differ};
-ghost use Rattle.clean_raws.specs.Keeps.{all, all_binds, all_attrs, attr_names, if_keeps};
-ghost use Rattle.clean_raws.specs.Keeps.{keeps_rules, arm_keeps_rules, clause_keeps_rules};
-ghost use Rattle.clean_raws.specs.Keeps.{kept_bind, order_keeps_rules, source_keeps_rules};
-ghost use Rattle.clean_raws.specs.Keeps.{kept_attr, part_keeps_rules, flwor_keeps_rules};
-ghost use Rattle.expr_places.specs.Families.{is_branch, is_pair, is_named_constructor};
+ghost use Rattle.raw_laws.specs.CleanRaws.Keeps.{all, all_binds, all_attrs, attr_names, if_keeps};
+ghost use Rattle.raw_laws.specs.CleanRaws.Keeps.{keeps_rules, arm_keeps_rules, clause_keeps_rules};
+ghost use Rattle.raw_laws.specs.CleanRaws.Keeps.{kept_bind, order_keeps_rules, source_keeps_rules};
+ghost use Rattle.raw_laws.specs.CleanRaws.Keeps.{kept_attr, part_keeps_rules, flwor_keeps_rules};
+ghost use Rattle.expr_drafts.specs.ExprPlaces.Families.{is_branch, is_pair, is_named_constructor};
 
 use crate::attributes::attrs_differ;
 use crate::leaves::{is_cast_type, is_other};

@@ -1,6 +1,6 @@
 // What needs no look at parts.
 ghost use Rattle.std.specs.Prelude.{◌≡◌};
-ghost use Rattle.clean_raws.specs.Keeps.{is_cast_type, is_other};
+ghost use Rattle.raw_laws.specs.CleanRaws.Keeps.{is_cast_type, is_other};
 
 use xt_names::{AtomType, ExprName};
 

@@ -9,5 +9,6 @@
 mod attributes;
 mod keeping;
 mod leaves;
+pub mod nest_limits;
 
 pub use keeping::keeps_rules;

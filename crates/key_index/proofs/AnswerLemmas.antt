@@ -24,19 +24,19 @@ step_total = then_total (on_total (λ (s : ℕ × ℕ). s.0) nat_cmp_total) (on_
 place_total : IsTotalOrder place_cmp
 place_total = on_total (λ (n : Place). steps n.path n.attribute) (lists_total step_total)
 
-order_total : IsTotalOrder node_order
+pub order_total : IsTotalOrder node_order
 order_total = then_total (on_total (λ (n : Place). n.number) nat_cmp_total) place_total
 
--- the nodes of the pairs that are put behind a node
+-- the nodes of the pairs that are put after a node
 abbrev behind : Place → List KeyPair → List Item
 behind l [] = []
 behind l (p ∷ ps) = if is_eq (node_order l p.node) then behind l ps else item.Node p.node ∷ behind p.node ps
 
-at_end : (xs : List Item) (x : Item) → slice_get (xs ++ x ∷ []) (length xs) ≡ Some x
+pub at_end : (xs : List Item) (x : Item) → slice_get (xs ++ x ∷ []) (length xs) ≡ Some x
 at_end [] x = refl
 at_end (y ∷ ys) x = at_end ys x
 
-last_is : (xs : List Item) (l n : Place) → stands_last (xs ++ item.Node l ∷ []) n ≡ is_eq (node_order l n)
+pub last_is : (xs : List Item) (l n : Place) → stands_last (xs ++ item.Node l ∷ []) n ≡ is_eq (node_order l n)
 last_is xs l n =
     let e : length (xs ++ item.Node l ∷ []) - 1 ≡ length xs = omega (arith, length-append xs (item.Node l ∷ [])) in
     rw (e, at_end xs (item.Node l)) refl

@@ -25,7 +25,7 @@ is_greater x y h = sym (nat_cmp_is x y Greater h)
 is_equal : (x : ℕ) → nat_cmp x x ≡ Equal
 is_equal x = sym (nat_cmp_is x x Equal refl)
 
--- no place of the list stands before the next one
+-- no place of the list comes before the next one
 abbrev IsAfter : ℕ → List ℕ → Type 0
 IsAfter n [] = Unit {0}
 IsAfter n (y ∷ ys) = n < y

@@ -12,9 +12,9 @@ use Rattle.xt_atoms.specs.Keys.{key_same}
 use Rattle.xt_atoms.specs.declared.atoms.Atom.{Atom}
 use Rattle.xdm_items.specs.declared.items.Item.{Item}
 use Rattle.xdm_items.specs.declared.items.Item.TheVariants as item
-use Rattle.atom_keys.proofs.KeyLemmas.{same_key_laws as laws}
-use Rattle.atom_keys.specs.Tables.{ends_in, joined, with_place, places_of}
-use Rattle.atom_keys.specs.declared.tables.KeyEntry.{KeyEntry}
+use Rattle.order_group.proofs.AtomKeys.KeyLemmas.{same_key_laws as laws}
+use Rattle.order_group.specs.AtomKeys.Tables.{ends_in, joined, with_place, places_of}
+use Rattle.order_group.specs.declared.atom_keys.tables.KeyEntry.{KeyEntry}
 use Rattle.order_group.specs.Groups.{atoms_of, has_key, places_where}
 use Rattle.order_group.specs.Steps.{with_row}
 use Rattle.key_index.specs.Keys.{put_pairs, put_found, put_places, with_pairs, has_one, only_atom}
@@ -23,6 +23,7 @@ use Rattle.key_index.specs.Merges.{merged}
 use Rattle.key_index.specs.Nodes.{put_node}
 use Rattle.key_index.proofs.MergeLemmas.{merged_where, no_place, some_of_halves}
 use Rattle.key_index.specs.declared.indexes.KeyPair.{KeyPair}
+use Rattle.std.proofs.Math.Bool.{or-false}
 
 -- the places under a key, after one more place under some key
 places_put : (es : List KeyEntry) (b a : Atom) (n : ℕ)
@@ -151,10 +152,6 @@ found_places a pairs =
 abbrev has_entry : List KeyEntry → Atom → Bool
 has_entry es v = list_any (λ e. key_same e.key v) es
 
-or_false : (b : Bool) → b || false ≡ b
-or_false true = refl
-or_false false = refl
-
 or_other : (a b c : Bool) → a || (b || c) ≡ b || (a || c)
 or_other true true c = refl
 or_other true false c = refl
@@ -182,7 +179,7 @@ entry_put (e ∷ es) a n v = by (key_same a e.key) refl (entry_put es a n v)
 
 row_entry : (es : List KeyEntry) (keys : List Atom) (n : ℕ) (v : Atom)
     → has_entry (with_row es keys n) v ≡ has_entry es v || has_key v keys
-row_entry es [] n v = sym (or_false (has_entry es v))
+row_entry es [] n v = sym (or-false (has_entry es v))
 row_entry es (a ∷ keys) n v =
     row_entry (with_place es a n) keys n v
     ∙ ap (λ s. s || has_key v keys)
@@ -212,7 +209,7 @@ one_key pairs values a h =
     (sym (only_key values a h))
   where
     same : (v : Atom) → key_same a v ≡ has_key v (a ∷ [])
-    same v = laws.symm a v ∙ sym (or_false (key_same v a))
+    same v = laws.symm a v ∙ sym (or-false (key_same v a))
 
 -- the places of the pairs whose values are the same as one of the keys
 
@@ -230,7 +227,7 @@ one_has table (x ∷ y ∷ keys) k made l h e f pairs t = absurd (omega arith)
 one_has table (x ∷ []) k made l h e f pairs t =
     f ∙ ap₂ (λ u (z : KeyEntry). places_of u z.key) t e ∙ one_place x.key pairs
     ∙ ap (λ test. places_where test 0 pairs)
-    (λ i (p : KeyPair). sym (or_false (key_same x.key p.value)) i)
+    (λ i (p : KeyPair). sym (or-false (key_same x.key p.value)) i)
 
 pub halves_have : (keys first_keys second_keys : List KeyEntry) (half : ℕ)
     (made first second : List ℕ) (pairs : List KeyPair) → made ≡ merged first second

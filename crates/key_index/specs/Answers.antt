@@ -9,7 +9,7 @@ use Rattle.order_group.specs.Groups.{atoms_of, has_key}
 use Rattle.key_index.specs.Nodes.{is_at, node_order}
 use Rattle.key_index.specs.declared.indexes.KeyPair.{KeyPair}
 
--- the node stands at no place behind those of the pairs
+-- the node is at no place after those of the pairs
 abbrev pub IsFirst : Place → List KeyPair → Type 0
 IsFirst n [] = Unit {0}
 IsFirst n (p ∷ pairs) = (is_le (node_order n p.node) ≡ true) × IsFirst n pairs
@@ -19,7 +19,7 @@ abbrev pub StandInOrder : List KeyPair → Type 0
 StandInOrder [] = Unit {0}
 StandInOrder (p ∷ pairs) = IsFirst p.node pairs × StandInOrder pairs
 
--- two nodes, of which the first stands before the second
+-- two nodes, of which the first comes before the second
 abbrev pub is_before : Item → Item → Bool
 is_before (item.Node a) (item.Node b) = is_lt (node_order a b)
 is_before x y = false

@@ -5,8 +5,8 @@ use Rattle.xt_atoms.specs.Keys.{key_same}
 use Rattle.xt_atoms.specs.declared.atoms.Atom.{Atom}
 use Rattle.xdm_items.specs.declared.items.Item.{Item}
 use Rattle.xdm_items.specs.declared.items.Item.TheVariants as item
-use Rattle.atom_keys.specs.Tables.{with_place}
-use Rattle.atom_keys.specs.declared.tables.KeyEntry.{KeyEntry}
+use Rattle.order_group.specs.AtomKeys.Tables.{with_place}
+use Rattle.order_group.specs.declared.atom_keys.tables.KeyEntry.{KeyEntry}
 use Rattle.order_group.specs.Groups.{atoms_of, has_key}
 use Rattle.key_index.specs.Nodes.{put_node}
 use Rattle.key_index.specs.declared.indexes.KeyPair.{KeyPair}

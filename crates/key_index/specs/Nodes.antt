@@ -19,6 +19,6 @@ is_at (item.Atom a) node = false
 abbrev pub stands_last : List Item → Place → Bool
 stands_last items node = option_map_or (λ last. is_at last node) (slice_get items (length items - 1)) false
 
--- with the node at the end, unless it stands there
+-- with the node at the end, unless it is there
 abbrev pub put_node : List Item → Place → List Item
 put_node items node = if stands_last items node then items else items ++ item.Node node ∷ []

@@ -7,7 +7,7 @@ ghost use Rattle.key_index.specs.Keys.{with_pairs};
 
 use crate::merges::places_among;
 use crate::nodes::put_node;
-use atom_keys::KeyTable;
+use order_group::atom_keys::KeyTable;
 use std::alloc::{AllocError, Global};
 use std::marker::Model;
 use xdm_items::{Item, ItemList};

@@ -1,12 +1,12 @@
 // The places of the pairs that have one of several keys.
 ghost use Rattle.std.specs.Prelude.{◌≡◌, [], List as Items, IfOk};
 ghost use Rattle.order_group.specs.Groups.{places_where};
-ghost use Rattle.atom_keys.specs.Tables.{places_of};
+ghost use Rattle.order_group.specs.AtomKeys.Tables.{places_of};
 ghost use Rattle.key_index.specs.Keys.{with_pairs, has_one};
 ghost use Rattle.key_index.specs.Merges.{merged};
 ghost use Rattle.key_index.specs.declared.indexes.KeyPair.{KeyPair as Pair};
 
-use atom_keys::{KeyEntry, KeyTable};
+use order_group::atom_keys::{KeyEntry, KeyTable};
 use std::alloc::{AllocError, Global};
 use std::cmp::Ordering;
 use xt_atoms::Atom;

@@ -6,7 +6,7 @@ use std::alloc::AllocError;
 use xdm_items::{Item, ItemList};
 use xt_tree::{Node, order_all};
 
-/// Puts the node at the end, unless it stands there.
+/// Puts the node at the end, unless it is there.
 pub fn put_node(items: &mut ItemList, node: &Node) -> Result<(), AllocError>
     ensures { OnOk result (items.new ≡ put_node items.old node.now) }
 {

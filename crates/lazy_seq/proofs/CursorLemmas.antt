@@ -7,7 +7,7 @@ use Rattle.xt_types.specs.declared.axes.Axis.{Axis}
 use Rattle.xt_types.specs.declared.node_tests.Test.{Test}
 use Rattle.xdm_items.specs.NodeTests.Tests.{passes_at}
 use Rattle.node_walks.specs.NodeAxes.Course.{Course, to_come}
-use Rattle.node_walks.specs.StepWalks.Hits.{hits_ahead, steps_to_hit, steps_ahead}
+use Rattle.node_walks.specs.NodeAxes.StepWalks.Hits.{hits_ahead, steps_to_hit, steps_ahead}
 use Rattle.xdm_items.specs.declared.items.Item.{Item}
 use Rattle.xdm_items.specs.declared.items.Item.TheVariants.{Node}
 use Rattle.node_walks.specs.Courses.{moves_along, moves_to_come}

@@ -13,8 +13,8 @@ use Rattle.std.proofs.lemmas.Cmp.{nat_cmp_total, on_total, then_total, lists_tot
 use Rattle.xt_tree.specs.Place.{step_cmp}
 use Rattle.xdm_items.specs.declared.items.Item.{Item}
 use Rattle.lazy_seq.specs.Orders.{item_key, item_cmp, stands_before, in_document_order}
-use Rattle.lazy_seq.specs.Stable.{put_in, stable_order}
 use Rattle.lazy_seq.proofs.StableLemmas.{is_stable_order}
+use Rattle.xt_names.specs.Lists.{put_in, stable_order}
 
 step_total : IsTotalOrder step_cmp
 step_total = then_total (on_total (λ (s : ℕ × ℕ). s.0) nat_cmp_total)
@@ -35,7 +35,7 @@ unfolding IsStrictlySortedBy
 rises_all [] h = tt
 rises_all (x ∷ xs) h = sorted_from_all_adjacent item_total (x ∷ xs) x (λ k l. h k x l)
 
--- the second stands after the first
+-- the second comes after the first
 turned : (x y : Item) → item_cmp x y ≡ Less → item_cmp y x ≡ Greater
 turned x y e = item_total.antisymm y x ∙ ap ordering_reverse e
 

@@ -5,7 +5,7 @@ use Rattle.std.specs.Prelude.{Bool, true, false, not, ◌&&◌, cond, filter, if
 use Rattle.std.specs.Cmp.{IsStrictWeakOrder}
 use Rattle.std.specs.List.Sorted.{IsSortedBy, IsStableBy, ties}
 use Rattle.std.proofs.lemmas.List.Sorted.{sorted_far}
-use Rattle.lazy_seq.specs.Stable.{put_in, stable_order}
+use Rattle.xt_names.specs.Lists.{put_in, stable_order}
 
 module _ {X : Type 0} (below : X → X → Bool) where
   -- no element of the list is below x

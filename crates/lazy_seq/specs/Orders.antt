@@ -8,7 +8,7 @@ use Rattle.std.specs.declared.cmp.Ordering.{Ordering}
 use Rattle.xt_tree.specs.Place.{steps, step_cmp}
 use Rattle.xdm_items.specs.declared.items.Item.{Item}
 use Rattle.xdm_items.specs.declared.items.Item.TheVariants.{Node, Atom}
-use Rattle.lazy_seq.specs.Stable.{stable_order}
+use Rattle.xt_names.specs.Lists.{stable_order}
 
 -- the number of the tree, and the way to the node
 unfoldable pub item_key : Item → List (ℕ × ℕ)

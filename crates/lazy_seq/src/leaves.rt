@@ -16,7 +16,7 @@ use xdm_items::Item;
 use xt_atoms::Atom;
 
 /// Items that are held, integers of a range, or what a walk along an axis gives. A walk is large, so
-/// that it stands behind a pointer: sequences are handed on by value.
+/// that it comes after a pointer: sequences are handed on by value.
 #[derive(Drop)]
 pub(crate) enum Leaf {
     Stock(Stock),

@@ -21,7 +21,7 @@ pub(crate) fn in_order(items: ItemList) -> Result<ItemList, AllocError>
     Ok(ItemList::of_vec(nodes))
 }
 
-/// Whether each node stands before the next.
+/// Whether each node comes before the next.
 fn rises(items: &[Item]) -> bool
     ensures { result ≡ true → IsStrictlySortedBy item_cmp items.now }
 {

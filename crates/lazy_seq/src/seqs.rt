@@ -4,10 +4,10 @@ ghost use Rattle.std.specs.Prelude.{[], length, slice_get, is_some, not, pos, ma
 ghost use Rattle.std.specs.List.{flat_map, list_all, sum_by};
 ghost use Rattle.std.specs.Option.{option_to_list, SomeIff};
 ghost use Rattle.node_walks.specs.NodeAxes.Course.{to_come};
-ghost use Rattle.node_walks.specs.StepWalks.Hits.{hits_ahead, steps_ahead};
-ghost use Rattle.node_walks.specs.StepWalks.Nodes.{kept_by_all};
+ghost use Rattle.node_walks.specs.NodeAxes.StepWalks.Hits.{hits_ahead, steps_ahead};
+ghost use Rattle.node_walks.specs.NodeAxes.StepWalks.Nodes.{kept_by_all};
 ghost use Rattle.node_walks.specs.QuietMeaning.Paths.{are_allowed, keeps};
-ghost use Rattle.node_walks.specs.QuietPlaces.Free.{is_size_free_expr};
+ghost use Rattle.node_walks.specs.QuietEval.QuietPlaces.Free.{is_size_free_expr};
 ghost use Rattle.xdm_items.specs.declared.items.Item.TheVariants.{Node as a_node};
 ghost use Rattle.node_walks.specs.Courses.{moves_to_come};
 ghost use Rattle.node_walks.specs.Moves.{given, steps_before, all_steps, settled, has_item, giving};
@@ -26,7 +26,7 @@ use crate::shares::SharedStock;
 use crate::stacks::{Top, bring_up, first_of_parts, next_of_parts};
 use crate::stocks::Stock;
 use node_walks::node_axes::{Cursor, Steps};
-use node_walks::quiet_places::is_size_free;
+use node_walks::quiet_eval::quiet_places::is_size_free;
 use node_walks::{Walk, kept_hits};
 use std::alloc::{AllocError, Global};
 use std::marker::{Brand, Model};
@@ -311,7 +311,7 @@ impl Seq {
     }
 
     /// The same nodes in document order, each once (XPath 2.0, 2.4.1). Nodes that come so already
-    /// are not sorted again. Callers give nodes alone: atoms stand before all nodes and count as
+    /// are not sorted again. Callers give nodes alone: atoms come before all nodes and count as
     /// one.
     pub fn in_document_order(self, alloc: Global) -> Result<Seq, AllocError>
         ensures moves { let items = in_document_order (given self.moves) in

@@ -11,11 +11,11 @@ use Rattle.xt_sheets.specs.declared.sheets.Global.{Global}
 use Rattle.expr_names.specs.Answers.{first}
 use Rattle.sheet_modules.specs.declared.modules.Part.{Part}
 use Rattle.sheet_modules.specs.declared.modules.Part.TheVariants as part
-use Rattle.sheet_declarations.specs.declared.lists.Declaration.{Declaration}
+use Rattle.sheet_rules.specs.declared.sheet_declarations.lists.Declaration.{Declaration}
 use Rattle.sheet_assembly.specs.Named.{is_marked, behind, each_by, global_in, global_if, at}
 use Rattle.sheet_assembly.specs.Named.{ordered}
 
--- the next global, and those behind it
+-- the next global, and those after it
 at_next : (gs : List Global) (i n : ℕ)
     → at (slice_get gs i) ++ take n (drop (suc i) gs) ≡ take (suc n) (drop i gs)
 at_next [] zero zero = refl

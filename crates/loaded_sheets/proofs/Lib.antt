@@ -1,3 +1,4 @@
 pub mod Ranges
 pub mod Globals
 pub mod WideLemmas
+pub mod LoadedParts

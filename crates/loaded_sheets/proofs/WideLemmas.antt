@@ -18,16 +18,16 @@ use Rattle.name_rules.specs.declared.functions.Signature.{Signature}
 use Rattle.name_rules.specs.Scopes.{has_name, with_names}
 use Rattle.sheet_uses.specs.declared.uses.Use.{Use}
 use Rattle.sheet_uses.specs.declared.uses.Use.TheVariants as use_of
-use Rattle.sheet_rules.specs.SheetNames.declared.names.Names.{Names}
-use Rattle.sheet_rules.specs.SheetNames.Names.{as_name}
-use Rattle.sheet_rules.specs.SheetNames.Uses.{broken_key, broken_use, broken_uses, broken_in, is_callable, is_key_call}
-use Rattle.sheet_declarations.specs.declared.lists.Declaration.{Declaration}
-use Rattle.wide_rules.specs.declared.passing.Parameters.{Parameters}
-use Rattle.wide_rules.specs.Doubles.{code_if, double_codes, doubles_of}
-use Rattle.wide_rules.specs.Outputs.{outputs_differ}
-use Rattle.wide_rules.specs.Passing.{passes_in_vain, leaves_out, passing_codes, broken_passing, broken_passings}
-use Rattle.wide_rules.specs.First.{wide_codes, has_code, first_of, first_wide}
-use Rattle.key_calls.specs.Called.{called_code, called_codes, is_declared}
+use Rattle.sheet_rules.specs.SheetExpressions.declared.sheet_names.names.Names.{Names}
+use Rattle.sheet_rules.specs.SheetExpressions.SheetNames.Names.{as_name}
+use Rattle.sheet_rules.specs.SheetExpressions.SheetNames.Uses.{broken_key, broken_use, broken_uses, broken_in, is_callable, is_key_call}
+use Rattle.sheet_rules.specs.declared.sheet_declarations.lists.Declaration.{Declaration}
+use Rattle.sheet_rules.specs.declared.wide_rules.passing.Parameters.{Parameters}
+use Rattle.sheet_rules.specs.WideRules.Doubles.{code_if, double_codes, doubles_of}
+use Rattle.sheet_rules.specs.WideRules.Outputs.{outputs_differ}
+use Rattle.sheet_rules.specs.WideRules.Passing.{passes_in_vain, leaves_out, passing_codes, broken_passing, broken_passings}
+use Rattle.sheet_rules.specs.WideRules.First.{wide_codes, has_code, first_of, first_wide}
+use Rattle.sheet_uses.specs.KeyCalls.Called.{called_code, called_codes, is_declared}
 use Rattle.sheet_rules.specs.Names.{names_of, template_names, with_functions, missing_code, missing_codes}
 use Rattle.sheet_rules.specs.Uses.{declared_uses, declared_keys}
 use Rattle.sheet_rules.specs.Rules.{broken_rules}

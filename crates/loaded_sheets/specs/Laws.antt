@@ -8,9 +8,9 @@ use Rattle.xt_sheets.specs.declared.sheets.Sheet.{Sheet}
 use Rattle.expr_names.specs.Answers.{first}
 use Rattle.global_needs.specs.Needs.{needs}
 use Rattle.global_order.specs.Order.{IsInOrder}
-use Rattle.sheet_levels.specs.declared.levels.SheetLevel.{SheetLevel}
-use Rattle.sheet_declarations.specs.declared.lists.Declaration.{Declaration}
-use Rattle.sheet_declarations.specs.Counts.{counted_of}
+use Rattle.sheet_modules.specs.declared.sheet_levels.levels.SheetLevel.{SheetLevel}
+use Rattle.sheet_rules.specs.declared.sheet_declarations.lists.Declaration.{Declaration}
+use Rattle.sheet_rules.specs.SheetDeclarations.Counts.{counted_of}
 use Rattle.sheet_assembly.specs.Named.{each_by, global_if}
 use Rattle.module_loading.specs.declared.loaded.LoadedSheet.{LoadedSheet}
 use Rattle.loaded_sheets.specs.Wholes.{declared_sheet, evaluation_order, wide_broken, wide_faults}
@@ -23,7 +23,7 @@ AllGlobalsAreDeclared = (ds : List (Declaration Expr Pattern)) (modes called : L
     (levels : List SheetLevel)
     → (declared_sheet ds modes called levels).globals ≡ each_by global_if (counted_of ds) ds
 
--- each stands behind those on which it depends
+-- each comes after those on which it depends
 abbrev pub GlobalsStandInOrder : Type 0
 GlobalsStandInOrder = (s : Sheet) → IsInOrder (needs s) (evaluation_order s)
 

@@ -1,5 +1,6 @@
 pub mod Wholes
 pub mod Sheets
 pub mod Laws
-pub use Rattle.loaded_parts.specs as LoadedParts
+pub mod LoadedParts
+pub use Rattle.module_loading.specs as ModuleLoading
 pub use Rattle.sheet_language.specs as SheetLanguage

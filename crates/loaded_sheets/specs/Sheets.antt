@@ -6,12 +6,12 @@ use Rattle.xt_syntax.specs.declared.exprs.Expr.{Expr}
 use Rattle.xt_syntax.specs.declared.patterns.Pattern.{Pattern}
 use Rattle.xt_sheets.specs.declared.sheets.Sheet.{Sheet}
 use Rattle.sheet_language.specs.Language.{sheet_reading}
-use Rattle.sheet_declarations.specs.declared.lists.Declaration.{Declaration}
-use Rattle.sheet_declarations.specs.Declarations.{declarations_of}
+use Rattle.sheet_rules.specs.declared.sheet_declarations.lists.Declaration.{Declaration}
+use Rattle.sheet_rules.specs.SheetDeclarations.Declarations.{declarations_of}
 use Rattle.module_loading.specs.declared.loaded.LoadedSheet.{LoadedSheet}
-use Rattle.loaded_parts.specs.Names.{with_levels, names_alone}
-use Rattle.loaded_parts.specs.Parts.{modules_faults, modules_value}
-use Rattle.loaded_parts.specs.declared.names.SheetNames.{SheetNames}
+use Rattle.loaded_sheets.specs.LoadedParts.Names.{with_levels, names_alone}
+use Rattle.loaded_sheets.specs.LoadedParts.Parts.{modules_faults, modules_value}
+use Rattle.loaded_sheets.specs.declared.loaded_parts.names.SheetNames.{SheetNames}
 use Rattle.loaded_sheets.specs.Wholes.{declared_sheet, wide_faults, in_order}
 
 -- the names that have numbers
@@ -32,7 +32,7 @@ abbrev pub declared_in : LoadedSheet → Sheet
 declared_in l =
     declared_sheet (declarations_in l) (names_in l).modes (names_in l).called l.levels
 
--- the rules that are broken: those of single modules, and behind them those of the whole stylesheet
+-- the rules that are broken: those of single modules, and after them those of the whole stylesheet
 unfoldable pub sheet_faults : LoadedSheet → List Code
 sheet_faults l =
     own_faults l ++ wide_faults (declarations_in l) (names_in l).called (declared_in l)

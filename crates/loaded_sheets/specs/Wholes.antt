@@ -12,14 +12,14 @@ use Rattle.xt_sheets.specs.declared.sheets.Sheet.{Sheet}
 use Rattle.xt_sheets.specs.declared.sheets.Template.{Template}
 use Rattle.global_needs.specs.Needs.{needs}
 use Rattle.global_order.specs.Order.{order_of}
-use Rattle.sheet_levels.specs.declared.levels.SheetLevel.{SheetLevel}
-use Rattle.sheet_declarations.specs.declared.lists.Declaration.{Declaration}
+use Rattle.sheet_modules.specs.declared.sheet_levels.levels.SheetLevel.{SheetLevel}
+use Rattle.sheet_rules.specs.declared.sheet_declarations.lists.Declaration.{Declaration}
 use Rattle.sheet_assembly.specs.Named.{ordered}
 use Rattle.sheet_assembly.specs.Sheets.{sheet_of}
-use Rattle.wide_rules.specs.declared.passing.Parameters.{Parameters}
-use Rattle.wide_rules.specs.Passing.{parameters_of}
-use Rattle.wide_rules.specs.Doubles.{code_if}
-use Rattle.wide_rules.specs.First.{first_wide}
+use Rattle.sheet_rules.specs.declared.wide_rules.passing.Parameters.{Parameters}
+use Rattle.sheet_rules.specs.WideRules.Passing.{parameters_of}
+use Rattle.sheet_rules.specs.WideRules.Doubles.{code_if}
+use Rattle.sheet_rules.specs.WideRules.First.{first_wide}
 use Rattle.sheet_rules.specs.Rules.{broken_rules}
 
 -- The stylesheet with its globals in declaration order, given the names of its modes and of the

@@ -2,7 +2,7 @@
 ghost use Rattle.loaded_sheets.specs.Laws.{AllGlobalsAreDeclared, GlobalsStandInOrder};
 ghost use Rattle.loaded_sheets.specs.Laws.{ModulesComeFirst, WideRulesAreTold, AllRulesAreTold};
 
-/// The stylesheet has each global that counts, and each stands behind those on which it depends
+/// The stylesheet has each global that counts, and each comes after those on which it depends
 /// (XSLT 2.0, 9.5).
 pub fn globals_stand_in_order()
     ensures all { AllGlobalsAreDeclared }

@@ -12,9 +12,11 @@
 #![tactic(auto, using(expr_names::proofs::Follow::fault_first, expr_names::proofs::Follow::fault_next))]
 
 mod laws;
+pub mod loaded_parts;
 mod sheets;
 mod wholes;
 
 pub use laws::{broken_rules_are_told, globals_stand_in_order, modules_come_first};
+pub use module_loading;
 pub use sheets::read_sheet;
 pub use wholes::whole_sheet;

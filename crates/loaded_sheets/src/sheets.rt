@@ -1,18 +1,18 @@
 // The stylesheet of modules that are loaded.
 ghost use Rattle.std.specs.Prelude.{◌≡◌, ◌+◌, ◌<◌, ◌^◌, length, IfOk};
 ghost use Rattle.expr_names.specs.Answers.{Answers};
-ghost use Rattle.loaded_parts.specs.Names.{AllCanBeRead, nodes_in};
+ghost use Rattle.loaded_sheets.specs.LoadedParts.Names.{AllCanBeRead, nodes_in};
 ghost use Rattle.loaded_sheets.specs.Sheets.{names_in, own_faults, declarations_in};
 ghost use Rattle.loaded_sheets.specs.Sheets.{sheet_faults, sheet_value};
 
+use crate::loaded_parts::{SheetNames, all_nodes, collect_all, read_all};
 use crate::wholes::whole_sheet;
 use expr_names::ResolveFault;
-use loaded_parts::{SheetNames, all_nodes, collect_all, read_all};
 use module_loading::LoadedSheet;
-use sheet_declarations::{Declaration, declarations};
 use sheet_language::SheetLanguage;
-use sheet_nodes::Node;
-use sheet_texts::NameTable;
+use sheet_rules::sheet_declarations::{Declaration, declarations};
+use sheet_table::sheet_nodes::Node;
+use sheet_values::sheet_texts::NameTable;
 use std::alloc::{AllocError, Global};
 use xt_names::{List, Shared};
 use xt_sheets::Sheet;
@@ -21,7 +21,7 @@ use xt_syntax::{Expr, Pattern};
 /// The stylesheet of the modules that are loaded (XSLT 2.0, 3.10). Where a module breaks a rule by
 /// itself, the code is that of the first one that the first such module breaks; else it is one that
 /// `whole_sheet` refuses.
-#[tactic(auto, using(loaded_parts::proofs::Nodes::names_of_modules), unfolding(crate::specs::Sheets::sheet_faults, crate::specs::Sheets::sheet_value))]
+#[tactic(auto, using(crate::proofs::LoadedParts::Nodes::names_of_modules), unfolding(crate::specs::Sheets::sheet_faults, crate::specs::Sheets::sheet_value))]
 pub fn read_sheet(alloc: Global, loaded: &LoadedSheet) -> Result<Sheet, ResolveFault>
     requires readable { AllCanBeRead loaded.now.modules }
     requires levels { length loaded.now.levels + 1 < 2 ^ 32 }
@@ -45,7 +45,7 @@ pub fn read_sheet(alloc: Global, loaded: &LoadedSheet) -> Result<Sheet, ResolveF
 }
 
 /// The declarations of all modules, in the order of precedence.
-#[tactic(auto, using(loaded_parts::proofs::Nodes::faults_of_modules, loaded_parts::proofs::Nodes::values_of_modules), unfolding(crate::specs::Sheets::own_faults, crate::specs::Sheets::declarations_in))]
+#[tactic(auto, using(crate::proofs::LoadedParts::Nodes::faults_of_modules, crate::proofs::LoadedParts::Nodes::values_of_modules), unfolding(crate::specs::Sheets::own_faults, crate::specs::Sheets::declarations_in))]
 fn declared(
     alloc: Global,
     loaded: &LoadedSheet,

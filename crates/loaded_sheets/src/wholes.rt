@@ -1,26 +1,23 @@
 // The whole stylesheet, from declarations whose texts are read.
-ghost use Rattle.std.specs.Prelude.{◌≡◌, ◌++◌, ◌<◌, ◌^◌, length, map, take, IfOk, OnOk};
-ghost use Rattle.std.specs.Prelude.{List as Items};
+ghost use Rattle.std.specs.Prelude.{◌≡◌, ◌++◌, ◌<◌, ◌^◌, length, map, take, IfOk, OnOk, List as Items};
 ghost use Rattle.std.specs.List.{range_with_len};
 ghost use Rattle.xt_names.specs.declared.codes.Code.{Code};
 ghost use Rattle.xt_names.specs.declared.codes.SheetStaticCode.TheVariants.{XTDE0640};
 ghost use Rattle.expr_names.specs.Answers.{Answers};
-ghost use Rattle.wide_rules.specs.Doubles.{code_if};
-ghost use Rattle.wide_rules.specs.First.{first_wide};
-ghost use Rattle.loaded_sheets.specs.Wholes.{declared_sheet, evaluation_order, is_circular};
-ghost use Rattle.loaded_sheets.specs.Wholes.{parameters_in, called_parameters, wide_broken};
-ghost use Rattle.loaded_sheets.specs.Wholes.{as_faults, wide_faults, with_order, in_order};
+ghost use Rattle.sheet_rules.specs.WideRules.Doubles.{code_if};
+ghost use Rattle.sheet_rules.specs.WideRules.First.{first_wide};
+ghost use Rattle.loaded_sheets.specs.Wholes.{declared_sheet, evaluation_order, is_circular, parameters_in, called_parameters, wide_broken, as_faults, wide_faults, with_order, in_order};
 
 use expr_names::ResolveFault;
 use global_needs::needed_order;
 use sheet_assembly::{assemble, ordered};
-use sheet_declarations::Declaration;
-use sheet_levels::SheetLevel;
+use sheet_modules::sheet_levels::SheetLevel;
 use sheet_rules::push_broken_rules;
-use sheet_texts::NameTable;
+use sheet_rules::sheet_declarations::Declaration;
+use sheet_rules::wide_rules::{Parameters, first_wide, parameters_of};
+use sheet_values::sheet_texts::NameTable;
 use std::alloc::{AllocError, Global};
 use std::mem::replace;
-use wide_rules::{Parameters, first_wide, parameters_of};
 use xt_names::{Code, List, SheetStaticCode};
 use xt_sheets::{Sheet, Template};
 use xt_syntax::{Expr, Pattern};
@@ -62,7 +59,7 @@ fn check_few(count: usize) -> Result<(), AllocError>
 }
 
 /// All places before this one.
-#[tactic(auto, using(crate::proofs::Ranges::number_more))]
+#[tactic(auto, using(xt_names::proofs::ListLemmas::number_more))]
 fn all_places(alloc: Global, count: usize) -> Result<List<usize>, AllocError>
     ensures { IfOk result (λ places. places ≡ range_with_len 0 count) }
 {
@@ -144,7 +141,7 @@ fn wide_broken(
     Ok(codes)
 }
 
-/// Puts XTDE0640 behind the codes, where globals depend on one another in a circle.
+/// Puts XTDE0640 after the codes, where globals depend on one another in a circle.
 fn push_circle(codes: &mut List<Code>, circular: bool) -> Result<(), AllocError>
     ensures { OnOk result (codes.new ≡ codes.old ++ code_if circular XTDE0640) }
 {
@@ -155,7 +152,7 @@ fn push_circle(codes: &mut List<Code>, circular: bool) -> Result<(), AllocError>
 }
 
 /// The templates before this place.
-#[tactic(auto, using(crate::proofs::Ranges::all_taken))]
+#[tactic(auto, using(std::proofs::lemmas::List::take_all))]
 fn front(templates: &[Template], count: usize) -> &[Template]
     ensures { result.now ≡ take count templates.now }
 {

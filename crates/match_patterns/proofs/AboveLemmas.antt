@@ -5,7 +5,7 @@ use Rattle.std.specs.Prelude.{◌&&◌, ◌||◌, nat_eq, nat_lt, slice_get, Opt
 use Rattle.std.specs.List.{filter, list_any, Contains}
 use Rattle.std.specs.Bool.{IsTrue}
 use Rattle.std.specs.Option.{option_to_list, SomeIff}
-use Rattle.std.proofs.lemmas.Bool.{and_parts, eqb-true, lt-ltb, ltb-true}
+use Rattle.std.proofs.lemmas.Bool.{and_parts, eqb-true, lt-ltb, ltb-true, false_from_ne_true}
 use Rattle.std.proofs.lemmas.List.Folds.{list_any_at}
 use Rattle.std.proofs.lemmas.Option.{slice_get_within}
 use Rattle.std.proofs.lemmas.List.Sorted.{IsPermutation-reverse, list_any-IsPermutation}
@@ -33,6 +33,7 @@ use Rattle.node_axes.proofs.PathLemmas.{same_is}
 use Rattle.match_patterns.specs.Findings.{count_above, count_of}
 use Rattle.match_patterns.specs.Patterns.{above}
 use Rattle.match_patterns.proofs.MemberLemmas.{below_there, last_of, path_same, take_all}
+use Rattle.std.proofs.Math.Bool.{and-false}
 
 -- lists of which some element passes
 
@@ -74,16 +75,12 @@ any_then p (x ∷ xs) b h e = by (p x) refl e (any_then p xs b h)
     by true f g more = h x f
     by false f g more = more g
 
-pub not_true : (b : Bool) → (b ≡ true → ⊥) → b ≡ false
-not_true true h = absurd (h refl)
-not_true false h = refl
-
 pub true_or_false : {G : Type 0} (b : Bool) → b ≡ true → b ≡ false → G
 true_or_false b e f = cc
 
 pub none_more : {X : Type 0} (p q : X → Bool) (xs : List X) → ((x : X) → q x ≡ true → p x ≡ true) → list_any p xs ≡ false
     → list_any q xs ≡ false
-none_more p q xs h e = not_true (list_any q xs) (λ f. true_or_false (list_any p xs) (any_more q p xs h f) e)
+none_more p q xs h e = false_from_ne_true (list_any q xs) (λ f. true_or_false (list_any p xs) (any_more q p xs h f) e)
 
 -- the nodes above, as those of all nodes of the tree that are
 
@@ -146,10 +143,6 @@ same_both p q = agree (same_path p q) (same_path q p) (same_turned p q) (same_tu
     agree false true f g = g refl
     agree false false f g = refl
 
-none_and : (b : Bool) → (b && false) ≡ false
-none_and true = refl
-none_and false = refl
-
 and_all : (b : Bool) → b ≡ (b && true)
 and_all true = refl
 and_all false = refl
@@ -165,7 +158,7 @@ it_or_above p q =
 no_attribute_above : (p : Spot) (u q : List ℕ) (k : ℕ)
     → is_ancestor p (q, Some k) ≡ (is_itself (u, None) (q, Some k) || is_ancestor (u, None) (q, Some k))
 unfolding is_itself same_attribute is_ancestor is_attribute
-no_attribute_above p u q k = ap (λ (b : Bool). b || false) (sym (none_and (same_path u q)))
+no_attribute_above p u q k = ap (λ (b : Bool). b || false) (sym (and-false (same_path u q)))
 
 -- what is above a node is its parent, or above that
 abbrev IsNext : Spot → Spot → Type 0
@@ -194,7 +187,7 @@ record IsParent (n u : Place) : Type 0 where
   next : IsNext (spot_of n) (up, None)
   exists : has_place n ≡ true → has_place (at n up) ≡ true
 
-owner_there : (o : Option Tree) (k : ℕ) → has_attribute o (Some k) ≡ true → has_attribute o None ≡ true
+pub owner_there : (o : Option Tree) (k : ℕ) → has_attribute o (Some k) ≡ true → has_attribute o None ≡ true
 owner_there None k h = h
 owner_there (Some t) k h = refl
 
@@ -237,7 +230,7 @@ same_path_one p q h = same_is p q (one (stands p q) (sym (same_path_is p q) ∙ 
 itself_one : (p : List ℕ) (s : Spot) → is_itself (p, None) s ≡ true → s ≡ (p, None)
 unfolding is_itself same_attribute
 itself_one p (q, None) h = ap (λ (z : List ℕ). (z, None)) (sym (same_path_one p q (and_parts (same_path p q) true h).0))
-itself_one p (q, Some k) h = absurd (true_or_false (same_path p q && false) h (none_and (same_path p q)))
+itself_one p (q, Some k) h = absurd (true_or_false (same_path p q && false) h (and-false (same_path p q)))
 
 itself_passes : (p : List ℕ) → is_itself (p, None) (p, None) ≡ true
 unfolding is_itself same_attribute
@@ -263,9 +256,9 @@ parent_fails f n up next h =
         by true e =
             let g : rest ≡ false =
             ap (λ (t : Spot). passes_at axis.Ancestor test.Node (place_at n s) && f (place_at n t)) (itself_one up s e)
-            ∙ ap (λ (b : Bool). passes_at axis.Ancestor test.Node (place_at n s) && b) h ∙ none_and _
+            ∙ ap (λ (b : Bool). passes_at axis.Ancestor test.Node (place_at n s) && b) h ∙ and-false _
             in
-            g ∙ sym (ap (λ (b : Bool). is_ancestor (up, None) s && b) g ∙ none_and (is_ancestor (up, None) s))
+            g ∙ sym (ap (λ (b : Bool). is_ancestor (up, None) s && b) g ∙ and-false (is_ancestor (up, None) s))
         by false e = refl
 
 parent_holds : (f : Place → Bool) (n : Place) (up : List ℕ) → IsNext (spot_of n) (up, None) → has_place (at n up) ≡ true
@@ -460,7 +453,7 @@ led_above false f m there h = by (parent_of m) refl h
 -- Where a test holds at no node above, what needs it at the parent or above holds at none either.
 pub none_led : (deep : Bool) (f : Place → Bool) (n : Place) → list_any f (above true n) ≡ false
     → list_any (λ m. list_any f (above deep m)) (above true n) ≡ false
-none_led deep f n h = not_true _ (λ e. true_or_false (list_any f (above true n)) (above_any f n ∙ inner (sym (above_any led n) ∙ e)) h)
+none_led deep f n h = false_from_ne_true _ (λ e. true_or_false (list_any f (above true n)) (above_any f n ∙ inner (sym (above_any led n) ∙ e)) h)
   where
     led : Place → Bool
     led m = list_any f (above deep m)

@@ -9,13 +9,13 @@ use Rattle.xt_syntax.specs.declared.patterns.PatternStep.{PatternStep}
 use Rattle.node_tests.specs.Tests.{passes_at}
 use Rattle.node_axes.specs.Axes.{axis_nodes}
 use Rattle.node_axes.proofs.FilterLemmas.{In}
-use Rattle.step_walks.specs.Nodes.{Focus, kept_from, kept_by, kept_by_all}
-use Rattle.step_walks.proofs.NodeLemmas.{axis_within, filter_within}
-use Rattle.step_walks.proofs.OrderLemmas.{itself, itself_is, within_of, some_in}
+use Rattle.node_axes.specs.StepWalks.Nodes.{Focus, kept_from, kept_by, kept_by_all}
+use Rattle.node_axes.proofs.StepWalks.NodeLemmas.{axis_within, filter_within}
+use Rattle.node_axes.proofs.StepWalks.OrderLemmas.{itself, itself_is, within_of, some_in}
 use Rattle.quiet_meaning.specs.Quietly.{Quietly, quietly_of, holds_at}
 use Rattle.quiet_meaning.specs.Paths.{keeps}
-use Rattle.quiet_places.specs.Free.{IsSame, is_place_free_expr, focus}
-use Rattle.quiet_places.proofs.FreeLemmas.{free_is_same}
+use Rattle.quiet_eval.specs.QuietPlaces.Free.{IsSame, is_place_free_expr, focus}
+use Rattle.quiet_eval.proofs.QuietPlaces.FreeLemmas.{free_is_same}
 use Rattle.match_patterns.specs.Patterns.{stands_for, beside, candidates, is_same}
 use Rattle.match_patterns.proofs.MemberLemmas.{member_of}
 

@@ -1,4 +1,4 @@
 mod StepLemmas
-mod MemberLemmas
-mod AboveLemmas
-mod FreeLemmas
+pub mod MemberLemmas
+pub mod AboveLemmas
+pub mod FreeLemmas

@@ -21,7 +21,7 @@ use Rattle.node_tests.specs.Tests.{passes_at, tree_passes}
 use Rattle.node_axes.specs.Axes.{same_path, spot_of, place_at, axis_nodes, in_axis_order, is_reverse, on_axis, is_child, is_own_attribute, is_attribute}
 use Rattle.node_axes.proofs.FilterLemmas.{In, In-from_Contains}
 use Rattle.node_axes.proofs.AxisLemmas.{child_on}
-use Rattle.step_walks.proofs.OrderLemmas.{in_filter}
+use Rattle.node_axes.proofs.StepWalks.OrderLemmas.{in_filter}
 use Rattle.match_patterns.specs.Patterns.{is_child_kind, stands_for, candidates}
 
 pub path_eq : (p q : List ℕ) → bytes_eq p q ≡ same_path p q

@@ -67,7 +67,7 @@ some_is u v o e f = cc
 pub none_is : {G : Type 0} (v : Place) (o : Option Place) → o ≡ Some v → o ≡ None → G
 none_is v o e f = absurd cc
 
--- where a step matches, what stands before it decides
+-- where a step matches, what comes before it decides
 step_tells : (x : Finding) (own more : Place → Bool) (n : Place) → own n ≡ true → Tells x more n → Tells x (λ m. own m && more m) n
 unfolding Tells
 step_tells Here own more n e t = rw (e, t) refl
@@ -108,7 +108,7 @@ last_tells x b rooted steps k s d n z h e t f told =
     (steps_match rooted (reverse (take k steps))) n (λ m. last_step rooted steps k s d m z h e)
     (step_tells x (step_matches s) (is_led rooted s.deep (reverse (take (k - 1) steps))) n (sym t ∙ f) told)
 
--- what stands before a step
+-- what comes before a step
 
 pub none_needed : (rooted deep : Bool) (steps : List PatternStep) (k : ℕ) (n : Place) → rooted ≡ false → k ≡ 0
     → Tells Here (is_led rooted deep (reverse (take k steps))) n

@@ -13,7 +13,7 @@ use Rattle.xt_syntax.specs.declared.patterns.Pattern.{Pattern}
 use Rattle.xt_syntax.specs.declared.patterns.PatternStep.{PatternStep}
 use Rattle.node_tests.specs.Tests.{passes_at}
 use Rattle.node_axes.specs.Axes.{is_itself, spot_of, axis_nodes}
-use Rattle.step_walks.specs.Nodes.{kept_by_all}
+use Rattle.node_axes.specs.StepWalks.Nodes.{kept_by_all}
 use Rattle.quiet_meaning.specs.Paths.{keeps, are_allowed}
 
 -- neither a document nor an attribute
@@ -67,11 +67,11 @@ candidates s n = beside s n (parent_of n)
 abbrev pub is_same : Place → Place → Bool
 is_same n m = is_itself (spot_of m) (spot_of n)
 
--- the step without what stands before it
+-- the step without what comes before it
 unfoldable pub step_matches : PatternStep → Place → Bool
 step_matches s n = stands_for s.axis n && passes_at s.axis s.test n && list_any (is_same n) (kept_by_all (keeps s.quiet) (candidates s n))
 
--- the parent, or where `//` stands before the step each ancestor
+-- the parent, or where `//` comes before the step each ancestor
 unfoldable pub above : Bool → Place → List Place
 above false n = option_to_list (parent_of n)
 above true n = filter (passes_at axis.Ancestor test.Node) (axis_nodes axis.Ancestor n)
@@ -83,7 +83,7 @@ has_none (s ∷ more) = false
 abbrev pub is_led_by : (Place → Bool) → Bool → Bool → List PatternStep → Place → Bool
 is_led_by matches rooted deep before n = if not rooted && has_none before then true else list_any matches (above deep n)
 
--- The steps, from the last to the first. What stands before a step must match above the node. Before the first step of a pattern
+-- The steps, from the last to the first. What comes before a step must match above the node. Before the first step of a pattern
 -- with `/` or `//` at its front stands the document; before the first step of any other pattern stands nothing.
 unfoldable pub steps_match : Bool → List PatternStep → Place → Bool
 steps_match rooted [] n = rooted && is_root_document n

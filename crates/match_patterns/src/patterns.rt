@@ -1,7 +1,7 @@
 // The steps of a pattern, from the last to the first.
 //
 // Before `//` a node above is looked for at which the steps from there to the `//` before them
-// match, the nearest first. Where these match and what stands before them does not, the nodes
+// match, the nearest first. Where these match and what comes before them does not, the nodes
 // further above need not be tried: each of them has fewer nodes above it. So each `//` goes up
 // once, however many there are.
 ghost use Rattle.std.specs.Prelude.{◌≡◌, ◌≤◌, ◌&&◌, IfOk, Some, true, false, length, reverse, take};
@@ -60,7 +60,7 @@ fn match_root(rooted: bool, node: &Node) -> Finding
     finding_of(rooted && is_root_document(node))
 }
 
-/// Whether what stands before a step matches above the node that the step matches.
+/// Whether what comes before a step matches above the node that the step matches.
 #[cycle(matches)]
 fn is_led(
     alloc: Global,

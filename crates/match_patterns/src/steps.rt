@@ -1,23 +1,23 @@
-// One step of a pattern, without what stands before it.
+// One step of a pattern, without what comes before it.
 ghost use Rattle.std.specs.Prelude.{◌≡◌, IfOk, true, ◌∷◌, [], map};
 ghost use Rattle.std.specs.List.{list_all, list_any};
 ghost use Rattle.node_tests.specs.Tests.{passes_at};
-ghost use Rattle.step_walks.specs.Nodes.{kept_by_all};
+ghost use Rattle.node_axes.specs.StepWalks.Nodes.{kept_by_all};
 ghost use Rattle.quiet_meaning.specs.Quietly.{quietly_of, holds_at};
-ghost use Rattle.quiet_places.specs.Free.{focus, is_place_free_expr};
+ghost use Rattle.quiet_eval.specs.QuietPlaces.Free.{focus, is_place_free_expr};
 ghost use Rattle.quiet_meaning.specs.Paths.{keeps, are_allowed};
 ghost use Rattle.match_patterns.specs.Patterns.{is_child_kind, is_attribute_kind, is_document_kind, kind_at, is_parentless, is_root_document, is_same, stands_for, candidates, step_matches, has_allowed};
 ghost use Rattle.node_axes.specs.Axes.{same_path, same_attribute};
 
 use node_tests::node_passes;
+use quiet_eval::quiet_places::is_place_free;
 use quiet_eval::{hits, holds, kept_in_turn};
-use quiet_places::is_place_free;
 use std::alloc::{AllocError, Global};
 use xt_syntax::{Expr, PatternStep};
 use xt_tree::{Kind, Node};
 use xt_types::Axis;
 
-/// Whether the step matches the node, whatever stands before the step.
+/// Whether the step matches the node, whatever comes before the step.
 #[tactic(auto, unfolding(crate::specs::Patterns::step_matches))]
 pub(crate) fn step_matches(
     alloc: Global,

@@ -1,7 +1,8 @@
--- One load after another.
-use Rattle.std.proofs.Common.{◌≡◌, ℕ, List, arith, inl, inr, refl, ◌∙◌}
+-- Files that are loaded and read, or not.
+use Rattle.std.proofs.Common.{◌≡◌, ℕ, List}
 use Rattle.std.specs.Str.{encode_utf8_all}
-use Rattle.xt_io.specs.Files.{FilesState, KeepsFiles}
+use Rattle.xt_io.specs.Files.{FilesState}
+use Rattle.xt_io.specs.Loads.{Holdings, HoldsBytes}
 use Rattle.doc_grammar.specs.declared.spots.Spot.{Spot}
 use Rattle.doc_reader.specs.Fault.{HasReadCause}
 use Rattle.doc_reader.specs.declared.Scoped.{Scoped}
@@ -9,45 +10,10 @@ use Rattle.doc_reader.specs.declared.faults.ReadFault.{ReadFault}
 use Rattle.doc_reader.specs.declared.faults.ReadFault.TheVariants.{Bad}
 use Rattle.doc_grammar.specs.Document.{IsDocument}
 use Rattle.doc_grammar.specs.Declarations.{IsDeclared}
-use Rattle.module_loading.specs.Held.{Holdings, HoldsBytes, HoldsModule, HoldsNoModule}
-use Rattle.module_loading.specs.Held.{IsLoadFailure, IsTooLong, IsUnloadedAs, IsUnreadAs}
+use Rattle.module_loading.specs.Held.{HoldsModule, HoldsNoModule, IsUnloadedAs, IsUnreadAs}
 use Rattle.module_loading.specs.declared.faults.SheetFault.{SheetFault}
 use Rattle.module_loading.specs.declared.faults.SheetFault.TheVariants.{Load, TooLong, Malformed}
 use Rattle.module_loading.specs.declared.faults.SheetFault.TheVariants.{Static, Memory}
-
--- nothing was loaded
-pub keeps_none : (files : FilesState) → KeepsFiles files files
-keeps_none files = record {
-  held = refl;
-  faults = record { no_less = omega arith; stops = omega arith };
-  taken = record { no_less = omega arith; stops = omega arith };
-}
-
--- one load after another
-pub keeps_then : (old mid new : FilesState) → KeepsFiles old mid → KeepsFiles mid new
-    → KeepsFiles old new
-keeps_then old mid new x y = record {
-  held = y.held ∙ x.held;
-  faults = record {
-    no_less = omega (arith, x.faults.no_less, y.faults.no_less);
-    stops = omega (arith, x.faults.stops, y.faults.stops);
-  };
-  taken = record {
-    no_less = omega (arith, x.taken.no_less, y.taken.no_less);
-    stops = omega (arith, x.taken.stops, y.taken.stops);
-  };
-}
-
--- a load that fails after another one
-pub failed_later : (old mid new : FilesState) (file : List ℕ) → KeepsFiles old mid
-    → IsLoadFailure mid new file → IsLoadFailure old new file
-failed_later old mid new file keeps x =
-    elim x [ inl rose ↦ inl (omega (arith, keeps.faults.no_less)) | inr missing ↦ inr (rw keeps.held at missing) ]
-
-pub long_later : (old mid new : FilesState) (file : List ℕ) (n : ℕ) → KeepsFiles old mid
-    → IsTooLong mid new file n → IsTooLong old new file n
-long_later old mid new file n keeps x =
-    (x.0, omega (arith, keeps.taken.no_less), rw keeps.held at x.2)
 
 -- a file whose bytes are not read holds no module
 pub not_read : (files : Holdings) (name items bytes : List ℕ) (fault : ReadFault) (spot : Spot)

@@ -1,9 +1,9 @@
 -- The levels that are made are those of import precedence.
 use Rattle.std.proofs.Common.{◌≡◌, ℕ, ◌+◌, List, [], ◌∷◌, ◌++◌, Bool, true, false, map, refl, sym, ap, ◌∙◌, arith}
 use Rattle.std.proofs.lemmas.List.{map-append}
-use Rattle.import_levels.specs.Levels.{Links, level_count, firsts}
-use Rattle.sheet_levels.specs.declared.levels.Span.{Span}
-use Rattle.sheet_levels.specs.declared.levels.SheetLevel.{SheetLevel}
+use Rattle.module_loading.specs.ImportLevels.Levels.{Links, level_count, firsts}
+use Rattle.sheet_modules.specs.declared.sheet_levels.levels.Span.{Span}
+use Rattle.sheet_modules.specs.declared.sheet_levels.levels.SheetLevel.{SheetLevel}
 use Rattle.module_loading.specs.Trees.{Modules, none, linked, module_count, link_by, links_of, spans, opened}
 use Rattle.module_loading.specs.Trees.{more_levels, levels}
 use Rattle.module_loading.specs.Laws.{first_of, LevelsAreThoseOfPrecedence, IncludedModulesStandInPlace}

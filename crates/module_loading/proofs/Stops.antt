@@ -1,11 +1,12 @@
 -- How the refusals of the parts make those of the whole.
 use Rattle.std.proofs.Common.{◌≡◌, ◌≤◌, ◌<◌, ℕ, ◌+◌, List, [], ◌∷◌, ◌++◌, Bool, true, false, length, arith, inl, inr, refl, sym, ap, subst, ◌∙◌}
+use Rattle.std.specs.Str.{encode_utf8_all}
 use Rattle.xt_io.specs.Files.{FilesState, KeepsFiles}
 use Rattle.xt_names.specs.declared.codes.Code.{Code}
 use Rattle.xt_names.specs.declared.codes.Code.TheVariants.{SheetStatic}
 use Rattle.xt_names.specs.declared.codes.SheetStaticCode.TheVariants.{XTLM0003}
 use Rattle.doc_reader.specs.declared.Scoped.{Scoped}
-use Rattle.module_names.specs.Names.{resolved}
+use Rattle.sheet_modules.specs.ModuleNames.Names.{resolved}
 use Rattle.sheet_modules.specs.declared.links.Link.{Link}
 use Rattle.module_loading.specs.declared.faults.SheetFault.{SheetFault}
 use Rattle.module_loading.specs.declared.faults.SheetFault.TheVariants.{Load, TooLong, Malformed}
@@ -13,13 +14,14 @@ use Rattle.module_loading.specs.declared.faults.SheetFault.TheVariants.{Static, 
 use Rattle.module_loading.specs.declared.loaded.LoadedModule.{LoadedModule}
 use Rattle.module_loading.specs.declared.loaded.LoadedSheet.{LoadedSheet}
 use Rattle.module_loading.specs.declared.walk.Pieces.{Pieces}
-use Rattle.module_loading.specs.Held.{Holdings, HoldsNoModule, IsUnreadAs, IsLoadFailure, IsTooLong}
+use Rattle.xt_io.specs.Loads.{Holdings, IsLoadFailure, IsTooLong}
+use Rattle.module_loading.specs.Held.{HoldsNoModule, IsUnreadAs}
 use Rattle.module_loading.specs.Trees.{Modules, none, module_count}
 use Rattle.module_loading.specs.Walk.{Point, is_loading, circle_code, most_modules, IsModule, LeadsTo, LeadTo}
 use Rattle.module_loading.specs.Walk.{Comes, here, inside, later}
 use Rattle.module_loading.specs.Loads.{AddsModule, LoadsLink}
 use Rattle.module_loading.specs.Refusals.{Asks, Breaks, AsksFrom, BreaksFrom, IsLinksRefusedAs, IsModuleRefusedAs}
-use Rattle.module_loading.proofs.HeldLemmas.{failed_later, long_later}
+use Rattle.xt_io.proofs.LoadLemmas.{failed_later, long_later}
 use Rattle.module_loading.proofs.Trees.{length-with_modules}
 
 module _ (files : Holdings) (reads : Scoped → List Link) where
@@ -27,7 +29,7 @@ module _ (files : Holdings) (reads : Scoped → List Link) where
       → Comes files reads loading count importer [] p → ⊥
   nowhere x = elim x [ ]
 
-  -- further links behind one
+  -- further links after one
   pub widened : {loading : List (List ℕ)} {count : ℕ} {importer : List ℕ} {l : Link} {p : Point}
       (ls : List Link) → Comes files reads loading count importer (l ∷ []) p
       → Comes files reads loading count importer (l ∷ ls) p
@@ -47,7 +49,7 @@ module _ (files : Holdings) (reads : Scoped → List Link) where
   breaks_wider loading count importer l ls code x =
       record { point = x.point; comes = widened ls x.comes; broken = x.broken }
 
-  -- behind a link that leads to a module
+  -- after a link that leads to a module
   asks_later : (loading : List (List ℕ)) (count next : ℕ) (importer : List ℕ) (l : Link) (ls : List Link)
       (m : LoadedModule) (below : Modules) (file : List ℕ) → count < most_modules
       → next ≡ count + 1 + module_count below → LeadsTo files reads loading importer l m
@@ -74,7 +76,7 @@ module _ (files : Holdings) (reads : Scoped → List Link) where
     broken = x.broken;
   }
 
-  -- at a link, and behind it
+  -- at a link, and after it
   asks_link : (loading : List (List ℕ)) (count : ℕ) (importer : List ℕ) (l : Link) (file : List ℕ)
       → is_loading loading (resolved importer l.href) ≡ false → count < most_modules
       → AsksFrom files reads loading count (resolved importer l.href) file
@@ -163,15 +165,15 @@ module _ (reads : Scoped → List Link) where
       breaks_wider old.held reads loading count importer l ls code x
   first_refused loading count importer l ls old new (Memory e) x = x
 
-  -- a refusal behind files that are held as before
+  -- a refusal after files that are held as before
   asks_held : (loading : List (List ℕ)) (count : ℕ) (importer : List ℕ) (links : List Link)
       (old mid new : FilesState) (fault : SheetFault) → KeepsFiles old mid
       → IsLinksRefusedAs reads loading count importer links mid new fault
       → IsLinksRefusedAs reads loading count importer links old new fault
   asks_held loading count importer links old mid new (Load file) keeps x =
-      (rw keeps.held at x.0, failed_later old mid new file keeps x.1)
+      (rw keeps.held at x.0, failed_later old mid new (encode_utf8_all file) keeps x.1)
   asks_held loading count importer links old mid new (TooLong file n) keeps x =
-      (rw keeps.held at x.0, long_later old mid new file n keeps x.1)
+      (rw keeps.held at x.0, long_later old mid new (encode_utf8_all file) n keeps x.1)
   asks_held loading count importer links old mid new (Malformed file spot) keeps x =
       (rw keeps.held at x.0, rw keeps.held at x.1)
   asks_held loading count importer links old mid new (Static code) keeps x = rw keeps.held at x
@@ -214,9 +216,9 @@ module _ (reads : Scoped → List Link) where
       (fault : SheetFault) → IsUnreadAs name old new fault
       → IsModuleRefusedAs reads loading count name old new fault
   itself_refused loading count name old new (Load file) x =
-      (inl x.0, subst (λ (n : List ℕ). IsLoadFailure old new n) (sym x.0) x.1)
+      (inl x.0, subst (λ (n : List ℕ). IsLoadFailure old new (encode_utf8_all n)) (sym x.0) x.1)
   itself_refused loading count name old new (TooLong file n) x =
-      (inl x.0, subst (λ (f : List ℕ). IsTooLong old new f n) (sym x.0) x.1)
+      (inl x.0, subst (λ (f : List ℕ). IsTooLong old new (encode_utf8_all f) n) (sym x.0) x.1)
   itself_refused loading count name old new (Malformed file spot) x =
       (inl x.0, subst (λ (n : List ℕ). HoldsNoModule old.held n spot) (sym x.0) x.1)
   itself_refused loading count name old new (Static code) x = absurd x

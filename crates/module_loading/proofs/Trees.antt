@@ -1,8 +1,8 @@
 -- How many modules and levels there are.
 use Rattle.std.proofs.Common.{◌≡◌, ◌≤◌, ℕ, ◌+◌, List, ◌∷◌, ◌++◌, Bool, true, false, length, length-append, arith, refl}
-use Rattle.import_levels.specs.Levels.{Links, level_count}
-use Rattle.sheet_levels.specs.declared.levels.Span.{Span}
-use Rattle.sheet_levels.specs.declared.levels.SheetLevel.{SheetLevel}
+use Rattle.module_loading.specs.ImportLevels.Levels.{Links, level_count}
+use Rattle.sheet_modules.specs.declared.sheet_levels.levels.Span.{Span}
+use Rattle.sheet_modules.specs.declared.sheet_levels.levels.SheetLevel.{SheetLevel}
 use Rattle.module_loading.specs.declared.loaded.LoadedModule.{LoadedModule}
 use Rattle.module_loading.specs.Trees.{Modules, none, linked, listed, module_count, link_by, links_of}
 use Rattle.module_loading.specs.Trees.{spans, opened, more_levels, levels}
@@ -58,7 +58,7 @@ levels_fit (linked link m below rest) =
     let d = level_count-link_by link.import (links_of below) (links_of rest) in
     omega (arith, a, b, c, d)
 
--- how many levels there are behind a link
+-- how many levels there are after a link
 pub length-with_link : (i : Bool) (old : List SheetLevel) (count : ℕ) (below : Modules)
     (own : List Span)
     → length (old ++ (levels (length old) (count + 1) below ++ opened i (length old) own))

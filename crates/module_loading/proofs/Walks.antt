@@ -2,11 +2,11 @@
 use Rattle.std.proofs.Common.{◌≡◌, ◌≤◌, ◌<◌, ℕ, ◌+◌, List, [], ◌∷◌, ◌++◌, Bool, false, length, arith, refl, sym, ap, subst, ◌∙◌, append_assoc, append-nil, drop, get_or, Result, Ok, Err, OnOk, Some, None}
 use Rattle.xt_names.proofs.ListLemmas.{drop_at}
 use Rattle.doc_reader.specs.declared.Scoped.{Scoped}
-use Rattle.import_levels.specs.Levels.{level_count}
-use Rattle.module_names.specs.Names.{resolved}
+use Rattle.module_loading.specs.ImportLevels.Levels.{level_count}
+use Rattle.sheet_modules.specs.ModuleNames.Names.{resolved}
 use Rattle.sheet_modules.specs.declared.links.Link.{Link}
-use Rattle.sheet_levels.specs.declared.levels.Span.{Span}
-use Rattle.sheet_levels.specs.declared.levels.SheetLevel.{SheetLevel}
+use Rattle.sheet_modules.specs.declared.sheet_levels.levels.Span.{Span}
+use Rattle.sheet_modules.specs.declared.sheet_levels.levels.SheetLevel.{SheetLevel}
 use Rattle.module_loading.specs.declared.loaded.LoadedModule.{LoadedModule}
 use Rattle.module_loading.specs.declared.loaded.LoadedSheet.{LoadedSheet}
 use Rattle.module_loading.specs.declared.walk.Pieces.{Pieces}
@@ -135,7 +135,7 @@ module _ (files : Holdings) (reads : Scoped → List Link) where
       (subst (λ (x : List ℕ). LoadsModule files reads loading x old mid own) e a)
       (subst (λ (k : ℕ). Places link.import k own mid new before after) n b)
 
-  -- a module, and then all behind its links
+  -- a module, and then all after its links
   pub one_module : (loading : List (List ℕ)) (name : List ℕ) (links : List Link) (old mid new : LoadedSheet)
       (before : Pieces) (after : List Span)
       → AddsModule files reads name old mid links
@@ -206,7 +206,7 @@ module _ (files : Holdings) (reads : Scoped → List Link) where
     few = let e : length sheet.modules ≡ length loaded.modules = ap length s in omega (arith, a.few, e);
   }
 
-  -- a module, and then all behind its links, as the importer tells them
+  -- a module, and then all after its links, as the importer tells them
   pub one_module_at : (loading within : List (List ℕ)) (name importer : List ℕ) (links slice : List Link)
       (held_then : Holdings) (old mid new : LoadedSheet) (before : Pieces) (after : List Span)
       → within ≡ loading ++ name ∷ [] → importer ≡ name → slice ≡ links → held_then ≡ files

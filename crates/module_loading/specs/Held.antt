@@ -1,7 +1,9 @@
 -- What files hold, and why one is not loaded and read as text.
-use Rattle.std.specs.Prelude.{◌≡◌, ◌≤◌, ℕ, ◌+◌, List, length, ⊤, ◌⊎◌, Option}
+use Rattle.std.specs.Prelude.{◌≡◌, ℕ, List, ⊤}
 use Rattle.std.specs.Str.{encode_utf8_all}
-use Rattle.xt_io.specs.Files.{FilesState, IsHeld, IsMissing, HoldsAtLeast, Rose, RoseBy}
+use Rattle.xt_io.specs.Files.{FilesState}
+use Rattle.xt_io.specs.Loads.{HoldsBytes, IsLoadFailure, IsTooLong}
+pub use Rattle.xt_io.specs.Loads.{Holdings}
 use Rattle.xt_tree.specs.declared.trees.Tree.{Tree}
 use Rattle.doc_grammar.specs.Document.{IsDocument}
 use Rattle.doc_grammar.specs.Declarations.{IsDeclared}
@@ -11,19 +13,6 @@ use Rattle.doc_reader.specs.declared.Scoped.{Scoped}
 use Rattle.module_loading.specs.declared.faults.SheetFault.{SheetFault}
 use Rattle.module_loading.specs.declared.faults.SheetFault.TheVariants.{Load, TooLong, Malformed}
 use Rattle.module_loading.specs.declared.faults.SheetFault.TheVariants.{Static, Memory}
-
--- what files hold, where they tell
-abbrev pub Holdings : Type 0
-Holdings = Option (List ℕ → Option (List ℕ))
-
--- the greatest number of bytes of a file that is loaded
-abbrev pub file_limit : ℕ
-file_limit = 67108864
-
--- these bytes are held under the name, and are not too long to be loaded
-pub record HoldsBytes (files : Holdings) (name bytes : List ℕ) : Type 0 where
-  pub held : IsHeld files name bytes
-  pub fits : length bytes ≤ file_limit
 
 -- these bytes stand for the tree, which has these declarations on its elements
 pub record StandsFor (bytes : List ℕ) (scoped : Scoped) : Type 0 where
@@ -43,29 +32,22 @@ pub record HoldsNoModule (files : Holdings) (name : List ℕ) (spot : Spot) : Ty
   pub none : (tree : Tree) → IsDocument bytes tree → ⊥
   pub first : spot ≡ first_fault bytes
 
--- why a load of the file failed
-abbrev pub IsLoadFailure : FilesState → FilesState → List ℕ → Type 0
-IsLoadFailure old new file =
-    Rose old.faults new.faults ⊎ IsMissing old.held (encode_utf8_all file)
-
--- why a file has so many bytes that it is too long
-abbrev pub IsTooLong : FilesState → FilesState → List ℕ → ℕ → Type 0
-IsTooLong old new file n =
-    (n ≡ file_limit + 1) × RoseBy n old.taken new.taken
-    × HoldsAtLeast old.held (encode_utf8_all file) n
-
 -- why a file is not loaded
 abbrev pub IsUnloadedAs : List ℕ → FilesState → FilesState → SheetFault → Type 0
-IsUnloadedAs file old new (Load name) = (name ≡ file) × IsLoadFailure old new file
-IsUnloadedAs file old new (TooLong name n) = (name ≡ file) × IsTooLong old new file n
+IsUnloadedAs file old new (Load name) =
+    (name ≡ file) × IsLoadFailure old new (encode_utf8_all file)
+IsUnloadedAs file old new (TooLong name n) =
+    (name ≡ file) × IsTooLong old new (encode_utf8_all file) n
 IsUnloadedAs file old new (Malformed name spot) = ⊥
 IsUnloadedAs file old new (Static code) = ⊥
 IsUnloadedAs file old new (Memory e) = ⊤
 
 -- why a file is not loaded and read
 abbrev pub IsUnreadAs : List ℕ → FilesState → FilesState → SheetFault → Type 0
-IsUnreadAs file old new (Load name) = (name ≡ file) × IsLoadFailure old new file
-IsUnreadAs file old new (TooLong name n) = (name ≡ file) × IsTooLong old new file n
+IsUnreadAs file old new (Load name) =
+    (name ≡ file) × IsLoadFailure old new (encode_utf8_all file)
+IsUnreadAs file old new (TooLong name n) =
+    (name ≡ file) × IsTooLong old new (encode_utf8_all file) n
 IsUnreadAs file old new (Malformed name spot) =
     (name ≡ file) × HoldsNoModule old.held file spot
 IsUnreadAs file old new (Static code) = ⊥

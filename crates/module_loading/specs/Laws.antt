@@ -1,8 +1,8 @@
 -- The levels of the modules that are loaded, in the words of the Recommendation (XSLT 2.0, 3.10.2
 -- and 3.10.3).
 use Rattle.std.specs.Prelude.{◌≡◌, ℕ, ◌+◌, ◌∷◌, ◌++◌, map, Some, false}
-use Rattle.import_levels.specs.Levels.{firsts_of}
-use Rattle.sheet_levels.specs.declared.levels.SheetLevel.{SheetLevel}
+use Rattle.module_loading.specs.ImportLevels.Levels.{firsts_of}
+use Rattle.sheet_modules.specs.declared.sheet_levels.levels.SheetLevel.{SheetLevel}
 use Rattle.sheet_modules.specs.declared.links.Link.{Link}
 use Rattle.module_loading.specs.declared.loaded.LoadedModule.{LoadedModule}
 use Rattle.module_loading.specs.Trees.{Modules, linked, module_count, links_of, span, spans, all_levels}

@@ -4,3 +4,5 @@ pub mod Walk
 pub mod Loads
 pub mod Refusals
 pub mod Laws
+pub mod ImportLevels
+pub mod ModuleReader

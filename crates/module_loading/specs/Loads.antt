@@ -1,9 +1,9 @@
 -- What is loaded, step by step, and of the whole stylesheet.
 use Rattle.std.specs.Prelude.{◌≡◌, ◌≤◌, ℕ, ◌+◌, List, [], ◌∷◌, ◌++◌, Bool, length}
 use Rattle.doc_reader.specs.declared.Scoped.{Scoped}
-use Rattle.module_names.specs.Names.{resolved}
+use Rattle.sheet_modules.specs.ModuleNames.Names.{resolved}
 use Rattle.sheet_modules.specs.declared.links.Link.{Link}
-use Rattle.sheet_levels.specs.declared.levels.Span.{Span}
+use Rattle.sheet_modules.specs.declared.sheet_levels.levels.Span.{Span}
 use Rattle.module_loading.specs.declared.loaded.LoadedModule.{LoadedModule}
 use Rattle.module_loading.specs.declared.loaded.LoadedSheet.{LoadedSheet}
 use Rattle.module_loading.specs.declared.walk.Pieces.{Pieces}
@@ -20,7 +20,7 @@ module _ (files : Holdings) (reads : Scoped → List Link) where
     pub has_modules : new.modules ≡ old.modules ++ made ∷ []
     pub has_levels : new.levels ≡ old.levels
 
-  -- the module of this name is loaded and all behind its links, and these are the pieces of its level
+  -- the module of this name is loaded and all after its links, and these are the pieces of its level
   pub record LoadsModule (loading : List (List ℕ)) (name : List ℕ) (old new : LoadedSheet)
       (own : List Span) : Type 0 where
     pub made : LoadedModule

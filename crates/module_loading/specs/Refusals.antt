@@ -1,5 +1,6 @@
 -- Why a stylesheet is not loaded.
 use Rattle.std.specs.Prelude.{◌≡◌, ◌<◌, ℕ, ◌+◌, List, [], ◌∷◌, ◌++◌, false, ⊤, ◌⊎◌}
+use Rattle.std.specs.Str.{encode_utf8_all}
 use Rattle.xt_io.specs.Files.{FilesState}
 use Rattle.xt_names.specs.declared.codes.Code.{Code}
 use Rattle.doc_reader.specs.declared.Scoped.{Scoped}
@@ -8,7 +9,8 @@ use Rattle.module_loading.specs.declared.faults.SheetFault.{SheetFault}
 use Rattle.module_loading.specs.declared.faults.SheetFault.TheVariants.{Load, TooLong, Malformed}
 use Rattle.module_loading.specs.declared.faults.SheetFault.TheVariants.{Static, Memory}
 use Rattle.module_loading.specs.declared.loaded.LoadedModule.{LoadedModule}
-use Rattle.module_loading.specs.Held.{Holdings, HoldsNoModule, IsLoadFailure, IsTooLong}
+use Rattle.xt_io.specs.Loads.{Holdings, IsLoadFailure, IsTooLong}
+use Rattle.module_loading.specs.Held.{HoldsNoModule}
 use Rattle.module_loading.specs.Walk.{Point, target, is_loading, most_modules, IsModule, Comes}
 use Rattle.module_loading.specs.Walk.{BreaksLinkRule}
 
@@ -46,22 +48,22 @@ module _ (reads : Scoped → List Link) where
   abbrev pub IsLinksRefusedAs : List (List ℕ) → ℕ → List ℕ → List Link → FilesState → FilesState
       → SheetFault → Type 0
   IsLinksRefusedAs loading count importer links old new (Load file) =
-      Asks old.held reads loading count importer links file × IsLoadFailure old new file
+      Asks old.held reads loading count importer links file × IsLoadFailure old new (encode_utf8_all file)
   IsLinksRefusedAs loading count importer links old new (TooLong file n) =
-      Asks old.held reads loading count importer links file × IsTooLong old new file n
+      Asks old.held reads loading count importer links file × IsTooLong old new (encode_utf8_all file) n
   IsLinksRefusedAs loading count importer links old new (Malformed file spot) =
       Asks old.held reads loading count importer links file × HoldsNoModule old.held file spot
   IsLinksRefusedAs loading count importer links old new (Static code) =
       Breaks old.held reads loading count importer links code
   IsLinksRefusedAs loading count importer links old new (Memory e) = ⊤
 
-  -- why the module of this name and all behind its links are not loaded
+  -- why the module of this name and all after its links are not loaded
   abbrev pub IsModuleRefusedAs : List (List ℕ) → ℕ → List ℕ → FilesState → FilesState
       → SheetFault → Type 0
   IsModuleRefusedAs loading count name old new (Load file) =
-      AsksFrom old.held reads loading count name file × IsLoadFailure old new file
+      AsksFrom old.held reads loading count name file × IsLoadFailure old new (encode_utf8_all file)
   IsModuleRefusedAs loading count name old new (TooLong file n) =
-      AsksFrom old.held reads loading count name file × IsTooLong old new file n
+      AsksFrom old.held reads loading count name file × IsTooLong old new (encode_utf8_all file) n
   IsModuleRefusedAs loading count name old new (Malformed file spot) =
       AsksFrom old.held reads loading count name file × HoldsNoModule old.held file spot
   IsModuleRefusedAs loading count name old new (Static code) =

@@ -1,12 +1,12 @@
 -- The modules of a stylesheet as they are loaded, and the levels that they make up (XSLT 2.0, 3.10).
 use Rattle.std.specs.Prelude.{ℕ, ◌+◌, List, [], ◌∷◌, ◌++◌, Bool, true, false, Option, Some, None}
-use Rattle.import_levels.specs.Levels.{Links, nothing, import, include, level_count}
+use Rattle.module_loading.specs.ImportLevels.Levels.{Links, nothing, import, include, level_count}
 use Rattle.sheet_modules.specs.declared.links.Link.{Link}
-use Rattle.sheet_levels.specs.declared.levels.Span.{Span}
-use Rattle.sheet_levels.specs.declared.levels.SheetLevel.{SheetLevel}
+use Rattle.sheet_modules.specs.declared.sheet_levels.levels.Span.{Span}
+use Rattle.sheet_modules.specs.declared.sheet_levels.levels.SheetLevel.{SheetLevel}
 use Rattle.module_loading.specs.declared.loaded.LoadedModule.{LoadedModule}
 
--- the modules behind the links of a module in order: what a link leads to, what the links of that
+-- the modules after the links of a module in order: what a link leads to, what the links of that
 -- module lead to, and what the further links lead to
 pub data Modules : Type 0 where
   none : Modules
@@ -40,7 +40,7 @@ included false spans = spans
 
 -- The pieces of a level in the module of this place, from this child of its root on. Each included
 -- module stands where the module that includes it names it. So many modules are loaded before those
--- behind its links.
+-- after its links.
 abbrev pub spans : ℕ → ℕ → ℕ → Modules → List Span
 spans at from count none = span at from None ∷ []
 spans at from count (linked link m below rest) =
@@ -57,7 +57,7 @@ abbrev pub more_levels : Bool → ℕ → ℕ
 more_levels true n = n + 1
 more_levels false n = n
 
--- the levels behind links in the order of precedence, where so many levels are numbered and so many
+-- the levels after links in the order of precedence, where so many levels are numbered and so many
 -- modules are loaded before
 abbrev pub levels : ℕ → ℕ → Modules → List SheetLevel
 levels before count none = []

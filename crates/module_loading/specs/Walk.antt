@@ -6,7 +6,7 @@ use Rattle.xt_names.specs.declared.codes.Code.{Code}
 use Rattle.xt_names.specs.declared.codes.Code.TheVariants.{SheetStatic}
 use Rattle.xt_names.specs.declared.codes.SheetStaticCode.TheVariants.{XTSE0180, XTSE0210, XTLM0003}
 use Rattle.doc_reader.specs.declared.Scoped.{Scoped}
-use Rattle.module_names.specs.Names.{resolved}
+use Rattle.sheet_modules.specs.ModuleNames.Names.{resolved}
 use Rattle.sheet_modules.specs.declared.links.Link.{Link}
 use Rattle.module_loading.specs.declared.loaded.LoadedModule.{LoadedModule}
 use Rattle.module_loading.specs.Held.{Holdings, HoldsModule}
@@ -66,13 +66,13 @@ module _ (files : Holdings) (reads : Scoped → List Link) where
     here : {loading : List (List ℕ)} {count : ℕ} {importer : List ℕ} {l : Link} {ls : List Link}
         → Comes loading count importer (l ∷ ls)
         (record { loading = loading; count = count; importer = importer; link = l })
-    -- behind the links of the module that its first link leads to
+    -- after the links of the module that its first link leads to
     inside : {loading : List (List ℕ)} {count : ℕ} {importer : List ℕ} {l : Link} {ls : List Link}
         {p : Point} → (m : LoadedModule) → count < most_modules
         → LeadsTo files reads loading importer l m
         → Comes (loading ++ resolved importer l.href ∷ []) (count + 1) (resolved importer l.href) m.links p
         → Comes loading count importer (l ∷ ls) p
-    -- behind its further links
+    -- after its further links
     later : {loading : List (List ℕ)} {count : ℕ} {importer : List ℕ} {l : Link} {ls : List Link}
         {p : Point} → (m : LoadedModule) → (below : Modules) → count < most_modules
         → LeadsTo files reads loading importer l m

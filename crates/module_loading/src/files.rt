@@ -3,17 +3,14 @@ ghost use Rattle.std.specs.Prelude.{◌≡◌, IfOk, IfErr};
 ghost use Rattle.std.specs.Str.{encode_utf8_all};
 ghost use Rattle.xt_io.specs.Files.{KeepsFiles};
 ghost use Rattle.doc_reader.specs.Fault.{HasReadCause};
-ghost use Rattle.module_loading.specs.Held.{HoldsBytes, HoldsModule, IsUnloadedAs, IsUnreadAs};
-ghost use Rattle.module_loading.specs.Held.{StandsFor};
+ghost use Rattle.xt_io.specs.Loads.{HoldsBytes};
+ghost use Rattle.module_loading.specs.Held.{HoldsModule, IsUnloadedAs, IsUnreadAs, StandsFor};
 
 use crate::faults::SheetFault;
 use doc_reader::{ReadFault, Scoped, read_scoped};
 use std::alloc::Global;
-use xt_io::{Files, LoadFault};
+use xt_io::{Files, LoadFault, load_file};
 use xt_names::Text;
-
-/// The greatest number of bytes of a module.
-const FILE_LIMIT: u64 = 67_108_864;
 
 /// The bytes of a file.
 fn load<F: Files>(alloc: Global, files: &mut F, name: &Text) -> Result<Vec<u8>, SheetFault>
@@ -23,7 +20,7 @@ fn load<F: Files>(alloc: Global, files: &mut F, name: &Text) -> Result<Vec<u8>, 
         (IsUnloadedAs name.now (F.state files.old) (F.state files.new)) }
     ensures keeps { KeepsFiles (F.state files.old) (F.state files.new) }
 {
-    match files.load(alloc, name.as_str(), FILE_LIMIT) {
+    match load_file(alloc, files, name.as_str()) {
         Ok(bytes) => Ok(bytes),
         Err(LoadFault::Failed) => Err(SheetFault::Load(name.copy()?)),
         Err(LoadFault::TooLong(n)) => Err(SheetFault::TooLong(name.copy()?, n)),

@@ -7,7 +7,7 @@
 //!
 //! What comes of it is the modules in the order of loading, and the stylesheet levels in the order
 //! of precedence: of each level the pieces of its modules in declaration order, so that an included
-//! module stands in its place in the module that includes it.
+//! module is in its place in the module that includes it.
 //!
 //! Example: where `s.xsl` imports `a.xsl` and then includes `b.xsl`, the modules are `s.xsl`,
 //! `a.xsl` and `b.xsl`; the first level is all of `a.xsl`, and the second is `s.xsl` up to the
@@ -16,8 +16,10 @@
 
 mod faults;
 mod files;
+pub mod import_levels;
 mod laws;
 mod loaded;
+pub mod module_reader;
 mod readers;
 mod walk;
 
@@ -25,4 +27,5 @@ pub use faults::SheetFault;
 pub use laws::levels_are_those_of_precedence;
 pub use loaded::{LoadedModule, LoadedSheet};
 pub use readers::LinkReader;
+pub use sheet_parts::sheet_bodies;
 pub use walk::load_modules;

@@ -1,7 +1,7 @@
 // Modules as they are loaded, and the levels that they make up.
 use doc_reader::Scoped;
-use sheet_levels::SheetLevel;
 use sheet_modules::Link;
+use sheet_modules::sheet_levels::SheetLevel;
 use xt_names::{List, Shared, Text};
 
 /// A module that is loaded (XSLT 2.0, 3.6).

@@ -14,9 +14,9 @@ use crate::faults::SheetFault;
 use crate::files::read_file;
 use crate::loaded::{LoadedModule, LoadedSheet};
 use crate::readers::LinkReader;
-use module_names::resolve;
-use sheet_levels::{SheetLevel, Span};
 use sheet_modules::Link;
+use sheet_modules::module_names::resolve;
+use sheet_modules::sheet_levels::{SheetLevel, Span};
 use std::alloc::{AllocError, Global};
 use xt_io::Files;
 use xt_names::{Code, List, Shared, SheetStaticCode, Text, copy_text_list};
@@ -49,7 +49,7 @@ struct Pieces {
 /// names to which the walk comes. `Malformed` comes of such a module whose text stands for no tree.
 /// `Static` comes of a link to a module that is being loaded, with XTSE0210 where it is an import and
 /// XTSE0180 where it is an include, and of a link to a 65th module, with XTLM0003.
-#[tactic(auto, using(crate::proofs::HeldLemmas::keeps_none))]
+#[tactic(auto, using(xt_io::proofs::LoadLemmas::keeps_none))]
 pub fn load_modules<F: Files, L: LinkReader>(
     alloc: Global,
     files: &mut F,
@@ -73,9 +73,9 @@ pub fn load_modules<F: Files, L: LinkReader>(
     Ok(loaded)
 }
 
-/// Loads the module of this name and all behind its links; gives the pieces of its level.
+/// Loads the module of this name and all after its links; gives the pieces of its level.
 #[cycle(walk)]
-#[tactic(auto, using(crate::proofs::HeldLemmas::keeps_none, crate::proofs::HeldLemmas::keeps_then))]
+#[tactic(auto, using(xt_io::proofs::LoadLemmas::keeps_none, xt_io::proofs::LoadLemmas::keeps_then))]
 fn load_module<F: Files, L: LinkReader>(
     alloc: Global,
     files: &mut F,
@@ -142,7 +142,7 @@ fn importer_of(loading: &List<Text>, name: &Text) -> Result<Importer, AllocError
 
 /// Loads all that these links of the importer lead to, one after another.
 #[cycle(walk)]
-#[tactic(auto, using(crate::proofs::HeldLemmas::keeps_none, crate::proofs::HeldLemmas::keeps_then))]
+#[tactic(auto, using(xt_io::proofs::LoadLemmas::keeps_none, xt_io::proofs::LoadLemmas::keeps_then))]
 fn load_links<F: Files, L: LinkReader>(
     alloc: Global,
     files: &mut F,
@@ -193,7 +193,7 @@ fn end_piece(pieces: &mut Pieces, to: Option<u32>) -> Result<(), AllocError>
 /// Loads all that the link leads to. An imported module opens a level, and the pieces of an included
 /// one go on with those of the importer.
 #[cycle(walk)]
-#[tactic(auto, using(crate::proofs::HeldLemmas::keeps_none, crate::proofs::HeldLemmas::keeps_then))]
+#[tactic(auto, using(xt_io::proofs::LoadLemmas::keeps_none, xt_io::proofs::LoadLemmas::keeps_then))]
 fn load_link<F: Files, L: LinkReader>(
     alloc: Global,
     files: &mut F,

@@ -6,7 +6,8 @@ use Rattle.std.specs.HashSet.{HashSet}
 use Rattle.std.specs.declared.rc.Rc.{Rc}
 use Rattle.xt_names.specs.declared.names.ExprName.{ExprName}
 use Rattle.name_rules.specs.Layers.{layer_names}
-use Rattle.name_rules.specs.Scopes.{has_name, names_differ, same_name}
+use Rattle.name_rules.specs.Scopes.{has_name, names_differ}
+use Rattle.xt_names.specs.ExprNames.{same_name}
 
 pub has_name_append : (xs ys : List ExprName) (n : ExprName) → has_name (xs ++ ys) n ≡ (has_name xs n || has_name ys n)
 has_name_append xs ys n = list_any-append (same_name n) xs ys
@@ -25,7 +26,7 @@ added_last xs ys n h =
     let q : has_name ys n ≡ false = second_false (has_name xs n) (has_name ys n) (sym (has_name_append xs ys n) ∙ h) in
     rw q (sym (append_assoc xs ys (n ∷ [])))
 
--- a table, or a copy of it, behind the others
+-- a table, or a copy of it, after the others
 pub layer_pushed : {S A : Type 0} (old new : List (Rc (HashSet ExprName S) A)) (copy layer : Rc (HashSet ExprName S) A)
     → new ≡ old ++ copy ∷ [] → copy.value ≡ layer.value → layer_names new ≡ layer_names old ++ layer.value.keys
 layer_pushed old new copy layer e same = rw (e, layer_names_append old (copy ∷ []), same) (simp append-nil)

@@ -49,7 +49,7 @@ abbrev pub binders_in : List Binder → Rule
 binders_in [] scope = []
 binders_in (b ∷ bs) scope = b.source scope ++ binders_in bs (with_names scope b.names)
 
--- the variables in scope behind what binds
+-- the variables in scope after what binds
 abbrev pub behind : List Binder → List ExprName → List ExprName
 behind [] scope = scope
 behind (b ∷ bs) scope = behind bs (with_names scope b.names)
@@ -77,7 +77,7 @@ part_rule (Chars text) = nothing
 part_rule (Enclosed e) = e
 part_rule (Child e) = e
 
--- what stands behind the clauses sees the variables of all
+-- what comes after the clauses sees the variables of all
 abbrev pub behind_clauses : FlworLayer rules → Rule
 behind_clauses f scope = if_any f.test scope ++ (all_in f.orders scope ++ f.body scope)
 

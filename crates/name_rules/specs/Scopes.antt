@@ -1,14 +1,11 @@
 -- Names of variables and functions that are in scope.
 use Rattle.std.specs.Prelude.{ℕ, List, [], ◌∷◌, ◌++◌, map, Bool, true, not, ◌&&◌, ◌||◌, ◌==◌, if◌then◌else◌}
 use Rattle.std.specs.List.{list_any}
-use Rattle.std.specs.Str.{bytes_eq}
 use Rattle.function_table.specs.Find.{is_known}
 use Rattle.xt_names.specs.declared.names.ExprName.{ExprName}
 use Rattle.xt_syntax.specs.declared.queries.QueryParam.{QueryParam}
 use Rattle.name_rules.specs.declared.functions.Signature.{Signature}
-
-abbrev pub same_name : ExprName → ExprName → Bool
-same_name a b = bytes_eq a.uri b.uri && bytes_eq a.local b.local
+use Rattle.xt_names.specs.ExprNames.{same_name}
 
 abbrev pub has_name : List ExprName → ExprName → Bool
 has_name names name = list_any (same_name name) names

@@ -1,7 +1,7 @@
 #![tactic(auto, using(crate::proofs::FaultLemmas::earlier_at_end), unfolding(crate::specs::Faults::first, crate::specs::Faults::earlier))]
 // Variables and functions that are not in scope where they are named.
 //
-// Where a part breaks a rule, the parts behind it are looked at all the same: that takes no longer than to look at an
+// Where a part breaks a rule, the parts after it are looked at all the same: that takes no longer than to look at an
 // expression that breaks none.
 ghost use Rattle.std.specs.Prelude.{◌≡◌, IfOk, map, option_map};
 ghost use Rattle.name_rules.specs.Broken.{names_broken_of, arm_broken, clause_binder, bind_binder, order_broken, name_broken, attr_broken, part_broken, flwor_broken, all_in, if_any, binders_in, behind};
@@ -10,27 +10,27 @@ ghost use Rattle.name_rules.specs.Faults.{first};
 use crate::faults::earlier;
 use crate::functions::Functions;
 use crate::leaves::{check_function, check_variable, with_bind, with_clause};
-use crate::scopes::Scope;
+use crate::scopes::VariableScope;
 use std::alloc::AllocError;
 use xt_names::{Code, Shared};
 use xt_syntax::{Arm, Bind, Clause, DirectAttr, Expr, Flwor, NameSource, Order, Part};
 
-/// What is found in what binds variables, and the variables that are in scope behind it.
+/// What is found in what binds variables, and the variables that are in scope after it.
 #[derive(Drop)]
 struct Bound {
     fault: Option<Code>,
-    scope: Scope,
+    scope: VariableScope,
 }
 
 /// The first rule on names, in reading order, that the expression breaks, where these functions are declared and these
 /// variables are in scope; None exactly where it breaks none. The rules are XPST0008, of a variable that is not in scope
 /// where it is named (XPath 2.0, 3.1.2), and XPST0017, of a call of a function that is not known with so many arguments
-/// (XPath 2.0, 3.1.5). The variables of `for`, `let`, `some` and `every` are in scope behind their sources.
+/// (XPath 2.0, 3.1.5). The variables of `for`, `let`, `some` and `every` are in scope after their sources.
 #[cycle(names)]
 pub fn broken_names(
     e: &Expr,
     functions: &Functions,
-    scope: &Scope,
+    scope: &VariableScope,
 ) -> Result<Option<Code>, AllocError>
     ensures { IfOk result (λ fault. fault ≡ first (names_broken_of functions.now e.now scope.now)) }
 {
@@ -99,7 +99,11 @@ pub fn broken_names(
 }
 
 #[cycle(names)]
-fn check_all(all: &[Expr], functions: &Functions, scope: &Scope) -> Result<Option<Code>, AllocError>
+fn check_all(
+    all: &[Expr],
+    functions: &Functions,
+    scope: &VariableScope,
+) -> Result<Option<Code>, AllocError>
     ensures { IfOk result (λ fault. fault ≡ first (all_in (map (names_broken_of functions.now) all.now) scope.now)) }
 {
     let mut fault = None;
@@ -111,7 +115,11 @@ fn check_all(all: &[Expr], functions: &Functions, scope: &Scope) -> Result<Optio
 }
 
 #[cycle(names)]
-fn check_arms(all: &[Arm], functions: &Functions, scope: &Scope) -> Result<Option<Code>, AllocError>
+fn check_arms(
+    all: &[Arm],
+    functions: &Functions,
+    scope: &VariableScope,
+) -> Result<Option<Code>, AllocError>
     ensures { IfOk result (λ fault. fault ≡ first (all_in (map (arm_broken functions.now) all.now) scope.now)) }
 {
     let mut fault = None;
@@ -123,7 +131,11 @@ fn check_arms(all: &[Arm], functions: &Functions, scope: &Scope) -> Result<Optio
 }
 
 #[cycle(names)]
-fn check_arm(arm: &Arm, functions: &Functions, scope: &Scope) -> Result<Option<Code>, AllocError>
+fn check_arm(
+    arm: &Arm,
+    functions: &Functions,
+    scope: &VariableScope,
+) -> Result<Option<Code>, AllocError>
     ensures { IfOk result (λ fault. fault ≡ first (arm_broken functions.now arm.now scope.now)) }
 {
     let first = broken_names(arm.test.get(), functions, scope)?;
@@ -132,7 +144,11 @@ fn check_arm(arm: &Arm, functions: &Functions, scope: &Scope) -> Result<Option<C
 }
 
 #[cycle(names)]
-fn check_binds(all: &[Bind], functions: &Functions, scope: &Scope) -> Result<Bound, AllocError>
+fn check_binds(
+    all: &[Bind],
+    functions: &Functions,
+    scope: &VariableScope,
+) -> Result<Bound, AllocError>
     ensures fault { IfOk result (λ bound. bound.fault ≡ first (binders_in (map (bind_binder functions.now) all.now) scope.now)) }
     ensures scope { IfOk result (λ bound. bound.scope ≡ behind (map (bind_binder functions.now) all.now) scope.now) }
 {
@@ -150,14 +166,22 @@ fn check_binds(all: &[Bind], functions: &Functions, scope: &Scope) -> Result<Bou
 }
 
 #[cycle(names)]
-fn check_bind(bind: &Bind, functions: &Functions, scope: &Scope) -> Result<Option<Code>, AllocError>
+fn check_bind(
+    bind: &Bind,
+    functions: &Functions,
+    scope: &VariableScope,
+) -> Result<Option<Code>, AllocError>
     ensures { IfOk result (λ fault. fault ≡ first ((bind_binder functions.now bind.now).source scope.now)) }
 {
     broken_names(bind.source.get(), functions, scope)
 }
 
 #[cycle(names)]
-fn check_flwor(f: &Flwor, functions: &Functions, scope: &Scope) -> Result<Option<Code>, AllocError>
+fn check_flwor(
+    f: &Flwor,
+    functions: &Functions,
+    scope: &VariableScope,
+) -> Result<Option<Code>, AllocError>
     ensures { IfOk result (λ fault. fault ≡ first (flwor_broken functions.now f.now scope.now)) }
 {
     let bound = check_clauses(f.clauses.get().as_slice(), functions, scope)?;
@@ -170,7 +194,11 @@ fn check_flwor(f: &Flwor, functions: &Functions, scope: &Scope) -> Result<Option
 }
 
 #[cycle(names)]
-fn check_clauses(all: &[Clause], functions: &Functions, scope: &Scope) -> Result<Bound, AllocError>
+fn check_clauses(
+    all: &[Clause],
+    functions: &Functions,
+    scope: &VariableScope,
+) -> Result<Bound, AllocError>
     ensures fault { IfOk result (λ bound. bound.fault ≡ first (binders_in (map (clause_binder functions.now) all.now) scope.now)) }
     ensures scope { IfOk result (λ bound. bound.scope ≡ behind (map (clause_binder functions.now) all.now) scope.now) }
 {
@@ -191,7 +219,7 @@ fn check_clauses(all: &[Clause], functions: &Functions, scope: &Scope) -> Result
 fn check_clause(
     clause: &Clause,
     functions: &Functions,
-    scope: &Scope,
+    scope: &VariableScope,
 ) -> Result<Option<Code>, AllocError>
     ensures { IfOk result (λ fault. fault ≡ first ((clause_binder functions.now clause.now).source scope.now)) }
 {
@@ -206,7 +234,7 @@ fn check_clause(
 fn check_test(
     test: &Option<Shared<Expr>>,
     functions: &Functions,
-    scope: &Scope,
+    scope: &VariableScope,
 ) -> Result<Option<Code>, AllocError>
     ensures { IfOk result (λ fault. fault ≡ first (if_any (option_map (names_broken_of functions.now) test.now) scope.now)) }
 {
@@ -220,7 +248,7 @@ fn check_test(
 fn check_orders(
     all: &[Order],
     functions: &Functions,
-    scope: &Scope,
+    scope: &VariableScope,
 ) -> Result<Option<Code>, AllocError>
     ensures { IfOk result (λ fault. fault ≡ first (all_in (map (order_broken functions.now) all.now) scope.now)) }
 {
@@ -236,7 +264,7 @@ fn check_orders(
 fn check_order(
     order: &Order,
     functions: &Functions,
-    scope: &Scope,
+    scope: &VariableScope,
 ) -> Result<Option<Code>, AllocError>
     ensures { IfOk result (λ fault. fault ≡ first (order_broken functions.now order.now scope.now)) }
 {
@@ -247,7 +275,7 @@ fn check_order(
 fn check_name(
     name: &NameSource,
     functions: &Functions,
-    scope: &Scope,
+    scope: &VariableScope,
 ) -> Result<Option<Code>, AllocError>
     ensures { IfOk result (λ fault. fault ≡ first (name_broken functions.now name.now scope.now)) }
 {
@@ -261,7 +289,7 @@ fn check_name(
 fn check_attrs(
     all: &[DirectAttr],
     functions: &Functions,
-    scope: &Scope,
+    scope: &VariableScope,
 ) -> Result<Option<Code>, AllocError>
     ensures { IfOk result (λ fault. fault ≡ first (all_in (map (attr_broken functions.now) all.now) scope.now)) }
 {
@@ -277,7 +305,7 @@ fn check_attrs(
 fn check_attr(
     attr: &DirectAttr,
     functions: &Functions,
-    scope: &Scope,
+    scope: &VariableScope,
 ) -> Result<Option<Code>, AllocError>
     ensures { IfOk result (λ fault. fault ≡ first (attr_broken functions.now attr.now scope.now)) }
 {
@@ -288,7 +316,7 @@ fn check_attr(
 fn check_parts(
     all: &[Part],
     functions: &Functions,
-    scope: &Scope,
+    scope: &VariableScope,
 ) -> Result<Option<Code>, AllocError>
     ensures { IfOk result (λ fault. fault ≡ first (all_in (map (part_broken functions.now) all.now) scope.now)) }
 {
@@ -301,7 +329,11 @@ fn check_parts(
 }
 
 #[cycle(names)]
-fn check_part(part: &Part, functions: &Functions, scope: &Scope) -> Result<Option<Code>, AllocError>
+fn check_part(
+    part: &Part,
+    functions: &Functions,
+    scope: &VariableScope,
+) -> Result<Option<Code>, AllocError>
     ensures { IfOk result (λ fault. fault ≡ first (part_broken functions.now part.now scope.now)) }
 {
     match part {

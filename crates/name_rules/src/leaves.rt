@@ -6,13 +6,13 @@ ghost use Rattle.name_rules.specs.Scopes.{with_names};
 ghost use Rattle.name_rules.specs.declared.functions.Signature.{Signature};
 
 use crate::functions::Functions;
-use crate::scopes::Scope;
+use crate::scopes::VariableScope;
 use std::alloc::AllocError;
 use xt_names::{Code, ExprName, QueryStaticCode};
 use xt_syntax::{Bind, Clause};
 
 #[tactic(auto, unfolding(crate::specs::Broken::variable_in, crate::specs::Faults::first))]
-pub(crate) fn check_variable(name: &ExprName, scope: &Scope) -> Option<Code>
+pub(crate) fn check_variable(name: &ExprName, scope: &VariableScope) -> Option<Code>
     ensures { result ≡ first (variable_in name.now scope.now) }
 {
     if scope.has(name) {
@@ -38,14 +38,17 @@ pub(crate) fn check_function(
 }
 
 /// The scope with the variable too.
-pub(crate) fn with_bind(scope: Scope, bind: &Bind) -> Result<Scope, AllocError>
+pub(crate) fn with_bind(scope: VariableScope, bind: &Bind) -> Result<VariableScope, AllocError>
     ensures { IfOk result (λ inner. (fs : List Signature) → inner ≡ with_names scope (bind_binder fs bind.now).names) }
 {
     scope.with(bind.var.copy()?)
 }
 
 /// The scope with the variables of the clause too.
-pub(crate) fn with_clause(scope: Scope, clause: &Clause) -> Result<Scope, AllocError>
+pub(crate) fn with_clause(
+    scope: VariableScope,
+    clause: &Clause,
+) -> Result<VariableScope, AllocError>
     ensures { IfOk result (λ inner. (fs : List Signature) → inner ≡ with_names scope (clause_binder fs clause.now).names) }
 {
     match clause {
@@ -57,7 +60,7 @@ pub(crate) fn with_clause(scope: Scope, clause: &Clause) -> Result<Scope, AllocE
     }
 }
 
-fn with_place(scope: Scope, place: &Option<ExprName>) -> Result<Scope, AllocError>
+fn with_place(scope: VariableScope, place: &Option<ExprName>) -> Result<VariableScope, AllocError>
     ensures { IfOk result (λ inner. inner ≡ with_names scope (place_names place.now)) }
 {
     match place {

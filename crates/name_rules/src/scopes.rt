@@ -13,12 +13,12 @@ use xt_names::{ExprName, List};
 /// The variables in scope at a place; contracts see their names as a list without doubles. What binds variables puts
 /// them into a table of its own and shares the tables around it, so a scope within another copies no names.
 #[derive(Drop)]
-pub struct Scope {
+pub struct VariableScope {
     outer: Vec<Rc<IndexSet<ExprName>>>,
     own: Rc<IndexSet<ExprName>>,
 }
 
-impl Model for Scope {
+impl Model for VariableScope {
     ghost use Rattle.std.specs.Prelude.{List, ◌++◌};
     ghost use Rattle.xt_names.specs.declared.names.ExprName.{ExprName};
     ghost use Rattle.name_rules.specs.Layers.{layer_names};
@@ -28,13 +28,13 @@ impl Model for Scope {
     ghost view = { λ s. layer_names s.outer.items ++ s.own.value.keys };
 }
 
-impl Scope {
+impl VariableScope {
     /// No variables.
-    pub fn new(alloc: Global) -> Result<Scope, AllocError>
+    pub fn new(alloc: Global) -> Result<VariableScope, AllocError>
         ensures { IfOk result (λ scope. scope ≡ []) }
     {
         let own = Rc::new(alloc, IndexSet::new(alloc))?;
-        Ok(Scope {
+        Ok(VariableScope {
             outer: Vec::new(alloc),
             own,
         })
@@ -48,33 +48,33 @@ impl Scope {
     }
 
     /// The scope with this name too.
-    pub fn with(self, name: ExprName) -> Result<Scope, AllocError>
+    pub fn with(self, name: ExprName) -> Result<VariableScope, AllocError>
         ensures { IfOk result (λ scope. scope ≡ with_name self name) }
     {
         if self.has(&name) {
             return Ok(self);
         }
         let alloc = *self.outer.allocator();
-        let Scope { mut outer, own } = self;
+        let VariableScope { mut outer, own } = self;
         let mut names = open_table(&mut outer, own)?;
         names.insert(name)?;
         let own = Rc::new(alloc, names)?;
-        Ok(Scope { outer, own })
+        Ok(VariableScope { outer, own })
     }
 
     /// The same names, to which others are added without a change of this scope. It takes memory only where tables stand
     /// around this scope's own.
-    pub fn inside(&self) -> Result<Scope, AllocError>
+    pub fn inside(&self) -> Result<VariableScope, AllocError>
         ensures { IfOk result (λ scope. scope ≡ self.now) }
     {
-        Ok(Scope {
+        Ok(VariableScope {
             outer: share_layers(&self.outer)?,
             own: self.own.clone()?,
         })
     }
 
     /// The scope with these names too.
-    pub fn with_all(self, names: &List<ExprName>) -> Result<Scope, AllocError>
+    pub fn with_all(self, names: &List<ExprName>) -> Result<VariableScope, AllocError>
         ensures { IfOk result (λ scope. scope ≡ with_names self names.now) }
     {
         let mut scope = self;
@@ -92,7 +92,7 @@ pub fn names_differ(names: &List<ExprName>) -> Result<bool, AllocError>
     if let [] | [_] = names.as_slice() {
         return Ok(true);
     }
-    let mut seen = Scope::new(names.allocator())?;
+    let mut seen = VariableScope::new(names.allocator())?;
     for name in names.as_slice() {
         if seen.has(name) {
             return Ok(false);
@@ -115,7 +115,7 @@ fn share_layers(
     Ok(shared)
 }
 
-/// Puts the same table behind the others.
+/// Puts the same table after the others.
 fn share_layer(
     layers: &mut Vec<Rc<IndexSet<ExprName>>>,
     layer: &Rc<IndexSet<ExprName>>,
@@ -127,7 +127,7 @@ fn share_layer(
     Ok(())
 }
 
-/// Puts the table behind the others, where it has a name.
+/// Puts the table after the others, where it has a name.
 fn put_layer(
     outer: &mut Vec<Rc<IndexSet<ExprName>>>,
     layer: Rc<IndexSet<ExprName>>,
@@ -141,7 +141,7 @@ fn put_layer(
     Ok(())
 }
 
-/// The table, to write to. One that other scopes share stays as it is, behind the others, and a new one is begun.
+/// The table, to write to. One that other scopes share stays as it is, after the others, and a new one is begun.
 fn open_table(
     outer: &mut Vec<Rc<IndexSet<ExprName>>>,
     own: Rc<IndexSet<ExprName>>,

@@ -11,72 +11,73 @@ use Rattle.node_axes.specs.Moves.{Right, NoRight, Left, NoLeft, Skips, AllBehind
 use Rattle.node_axes.specs.Paths.{is_earlier, is_not_later}
 use Rattle.node_axes.proofs.LoopLemmas.{stands-same}
 use Rattle.node_axes.proofs.PathLemmas.{above_is, same_is}
-use Rattle.node_axes.proofs.LandLemmas.{no_one, child_next, child_end, sibling_next, sibling_end}
+use Rattle.node_axes.proofs.LandLemmas.{child_next, child_end, sibling_next, sibling_end}
 use Rattle.node_axes.proofs.DownLemmas.{left_next, left_end, below_next, below_end, with_next, with_end, below_axis, with_axis, up_is_over}
 use Rattle.node_axes.proofs.TopLemmas.{not_child, not_descendant, not_following, not_preceding, not_with, not_of_attribute, no_element}
+use Rattle.xt_names.proofs.BoolLemmas.{never}
 
 pub any_child_next : (t : Tree) (n : Spot) (q new : List ℕ) → on_axis Child n (q, None) ≡ true → Right t q new → Lands Child t n (is_further Child (q, None)) (new, None)
 any_child_next t (p, None) q new o r = child_next t p q new o r
-any_child_next t (p, Some k) q new o r = no_one (sym (not_child p k (q, None)) ∙ o)
+any_child_next t (p, Some k) q new o r = never (sym (not_child p k (q, None)) ∙ o)
 
 pub any_child_end : (t : Tree) (n : Spot) (q : List ℕ) → on_axis Child n (q, None) ≡ true → NoRight t q → Ends Child t n (is_further Child (q, None))
 any_child_end t (p, None) q o r = child_end t p q o r
-any_child_end t (p, Some k) q o r = no_one (sym (not_child p k (q, None)) ∙ o)
+any_child_end t (p, Some k) q o r = never (sym (not_child p k (q, None)) ∙ o)
 
 pub any_right_next : (t : Tree) (n : Spot) (q new : List ℕ) → on_axis FollowingSibling n (q, None) ≡ true → Right t q new → Lands FollowingSibling t n (is_further FollowingSibling (q, None)) (new, None)
 any_right_next t (p, None) q new o r = sibling_next t p q new o r
-any_right_next t (p, Some k) q new o r = no_one (sym (not_following p k (q, None)) ∙ o)
+any_right_next t (p, Some k) q new o r = never (sym (not_following p k (q, None)) ∙ o)
 
 pub any_right_end : (t : Tree) (n : Spot) (q : List ℕ) → on_axis FollowingSibling n (q, None) ≡ true → NoRight t q → Ends FollowingSibling t n (is_further FollowingSibling (q, None))
 any_right_end t (p, None) q o r = sibling_end t p q o r
-any_right_end t (p, Some k) q o r = no_one (sym (not_following p k (q, None)) ∙ o)
+any_right_end t (p, Some k) q o r = never (sym (not_following p k (q, None)) ∙ o)
 
 pub any_left_next : (t : Tree) (n : Spot) (q new : List ℕ) → on_axis PrecedingSibling n (q, None) ≡ true → Left t q new → Lands PrecedingSibling t n (is_further PrecedingSibling (q, None)) (new, None)
 any_left_next t (p, None) q new o r = left_next t p q new o r
-any_left_next t (p, Some k) q new o r = no_one (sym (not_preceding p k (q, None)) ∙ o)
+any_left_next t (p, Some k) q new o r = never (sym (not_preceding p k (q, None)) ∙ o)
 
 pub any_left_end : (t : Tree) (n : Spot) (q : List ℕ) → on_axis PrecedingSibling n (q, None) ≡ true → NoLeft q → Ends PrecedingSibling t n (is_further PrecedingSibling (q, None))
 any_left_end t (p, None) q o r = left_end t p q o r
-any_left_end t (p, Some k) q o r = no_one (sym (not_preceding p k (q, None)) ∙ o)
+any_left_end t (p, Some k) q o r = never (sym (not_preceding p k (q, None)) ∙ o)
 
 pub any_below_next : (t : Tree) (n : Spot) (q new : List ℕ) → on_axis Descendant n (q, None) ≡ true → Skips is_earlier t (length n.0) q new → Lands Descendant t n (is_further Descendant (q, None)) (new, None)
 any_below_next t (p, None) q new o r = below_next t p q new o r
-any_below_next t (p, Some k) q new o r = no_one (sym (not_descendant p k (q, None)) ∙ o)
+any_below_next t (p, Some k) q new o r = never (sym (not_descendant p k (q, None)) ∙ o)
 
 pub any_below_end : (t : Tree) (n : Spot) (q : List ℕ) → on_axis Descendant n (q, None) ≡ true → AllBehind is_earlier t (length n.0) q → Ends Descendant t n (is_further Descendant (q, None))
 any_below_end t (p, None) q o r = below_end t p q o r
-any_below_end t (p, Some k) q o r = no_one (sym (not_descendant p k (q, None)) ∙ o)
+any_below_end t (p, Some k) q o r = never (sym (not_descendant p k (q, None)) ∙ o)
 
 pub any_with_next : (t : Tree) (n : Spot) (q new : List ℕ) → on_axis DescendantOrSelf n (q, None) ≡ true → Skips is_earlier t (length n.0) q new → Lands DescendantOrSelf t n (is_further DescendantOrSelf (q, None)) (new, None)
 any_with_next t (p, None) q new o r = with_next t p q new o r
-any_with_next t (p, Some k) q new o r = no_one (sym (not_with p k q) ∙ o)
+any_with_next t (p, Some k) q new o r = never (sym (not_with p k q) ∙ o)
 
 pub any_with_end : (t : Tree) (n : Spot) (q : List ℕ) → on_axis DescendantOrSelf n (q, None) ≡ true → AllBehind is_earlier t (length n.0) q → Ends DescendantOrSelf t n (is_further DescendantOrSelf (q, None))
 any_with_end t (p, None) q o r = with_end t p q o r
-any_with_end t (p, Some k) q o r = no_one (sym (not_with p k q) ∙ o)
+any_with_end t (p, Some k) q o r = never (sym (not_with p k q) ∙ o)
 
 over_length : (p q : List ℕ) (s : Stands) → s ≡ stands p q → is_over s ≡ true → length p ≤ length q
-over_length p q before e h = no_one h
+over_length p q before e h = never h
 over_length p q above e h =
     let x = above_is p q (sym e) in
     let l : length q ≡ length p + suc (length x.1) = ap length x.2 ∙ length-append p (x.0 ∷ x.1) in omega arith
 over_length p q same e h = let x = ap length (same_is p q (sym e)) in omega arith
-over_length p q below e h = no_one h
-over_length p q after e h = no_one h
+over_length p q below e h = never h
+over_length p q after e h = never h
 
 pub below_base : (n : Spot) (q : List ℕ) → on_axis Descendant n (q, None) ≡ true → length n.0 ≤ length q
 below_base (p, None) q o = over_length p q (stands p q) refl (up_is_over (stands p q) (sym (below_axis p q) ∙ o))
-below_base (p, Some k) q o = no_one (sym (not_descendant p k (q, None)) ∙ o)
+below_base (p, Some k) q o = never (sym (not_descendant p k (q, None)) ∙ o)
 
 pub with_base : (n : Spot) (q : List ℕ) → on_axis DescendantOrSelf n (q, None) ≡ true → length n.0 ≤ length q
 with_base (p, None) q o = over_length p q (stands p q) refl (sym (with_axis p q) ∙ o)
-with_base (p, Some k) q o = no_one (sym (not_with p k q) ∙ o)
+with_base (p, Some k) q o = never (sym (not_with p k q) ∙ o)
 
 pub no_plain_attribute : (t : Tree) (n : Spot) (q : List ℕ) → on_axis Attribute n (q, None) ≡ true → Ends Attribute t n (is_further Attribute (q, None))
-no_plain_attribute t (p, None) q o = no_one (sym (no_element p q) ∙ o)
-no_plain_attribute t (p, Some k) q o = no_one (sym (not_of_attribute p k (q, None)) ∙ o)
+no_plain_attribute t (p, None) q o = never (sym (no_element p q) ∙ o)
+no_plain_attribute t (p, Some k) q o = never (sym (not_of_attribute p k (q, None)) ∙ o)
 
--- what stands at the start
+-- what is at the start
 pub start_lands : (axis : Axis) (t : Tree) (b : Spot → Bool) (p old : List ℕ) (a c : Option ℕ) (new : Spot) → old ≡ p → a ≡ c → Lands axis t (old, c) b new → Lands axis t (p, a) b new
 start_lands axis t b p old a c new e f l =
     subst (λ z. Lands axis t (p, z) b new) (sym f) (subst (λ z. Lands axis t (z, c) b new) e l)

@@ -20,8 +20,8 @@ use Rattle.node_axes.specs.Axes.{is_less, is_before, is_reverse, in_axis_order, 
 use Rattle.node_axes.specs.Course.{is_further, nodes_after, come_after, present_at}
 use Rattle.node_axes.specs.Moves.{has_spot, Lands, Ends, every}
 use Rattle.node_axes.proofs.FilterLemmas.{In, Rising, Contains-from_In, In-from_Contains, Rising-from_pairs, none_pass, first_passing, last_passing}
-use Rattle.node_axes.proofs.LandLemmas.{no_one}
 use Rattle.node_axes.proofs.UpLemmas.{not_before_itself}
+use Rattle.xt_names.proofs.BoolLemmas.{never}
 
 step_total : IsTotalOrder step_cmp
 step_total = then_total (on_total (λ (s : ℕ × ℕ). s.0) nat_cmp_total) (on_total (λ (s : ℕ × ℕ). s.1) nat_cmp_total)
@@ -32,8 +32,8 @@ spot_total = on_total (λ (s : Spot). steps s.0 s.1) (lists_total step_total)
 less_is : (o : Ordering) → is_less o ≡ true → o ≡ Less
 unfolding is_less
 less_is Less h = refl
-less_is Equal h = no_one h
-less_is Greater h = no_one h
+less_is Equal h = never h
+less_is Greater h = never h
 
 before_less : (s t : Spot) → is_before s t ≡ true → spot_cmp s t ≡ Less
 unfolding is_before
@@ -186,7 +186,7 @@ walk_past axis n p q a c = refl
 
 begun_of : (begun here : Bool) → (begun ≡ false → here ≡ false) → here ≡ true → begun ≡ true
 begun_of true here f h = refl
-begun_of false here f h = no_one (sym (f refl) ∙ h)
+begun_of false here f h = never (sym (f refl) ∙ h)
 
 here_cases : (axis : Axis) (n : Place) (r : Bool) (q p : List ℕ) (c a : Option ℕ) → (r ≡ true → Lands axis n.tree (spot_of n) (is_further axis (q, c)) (p, a)) → (r ≡ false → Ends axis n.tree (spot_of n) (is_further axis (q, c)))
     → come_after axis n true (present_at true n q c) ≡ option_to_list (present_at r n p a) ++ come_after axis n true (present_at r n p a)

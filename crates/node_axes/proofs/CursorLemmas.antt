@@ -14,7 +14,7 @@ use Rattle.node_tests.specs.Tests.{tree_passes, passes_at}
 use Rattle.node_axes.specs.Axes.{place_at, axis_nodes}
 use Rattle.node_axes.specs.Course.{Course, present_at, to_come, come_after, is_at_hit}
 use Rattle.node_axes.specs.Moves.{has_spot, IsSteady}
-use Rattle.node_axes.proofs.LandLemmas.{no_one}
+use Rattle.xt_names.proofs.BoolLemmas.{never}
 
 got_one : (xs : List Attribute) (i : ℕ) (k : Kind) → option_map kind_of (option_map attribute_tree (slice_get xs i)) ≡ Some k → i < length xs
 got_one [] i k e = cc
@@ -40,8 +40,8 @@ steady_begin axis n path attribute room k e f g r = record {
   ahead = λ _. refl;
   path_is = λ _. f;
   attribute_is = λ _. g;
-  exists = λ h. no_one h;
-  on = λ h. no_one h;
+  exists = λ h. never h;
+  on = λ h. never h;
 }
 
 pub steady_new : (axis : Axis) (n m : Place) (path : List ℕ) (attribute : Option ℕ) (room : ℕ) (k : Kind) → m ≡ n → option_map kind_of (subtree_of n) ≡ Some k → path ≡ n.path
@@ -71,11 +71,11 @@ come_is c = refl
 pub present_true : (b : Bool) (n : Place) (p : List ℕ) (a : Option ℕ) → b ≡ true → present_at b n p a ≡ Some (place_at n (p, a))
 unfolding present_at
 present_true true n p a h = refl
-present_true false n p a h = no_one h
+present_true false n p a h = never h
 
 pub present_false : (b : Bool) (n : Place) (p : List ℕ) (a : Option ℕ) → b ≡ false → present_at b n p a ≡ None
 unfolding present_at
-present_false true n p a h = no_one (sym h)
+present_false true n p a h = never (sym h)
 present_false false n p a h = refl
 
 pub hit_here : (axis : Axis) (test : Test) (o : Option Place) (m : Place) (r : Bool) → o ≡ Some m → r ≡ passes_at axis test m → r ≡ is_at_hit axis test o
@@ -121,7 +121,7 @@ all_to_come axis wanted n m path attribute e = ap (axis_nodes axis) e
 no_more : (b : Bool) (axis : Axis) (n : Place) (p : List ℕ) (a : Option ℕ) (before : List Place) → b ≡ false
     → before ≡ option_to_list (present_at b n p a) ++ come_after axis n true (present_at b n p a) → before ≡ []
 unfolding come_after present_at
-no_more true axis n p a before h e = no_one (sym h)
+no_more true axis n p a before h e = never (sym h)
 no_more false axis n p a before h e = e
 
 pub ends_walk : (x v : Course) (b : Bool) (axis : Axis) (n : Place) (p : List ℕ) (a : Option ℕ) → v ≡ x → come_after v.axis v.start v.begun v.present ≡ option_to_list (present_at b n p a) ++ come_after axis n true (present_at b n p a)

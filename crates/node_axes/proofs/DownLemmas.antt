@@ -13,7 +13,9 @@ use Rattle.node_axes.proofs.PathLemmas.{cmp_equal, above_is, same_is, first_chil
 use Rattle.node_axes.proofs.MoveLemmas.{push_inj}
 use Rattle.node_axes.proofs.LoopLemmas.{before_is_earlier, earlier_is_not_later, stands-longer}
 use Rattle.node_axes.proofs.AxisLemmas.{is_up, is_one, same_path_is, descendant_is, following_is, attribute_following_is, preceding_is, attribute_preceding_is, Siblings, siblings_parts, siblings_on}
-use Rattle.node_axes.proofs.LandLemmas.{no_one, plain_before, before_trans, earlier_trans, lands_from, ends_from, smaller, before_beside, spot_first}
+use Rattle.node_axes.proofs.LandLemmas.{plain_before, before_trans, earlier_trans, lands_from, ends_from, smaller, before_beside, spot_first}
+use Rattle.std.proofs.Math.Seq.{take-append_seam}
+use Rattle.xt_names.proofs.BoolLemmas.{never}
 
 -- ---- earlier siblings
 no_attribute_left : (p u : List ℕ) (k : ℕ) → on_axis PrecedingSibling (p, None) (u, Some k) ≡ false
@@ -117,18 +119,18 @@ unfolding is_further is_reverse
 below_further u v = plain_before u v
 
 pub up_is_earlier : (s : Stands) → is_up s ≡ true → is_earlier s ≡ true
-up_is_earlier before h = no_one h
+up_is_earlier before h = never h
 up_is_earlier above h = refl
-up_is_earlier same h = no_one h
-up_is_earlier below h = no_one h
-up_is_earlier after h = no_one h
+up_is_earlier same h = never h
+up_is_earlier below h = never h
+up_is_earlier after h = never h
 
 up_not_before : {A : Type 0} (s : Stands) → is_up s ≡ true → is_before_all s ≡ true → A
-up_not_before before h g = no_one h
-up_not_before above h g = no_one g
-up_not_before same h g = no_one h
-up_not_before below h g = no_one h
-up_not_before after h g = no_one h
+up_not_before before h g = never h
+up_not_before above h g = never g
+up_not_before same h g = never h
+up_not_before below h g = never h
+up_not_before after h g = never h
 
 pub below_first : (t : Tree) (p new : List ℕ) → Down t p new → Lands Descendant t (p, None) every (new, None)
 below_first t p new d =
@@ -154,27 +156,23 @@ take_more (i ∷ p) (j ∷ x) e l =
     let g : take (length p) x ≡ p = cc in
     ap (λ z. then_stands (nat_cmp i z) (stands p x)) h ∙ ap (λ o. then_stands o (stands p x)) (cmp_equal i) ∙ take_more p x g (omega arith)
 
-pub take_front : (p r : List ℕ) → take (length p) (p ++ r) ≡ p
-take_front [] r = refl
-take_front (i ∷ p) r = ap (λ (z : List ℕ). i ∷ z) (take_front p r)
-
 take_itself : (p : List ℕ) → take (length p) p ≡ p
 take_itself [] = refl
 take_itself (i ∷ p) = ap (λ (z : List ℕ). i ∷ z) (take_itself p)
 
 take_over : (p q : List ℕ) (s : Stands) → s ≡ stands p q → is_over s ≡ true → take (length p) q ≡ p
-take_over p q before e h = no_one h
-take_over p q above e h = let x = above_is p q (sym e) in ap (take (length p)) x.2 ∙ take_front p (x.0 ∷ x.1)
+take_over p q before e h = never h
+take_over p q above e h = let x = above_is p q (sym e) in ap (take (length p)) x.2 ∙ take-append_seam p (x.0 ∷ x.1)
 take_over p q same e h = ap (take (length p)) (sym (same_is p q (sym e))) ∙ take_itself p
-take_over p q below e h = no_one h
-take_over p q after e h = no_one h
+take_over p q below e h = never h
+take_over p q after e h = never h
 
 pub up_is_over : (s : Stands) → is_up s ≡ true → is_over s ≡ true
-up_is_over before h = no_one h
+up_is_over before h = never h
 up_is_over above h = refl
-up_is_over same h = no_one h
-up_is_over below h = no_one h
-up_is_over after h = no_one h
+up_is_over same h = never h
+up_is_over below h = never h
+up_is_over after h = never h
 
 -- what is skipped to is still below
 still_below : (t : Tree) (p q new : List ℕ) → is_over (stands p q) ≡ true → Skips is_earlier t (length p) q new → stands p new ≡ above
@@ -223,11 +221,11 @@ unfolding is_further is_reverse
 with_further u v = plain_before u v
 
 over_not_before : {A : Type 0} (s : Stands) → is_over s ≡ true → is_before_all s ≡ true → A
-over_not_before before h g = no_one h
-over_not_before above h g = no_one g
-over_not_before same h g = no_one g
-over_not_before below h g = no_one h
-over_not_before after h g = no_one h
+over_not_before before h g = never h
+over_not_before above h g = never g
+over_not_before same h g = never g
+over_not_before below h g = never h
+over_not_before after h g = never h
 
 pub with_next : (t : Tree) (p q new : List ℕ) → on_axis DescendantOrSelf (p, None) (q, None) ≡ true → Skips is_earlier t (length p) q new
     → Lands DescendantOrSelf t (p, None) (is_further DescendantOrSelf (q, None)) (new, None)
@@ -279,7 +277,7 @@ root_not_before (i ∷ u) = refl
 pub follows_none : (t : Tree) (p : List ℕ) → AllBehind is_before_all t 0 p → Ends Following t (p, None) every
 follows_none t p s =
     ends_from Following t (p, None) every (λ u k. no_attribute_follows (p, None) u k)
-    (λ u h o. no_one (sym (root_not_before u) ∙ s u h (sym (follows_axis p u) ∙ o)))
+    (λ u h o. never (sym (root_not_before u) ∙ s u h (sym (follows_axis p u) ∙ o)))
 
 pub attribute_follows_first : (t : Tree) (p new : List ℕ) (k : ℕ) → Skips is_earlier t 0 p new → Lands Following t (p, Some k) every (new, None)
 attribute_follows_first t p new k s =
@@ -289,7 +287,7 @@ attribute_follows_first t p new k s =
 pub attribute_follows_none : (t : Tree) (p : List ℕ) (k : ℕ) → AllBehind is_earlier t 0 p → Ends Following t (p, Some k) every
 attribute_follows_none t p k s =
     ends_from Following t (p, Some k) every (λ u l. no_attribute_follows (p, Some k) u l)
-    (λ u h o. no_one (sym (root_not_before u) ∙ s u h (sym (attribute_follows_axis p u k) ∙ o)))
+    (λ u h o. never (sym (root_not_before u) ∙ s u h (sym (attribute_follows_axis p u k) ∙ o)))
 
 follows_on : (p q new : List ℕ) (a : Option ℕ) → on_axis Following (p, a) (q, None) ≡ true → is_earlier (stands q new) ≡ true → on_axis Following (p, a) (new, None) ≡ true
 follows_on p q new None o g = follows_axis p new ∙ before_trans p q new (sym (follows_axis p q) ∙ o) g
@@ -303,7 +301,7 @@ follows_next t (p, a) q new o s =
 pub follows_end : (t : Tree) (n : Spot) (q : List ℕ) → AllBehind is_earlier t 0 q → Ends Following t n (is_further Following (q, None))
 follows_end t n q s =
     ends_from Following t n (is_further Following (q, None)) (λ u l. no_attribute_follows n u l)
-    (λ u h o. follows_further q u ∙ false_from_ne_true (is_earlier (stands q u)) (λ g. no_one (sym (root_not_before u) ∙ s u h g)))
+    (λ u h o. follows_further q u ∙ false_from_ne_true (is_earlier (stands q u)) (λ g. never (sym (root_not_before u) ∙ s u h g)))
 
 -- ---- what precedes
 pub no_attribute_precedes : (n : Spot) (u : List ℕ) (k : ℕ) → on_axis Preceding n (u, Some k) ≡ false
@@ -331,7 +329,7 @@ precedes_none t p a s =
     ends_from Preceding t (p, a) every (λ u l. no_attribute_precedes (p, a) u l)
     (λ u h o.
     let c = sym (precedes_axis p u a) ∙ o in
-    no_one (sym (s u h c) ∙ before_is_earlier (stands u p) c))
+    never (sym (s u h c) ∙ before_is_earlier (stands u p) c))
 
 pub precedes_next : (t : Tree) (p q new : List ℕ) (a : Option ℕ) → Backs t p q new → Lands Preceding t (p, a) (is_further Preceding (q, None)) (new, None)
 precedes_next t p q new a s =

@@ -10,14 +10,14 @@ use Rattle.node_axes.specs.Axes.{on_axis, is_attribute, is_child, is_descendant,
 use Rattle.node_axes.specs.Course.{is_further}
 use Rattle.node_axes.specs.Paths.{has_path}
 use Rattle.node_axes.specs.Moves.{attribute_count_at, has_spot, Lands, Ends, every}
-use Rattle.node_axes.proofs.LandLemmas.{no_one}
 use Rattle.node_axes.proofs.DownLemmas.{no_attribute_follows, no_attribute_precedes}
 use Rattle.node_axes.proofs.UpLemmas.{itself_end, with_attribute_end}
 use Rattle.node_axes.proofs.TopLemmas.{own_first, own_none, own_next, own_end, top_owner}
 use Rattle.node_axes.proofs.AnyLemmas.{on_next, on_end, on_as}
+use Rattle.xt_names.proofs.BoolLemmas.{never}
 
 path_step : (o : Option Tree) (k : ℕ) → has_attribute o (Some k) ≡ true → has_attribute o None ≡ true
-path_step None k h = no_one h
+path_step None k h = never h
 path_step (Some s) k h = refl
 
 pub spot_path : (t : Tree) (p : List ℕ) (a : Option ℕ) → has_spot t (p, a) ≡ true → has_path t p ≡ true
@@ -70,31 +70,31 @@ top_owner_at axis t n q a k h f s o =
 -- which axes have attributes
 off_child : (n : Spot) (q : List ℕ) (k : ℕ) → on_axis Child n (q, Some k) ≡ true → ⊥
 unfolding on_axis is_child is_attribute
-off_child (p, None) q k h = no_one h
-off_child (p, Some l) q k h = no_one h
+off_child (p, None) q k h = never h
+off_child (p, Some l) q k h = never h
 
 off_descendant : (n : Spot) (q : List ℕ) (k : ℕ) → on_axis Descendant n (q, Some k) ≡ true → ⊥
 unfolding on_axis is_descendant is_attribute
-off_descendant (p, None) q k h = no_one h
-off_descendant (p, Some l) q k h = no_one h
+off_descendant (p, None) q k h = never h
+off_descendant (p, Some l) q k h = never h
 
 off_right : (n : Spot) (q : List ℕ) (k : ℕ) → on_axis FollowingSibling n (q, Some k) ≡ true → ⊥
 unfolding on_axis is_following_sibling is_attribute
-off_right (p, None) q k h = no_one h
-off_right (p, Some l) q k h = no_one h
+off_right (p, None) q k h = never h
+off_right (p, Some l) q k h = never h
 
 off_left : (n : Spot) (q : List ℕ) (k : ℕ) → on_axis PrecedingSibling n (q, Some k) ≡ true → ⊥
 unfolding on_axis is_preceding_sibling is_attribute
-off_left (p, None) q k h = no_one h
-off_left (p, Some l) q k h = no_one h
+off_left (p, None) q k h = never h
+off_left (p, Some l) q k h = never h
 
 off_parent : (n : Spot) (q : List ℕ) (k : ℕ) → on_axis Parent n (q, Some k) ≡ true → ⊥
 unfolding on_axis is_parent is_attribute
-off_parent n q k h = no_one h
+off_parent n q k h = never h
 
 off_ancestor : (n : Spot) (q : List ℕ) (k : ℕ) → on_axis Ancestor n (q, Some k) ≡ true → ⊥
 unfolding on_axis is_ancestor is_attribute
-off_ancestor n q k h = no_one h
+off_ancestor n q k h = never h
 
 other_end : (axis : Axis) (t : Tree) (n : Spot) (q : List ℕ) (k : ℕ) → axis ≢ Attribute → axis ≢ AncestorOrSelf → on_axis axis n (q, Some k) ≡ true → Ends axis t n (is_further axis (q, Some k))
 other_end Child t n q k a b o = absurd (off_child n q k o)
@@ -103,11 +103,11 @@ other_end Attribute t n q k a b o = absurd (a refl)
 other_end Itself t n q k a b o = itself_end t n (q, Some k) o
 other_end DescendantOrSelf t n q k a b o = with_attribute_end t n q k o
 other_end FollowingSibling t n q k a b o = absurd (off_right n q k o)
-other_end Following t n q k a b o = no_one (sym (no_attribute_follows n q k) ∙ o)
+other_end Following t n q k a b o = never (sym (no_attribute_follows n q k) ∙ o)
 other_end Parent t n q k a b o = absurd (off_parent n q k o)
 other_end Ancestor t n q k a b o = absurd (off_ancestor n q k o)
 other_end PrecedingSibling t n q k a b o = absurd (off_left n q k o)
-other_end Preceding t n q k a b o = no_one (sym (no_attribute_precedes n q k) ∙ o)
+other_end Preceding t n q k a b o = never (sym (no_attribute_precedes n q k) ∙ o)
 other_end AncestorOrSelf t n q k a b o = absurd (b refl)
 
 pub other_end_at : (axis : Axis) (t : Tree) (n : Spot) (q : List ℕ) (c : Option ℕ) (k : ℕ) → axis ≢ Attribute → axis ≢ AncestorOrSelf → c ≡ Some k → on_axis axis n (q, c) ≡ true

@@ -1,4 +1,4 @@
--- The first and the last element that passes, in a list where each element stands before the later ones.
+-- The first and the last element that passes, in a list where each element comes before the later ones.
 use Rattle.std.proofs.Common.{◌≡◌, ℕ, zero, suc, ◌<◌, List, [], ◌∷◌, ◌++◌, length, get_or, Bool, true, false, ◌&&◌, cond, ◌⊎◌, inl, inr, refl, sym, ap, subst, arith}
 use Rattle.std.specs.List.{filter, AllPairs, Contains}
 use Rattle.xt_names.proofs.ListLemmas.{further}
@@ -8,7 +8,7 @@ abbrev pub In : {X : Type 0} → X → List X → Type 0
 In t [] = ⊥
 In t (x ∷ xs) = (x ≡ t) ⊎ In t xs
 
--- the element stands before each of the list
+-- the element comes before each of the list
 abbrev pub Leads : {X : Type 0} → (X → X → Bool) → X → List X → Type 0
 Leads lt t [] = Unit {0}
 Leads lt t (x ∷ xs) = (lt t x ≡ true) × Leads lt t xs

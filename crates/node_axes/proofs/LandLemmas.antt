@@ -14,9 +14,7 @@ use Rattle.node_axes.proofs.PathLemmas.{Places, places, cmp_less, cmp_equal, sta
 use Rattle.node_axes.proofs.MoveLemmas.{push_inj}
 use Rattle.node_axes.proofs.LoopLemmas.{stands-longer, next_stands}
 use Rattle.node_axes.proofs.AxisLemmas.{earlier_spot, before_is, child_parts, child_on, Siblings, siblings_parts, siblings_on}
-
-pub no_one : {A : Type 0} → false ≡ true → A
-no_one e = cc
+use Rattle.xt_names.proofs.BoolLemmas.{never}
 
 none_earlier : (s : Stands) → earlier_spot None None s ≡ is_earlier s
 none_earlier before = refl
@@ -33,12 +31,12 @@ plain_before u v = before_is u v None None ∙ none_earlier (stands u v)
 parts_before : (i j : ℕ) (a : Stands) → is_before_all (then_stands (nat_cmp i j) a) ≡ true → Places i j → (i < j) ⊎ ((i ≡ j) × (is_before_all a ≡ true))
 parts_before i j a h (inl p) = inl p.0
 parts_before i j a h (inr (inl p)) = inr (p.0, sym (ap (λ o. is_before_all (then_stands o a)) p.1) ∙ h)
-parts_before i j a h (inr (inr p)) = no_one (sym (ap (λ o. is_before_all (then_stands o a)) p.1) ∙ h)
+parts_before i j a h (inr (inr p)) = never (sym (ap (λ o. is_before_all (then_stands o a)) p.1) ∙ h)
 
 parts_earlier : (i j : ℕ) (a : Stands) → is_earlier (then_stands (nat_cmp i j) a) ≡ true → Places i j → (i < j) ⊎ ((i ≡ j) × (is_earlier a ≡ true))
 parts_earlier i j a h (inl p) = inl p.0
 parts_earlier i j a h (inr (inl p)) = inr (p.0, sym (ap (λ o. is_earlier (then_stands o a)) p.1) ∙ h)
-parts_earlier i j a h (inr (inr p)) = no_one (sym (ap (λ o. is_earlier (then_stands o a)) p.1) ∙ h)
+parts_earlier i j a h (inr (inr p)) = never (sym (ap (λ o. is_earlier (then_stands o a)) p.1) ∙ h)
 
 less_before : (i j : ℕ) (a : Stands) → i < j → is_before_all (then_stands (nat_cmp i j) a) ≡ true
 less_before i j a h = ap (λ o. is_before_all (then_stands o a)) (cmp_less i j h)
@@ -68,20 +66,20 @@ earlier_chain i j k a b c f (inr x) (inr y) = equal_earlier i k c (omega arith) 
 
 pub before_trans : (p q r : List ℕ) → is_before_all (stands p q) ≡ true → is_earlier (stands q r) ≡ true → is_before_all (stands p r) ≡ true
 unfolding stands
-before_trans [] [] r h g = no_one h
-before_trans [] (j ∷ q) r h g = no_one h
-before_trans (i ∷ p) [] r h g = no_one h
-before_trans (i ∷ p) (j ∷ q) [] h g = no_one g
+before_trans [] [] r h g = never h
+before_trans [] (j ∷ q) r h g = never h
+before_trans (i ∷ p) [] r h g = never h
+before_trans (i ∷ p) (j ∷ q) [] h g = never g
 before_trans (i ∷ p) (j ∷ q) (k ∷ r) h g =
     before_chain i j k (stands p q) (stands q r) (stands p r) (λ x y. before_trans p q r x y) (parts_before i j (stands p q) h (places i j)) (parts_earlier j k (stands q r) g (places j k))
 
 pub earlier_trans : (p q r : List ℕ) → is_earlier (stands p q) ≡ true → is_earlier (stands q r) ≡ true → is_earlier (stands p r) ≡ true
 unfolding stands
-earlier_trans [] [] r h g = no_one h
-earlier_trans [] (j ∷ q) [] h g = no_one g
+earlier_trans [] [] r h g = never h
+earlier_trans [] (j ∷ q) [] h g = never g
 earlier_trans [] (j ∷ q) (k ∷ r) h g = refl
-earlier_trans (i ∷ p) [] r h g = no_one h
-earlier_trans (i ∷ p) (j ∷ q) [] h g = no_one g
+earlier_trans (i ∷ p) [] r h g = never h
+earlier_trans (i ∷ p) (j ∷ q) [] h g = never g
 earlier_trans (i ∷ p) (j ∷ q) (k ∷ r) h g =
     earlier_chain i j k (stands p q) (stands q r) (stands p r) (λ x y. earlier_trans p q r x y) (parts_earlier i j (stands p q) h (places i j)) (parts_earlier j k (stands q r) g (places j k))
 
@@ -92,7 +90,7 @@ first_of_spots : (axis : Axis) (t : Tree) (n : Spot) (b : Spot → Bool) (new : 
     → has_spot t m ≡ true → on_axis axis n m ≡ true → b m ≡ true → is_further axis m new ≡ false
 unfolding has_spot has_path
 first_of_spots axis t n b new (u, None) none first h o g = first u h o g
-first_of_spots axis t n b new (u, Some k) none first h o g = no_one (sym (none u k) ∙ o)
+first_of_spots axis t n b new (u, Some k) none first h o g = never (sym (none u k) ∙ o)
 
 pub lands_from : (axis : Axis) (t : Tree) (n : Spot) (b : Spot → Bool) (new : List ℕ) → has_path t new ≡ true → on_axis axis n (new, None) ≡ true → b (new, None) ≡ true
     → ((u : List ℕ) (k : ℕ) → on_axis axis n (u, Some k) ≡ false)
@@ -107,7 +105,7 @@ end_of_spots : (axis : Axis) (t : Tree) (n : Spot) (b : Spot → Bool) (m : Spot
     → has_spot t m ≡ true → on_axis axis n m ≡ true → b m ≡ false
 unfolding has_spot has_path
 end_of_spots axis t n b (u, None) none last h o = last u h o
-end_of_spots axis t n b (u, Some k) none last h o = no_one (sym (none u k) ∙ o)
+end_of_spots axis t n b (u, Some k) none last h o = never (sym (none u k) ∙ o)
 
 pub ends_from : (axis : Axis) (t : Tree) (n : Spot) (b : Spot → Bool)
     → ((u : List ℕ) (k : ℕ) → on_axis axis n (u, Some k) ≡ false)
@@ -147,8 +145,8 @@ child_none t p n =
 
 beside_cases : (j l : ℕ) → Places j l → is_earlier (then_stands (nat_cmp j l) same) ≡ true → j < l
 beside_cases j l (inl h) e = h.0
-beside_cases j l (inr (inl h)) e = no_one (sym (ap (λ o. is_earlier (then_stands o same)) h.1) ∙ e)
-beside_cases j l (inr (inr h)) e = no_one (sym (ap (λ o. is_earlier (then_stands o same)) h.1) ∙ e)
+beside_cases j l (inr (inl h)) e = never (sym (ap (λ o. is_earlier (then_stands o same)) h.1) ∙ e)
+beside_cases j l (inr (inr h)) e = never (sym (ap (λ o. is_earlier (then_stands o same)) h.1) ∙ e)
 
 beside : (j l : ℕ) → stands (j ∷ []) (l ∷ []) ≡ then_stands (nat_cmp j l) same
 unfolding stands
@@ -276,4 +274,4 @@ sibling_none t p r =
     (λ u h o.
     let x = siblings_parts p u (sym (sibling_axis p u) ∙ o) in
     let e = not_behind t x.front p u x.left x.right x.left_is x.right_is h (r x.front x.left x.left_is) in
-    no_one (sym e ∙ siblings_later p u x))
+    never (sym e ∙ siblings_later p u x))

@@ -12,3 +12,4 @@ pub mod AnyLemmas
 pub mod EndLemmas
 pub mod CourseLemmas
 pub mod CursorLemmas
+pub mod StepWalks

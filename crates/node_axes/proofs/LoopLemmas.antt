@@ -188,7 +188,7 @@ turned same h n = absurd (n refl)
 turned below h n = refl
 turned after h n = refl
 
-apart : (s : Stands) → is_over s ≡ true → is_before_all s ≡ true → ⊥
+pub apart : (s : Stands) → is_over s ≡ true → is_before_all s ≡ true → ⊥
 apart before h b = cc
 apart above h b = cc
 apart same h b = cc

@@ -134,7 +134,7 @@ pub drop-append : (p x : List ℕ) → drop (length p) (p ++ x) ≡ x
 drop-append [] x = refl
 drop-append (i ∷ p) x = drop-append p x
 
--- nothing is between a last child and what stands after its parent
+-- nothing is between a last child and what comes after its parent
 last_step : (i j : ℕ) (r : List ℕ) → j ≤ i → Places i j → is_before_all (then_stands (nat_cmp i j) (stands [] r)) ≡ false
 unfolding stands
 last_step i j r l (inl h) = absurd (omega arith)
@@ -163,7 +163,7 @@ pub last_child : (t : Tree) (q m : List ℕ) (i : ℕ) → length (subtree_kids 
     → is_before_all (stands (q ++ i ∷ []) m) ≡ is_before_all (stands q m)
 last_child t q m i l h = rw (stands-push q m i) (last_cases t q m i (stands q m) refl l h)
 
--- the next child stands before all that stands after the child
+-- the next child comes before all that comes after the child
 next_step : (i j : ℕ) (r : List ℕ) → is_before_all (then_stands (nat_cmp i j) (stands [] r)) ≡ true → Places i j → Places (i + 1) j
     → is_earlier (flip (then_stands (nat_cmp (i + 1) j) (stands [] r))) ≡ false
 unfolding stands
@@ -193,7 +193,7 @@ next_child q m i h =
     ∙ ap (λ (z : Stands). is_earlier (flip z)) (stands-push q m (i + 1))
     ∙ next_cases q m i (stands q m) refl g
 
--- the first child stands before all that is later than its parent
+-- the first child comes before all that is later than its parent
 first_step : (j : ℕ) (r : List ℕ) → Places 0 j → is_earlier (flip (then_stands (nat_cmp 0 j) (stands [] r))) ≡ false
 unfolding stands
 first_step j r (inl k) = rw k.1 refl
@@ -216,7 +216,7 @@ first_child q m h =
     ∙ ap (λ (z : Stands). is_earlier (flip z)) (stands-push q m 0)
     ∙ first_cases q m (stands q m) refl h
 
--- what is later than a node without children stands after it
+-- what is later than a node without children comes after it
 leaf_cases : (t : Tree) (q m : List ℕ) (s : Stands) → s ≡ stands q m → length (subtree_kids (subtree_at t q)) ≡ 0 → has_path t m ≡ true → is_earlier s ≡ is_before_all s
 leaf_cases t q m before e l h = refl
 leaf_cases t q m above e l h =

@@ -13,13 +13,14 @@ use Rattle.node_axes.specs.Moves.{attribute_count_at, Up, has_spot, Lands, Ends,
 use Rattle.node_axes.proofs.PathLemmas.{stands-flip}
 use Rattle.node_axes.proofs.LoopLemmas.{stands-same, stands-longer}
 use Rattle.node_axes.proofs.AxisLemmas.{is_one, earlier_spot, before_is, same_path_is, attribute_ancestor_is}
-use Rattle.node_axes.proofs.LandLemmas.{no_one, plain_before}
+use Rattle.node_axes.proofs.LandLemmas.{plain_before}
 use Rattle.node_axes.proofs.UpLemmas.{itself_is, itself_on, path_is, not_after_same, not_before_same, over_parts, over_on, above_over, both_over, nothing_between, over_attribute, under_not_earlier, root_is_top}
+use Rattle.xt_names.proofs.BoolLemmas.{never}
 
 -- ---- the node itself and the nodes above
 no_attribute_above : (n : Spot) (u : List ℕ) (k : ℕ) → is_ancestor n (u, Some k) ≡ true → ⊥
 unfolding is_ancestor is_attribute
-no_attribute_above n u k h = no_one h
+no_attribute_above n u k h = never h
 
 attribute_before : (p u : List ℕ) (k : ℕ) → is_over (stands u p) ≡ true → is_before (p, Some k) (u, None) ≡ false
 attribute_before p u k o = before_is p u (Some k) None ∙ ap (earlier_spot (Some k) None) (stands-flip u p) ∙ over_attribute k (stands u p) o
@@ -73,7 +74,7 @@ top_next_first : (t : Tree) (p q new : List ℕ) (a : Option ℕ) (i : ℕ) → 
 top_next_first t p q new a i o e (u, None) h g =
     let x = both_over p q u (top_over p u a h) (top_over p q a o) (sym (plain_before u q) ∙ g) in
     plain_before new u ∙ nothing_between u new q i e x
-top_next_first t p q new a i o e (u, Some k) h g = no_one (sym (own_not_further p q u a k o h) ∙ g)
+top_next_first t p q new a i o e (u, Some k) h g = never (sym (own_not_further p q u a k o h) ∙ g)
 
 pub top_next : (t : Tree) (p q new : List ℕ) (a : Option ℕ) → on_axis AncestorOrSelf (p, a) (q, None) ≡ true → Up t q new → Lands AncestorOrSelf t (p, a) (is_further AncestorOrSelf (q, None)) (new, None)
 unfolding is_further is_reverse has_spot has_path
@@ -94,7 +95,7 @@ top_end t p q a o e m h o' = top_end_of p q a o e m o'
 
 owner_next_first : (q : List ℕ) (k : ℕ) (m : Spot) → on_axis AncestorOrSelf (q, Some k) m ≡ true → is_before m (q, Some k) ≡ true → is_before (q, None) m ≡ false
 owner_next_first q k (u, None) h g = plain_before q u ∙ under_not_earlier q u (top_over q u (Some k) h)
-owner_next_first q k (u, Some l) h g = no_one (sym (not_before_same (q, Some k) (u, Some l) (top_attribute (q, Some k) u l h)) ∙ g)
+owner_next_first q k (u, Some l) h g = never (sym (not_before_same (q, Some k) (u, Some l) (top_attribute (q, Some k) u l h)) ∙ g)
 
 owner_next : (t : Tree) (q : List ℕ) (k : ℕ) → has_path t q ≡ true → Lands AncestorOrSelf t (q, Some k) (is_further AncestorOrSelf (q, Some k)) (q, None)
 unfolding is_further is_reverse has_spot has_path
@@ -118,7 +119,7 @@ has_one None i l = absurd (omega arith)
 has_one (Some s) i l = lt-ltb i (length (attributes_of s)) l
 
 one_of : (o : Option Tree) (i : ℕ) → has_attribute o (Some i) ≡ true → i < length (subtree_attributes o)
-one_of None i h = no_one h
+one_of None i h = never h
 one_of (Some s) i h = ltb-true i (length (attributes_of s)) h
 
 attribute_order : (u v : List ℕ) (i j : ℕ) → u ≡ v → is_before (u, Some i) (v, Some j) ≡ nat_lt i j
@@ -139,7 +140,7 @@ own_on : (p : List ℕ) (k : ℕ) → on_axis Attribute (p, None) (p, Some k) �
 own_on p k = attribute_axis p p k ∙ same_path_is p p ∙ ap is_one (stands-same p)
 
 own_first_of : (p : List ℕ) (m : Spot) → on_axis Attribute (p, None) m ≡ true → is_before m (p, Some 0) ≡ false
-own_first_of p (u, None) h = no_one (sym (no_element p u) ∙ h)
+own_first_of p (u, None) h = never (sym (no_element p u) ∙ h)
 own_first_of p (u, Some l) h = attribute_order u p l 0 (sym (own_path p u l h)) ∙ le-ltb l 0 (omega arith)
 
 pub own_first : (t : Tree) (p : List ℕ) → 0 < attribute_count_at t p → Lands Attribute t (p, None) every (p, Some 0)
@@ -148,7 +149,7 @@ own_first t p l = record { exists = has_one (subtree_at t p) 0 l; on = own_on p 
 
 own_none_of : (t : Tree) (p : List ℕ) (m : Spot) → attribute_count_at t p ≡ 0 → has_spot t m ≡ true → on_axis Attribute (p, None) m ≡ true → true ≡ false
 unfolding has_spot
-own_none_of t p (u, None) n h o = no_one (sym (no_element p u) ∙ o)
+own_none_of t p (u, None) n h o = never (sym (no_element p u) ∙ o)
 own_none_of t p (u, Some l) n h o =
     let e = own_path p u l o in
     let x : has_attribute (subtree_at t p) (Some l) ≡ true = subst (λ z. has_attribute (subtree_at t z) (Some l) ≡ true) (sym e) h in
@@ -158,7 +159,7 @@ pub own_none : (t : Tree) (p : List ℕ) → attribute_count_at t p ≡ 0 → En
 own_none t p n m h o = own_none_of t p m n h o
 
 own_next_of : (p q : List ℕ) (k : ℕ) → p ≡ q → (m : Spot) → on_axis Attribute (p, None) m ≡ true → is_before (q, Some k) m ≡ true → is_before m (q, Some (k + 1)) ≡ false
-own_next_of p q k e (u, None) h g = no_one (sym (no_element p u) ∙ h)
+own_next_of p q k e (u, None) h g = never (sym (no_element p u) ∙ h)
 own_next_of p q k e (u, Some l) h g =
     let f = sym e ∙ own_path p u l h in
     let x = ltb-true k l (sym (attribute_order q u k l f) ∙ g) in
@@ -180,11 +181,11 @@ not_of_attribute p k m = refl
 
 pub own_next : (t : Tree) (n : Spot) (q : List ℕ) (k : ℕ) → on_axis Attribute n (q, Some k) ≡ true → k + 1 < attribute_count_at t q → Lands Attribute t n (is_further Attribute (q, Some k)) (q, Some (k + 1))
 own_next t (p, None) q k o l = own_next_at t p q k (own_path p q k o) l
-own_next t (p, Some x) q k o l = no_one (sym (not_of_attribute p x (q, Some k)) ∙ o)
+own_next t (p, Some x) q k o l = never (sym (not_of_attribute p x (q, Some k)) ∙ o)
 
 own_end_of : (t : Tree) (p q : List ℕ) (k : ℕ) → p ≡ q → attribute_count_at t q ≤ k + 1 → (m : Spot) → has_spot t m ≡ true → on_axis Attribute (p, None) m ≡ true → is_before (q, Some k) m ≡ false
 unfolding has_spot
-own_end_of t p q k e n (u, None) h o = no_one (sym (no_element p u) ∙ o)
+own_end_of t p q k e n (u, None) h o = never (sym (no_element p u) ∙ o)
 own_end_of t p q k e n (u, Some l) h o =
     let f = sym e ∙ own_path p u l o in
     let x : has_attribute (subtree_at t q) (Some l) ≡ true = subst (λ z. has_attribute (subtree_at t z) (Some l) ≡ true) (sym f) h in
@@ -194,39 +195,39 @@ own_end_of t p q k e n (u, Some l) h o =
 pub own_end : (t : Tree) (n : Spot) (q : List ℕ) (k : ℕ) → on_axis Attribute n (q, Some k) ≡ true → attribute_count_at t q ≤ k + 1 → Ends Attribute t n (is_further Attribute (q, Some k))
 unfolding is_further is_reverse
 own_end t (p, None) q k o n m h o' = own_end_of t p q k (own_path p q k o) n m h o'
-own_end t (p, Some x) q k o n m h o' = no_one (sym (not_of_attribute p x m) ∙ o')
+own_end t (p, Some x) q k o n m h o' = never (sym (not_of_attribute p x m) ∙ o')
 
 -- ---- an attribute has no child, descendant, attribute or sibling
 pub attribute_none : (t : Tree) (p : List ℕ) (k : ℕ) (b : Spot → Bool) → Ends Attribute t (p, Some k) b
-attribute_none t p k b m h o = no_one (sym (not_of_attribute p k m) ∙ o)
+attribute_none t p k b m h o = never (sym (not_of_attribute p k m) ∙ o)
 
 pub not_child : (p : List ℕ) (k : ℕ) (m : Spot) → on_axis Child (p, Some k) m ≡ false
 unfolding on_axis is_child is_attribute
 not_child p k m = refl
 
 pub child_none_of : (t : Tree) (p : List ℕ) (k : ℕ) (b : Spot → Bool) → Ends Child t (p, Some k) b
-child_none_of t p k b m h o = no_one (sym (not_child p k m) ∙ o)
+child_none_of t p k b m h o = never (sym (not_child p k m) ∙ o)
 
 pub not_descendant : (p : List ℕ) (k : ℕ) (m : Spot) → on_axis Descendant (p, Some k) m ≡ false
 unfolding on_axis is_descendant is_attribute
 not_descendant p k m = refl
 
 pub below_none_of : (t : Tree) (p : List ℕ) (k : ℕ) (b : Spot → Bool) → Ends Descendant t (p, Some k) b
-below_none_of t p k b m h o = no_one (sym (not_descendant p k m) ∙ o)
+below_none_of t p k b m h o = never (sym (not_descendant p k m) ∙ o)
 
 pub not_following : (p : List ℕ) (k : ℕ) (m : Spot) → on_axis FollowingSibling (p, Some k) m ≡ false
 unfolding on_axis is_following_sibling is_attribute
 not_following p k m = refl
 
 pub right_none_of : (t : Tree) (p : List ℕ) (k : ℕ) (b : Spot → Bool) → Ends FollowingSibling t (p, Some k) b
-right_none_of t p k b m h o = no_one (sym (not_following p k m) ∙ o)
+right_none_of t p k b m h o = never (sym (not_following p k m) ∙ o)
 
 pub not_preceding : (p : List ℕ) (k : ℕ) (m : Spot) → on_axis PrecedingSibling (p, Some k) m ≡ false
 unfolding on_axis is_preceding_sibling is_attribute
 not_preceding p k m = refl
 
 pub left_none_of : (t : Tree) (p : List ℕ) (k : ℕ) (b : Spot → Bool) → Ends PrecedingSibling t (p, Some k) b
-left_none_of t p k b m h o = no_one (sym (not_preceding p k m) ∙ o)
+left_none_of t p k b m h o = never (sym (not_preceding p k m) ∙ o)
 
 not_with_cases : (x : Bool) → ((x && false) || false) ≡ false
 not_with_cases true = refl

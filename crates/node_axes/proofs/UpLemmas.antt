@@ -1,6 +1,6 @@
 -- Where a step along an axis lands: the node itself, its attributes, and the nodes above.
 use Rattle.std.proofs.Common.{◌≡◌, ℕ, suc, ◌+◌, List, [], ◌∷◌, ◌++◌, length, Bool, true, false, ◌&&◌, Option, Some, None, inl, inr, refl, sym, ap, subst, ◌∙◌, arith, length-append, append_assoc, append-nil}
-use Rattle.std.proofs.lemmas.Bool.{both_ways, and_parts, or_cases, or_left, false_from_ne_true, eqb-true, eq-eqb, le-ltb}
+use Rattle.std.proofs.lemmas.Bool.{both_ways, and_parts, or_cases, or_left, false_from_ne_true, eq-eqb, le-ltb}
 use Rattle.xt_tree.specs.declared.trees.Tree.{Tree}
 use Rattle.xt_tree.specs.Walk.{Spot}
 use Rattle.xt_types.specs.declared.axes.Axis.TheVariants.{Itself, DescendantOrSelf, Parent, Ancestor}
@@ -10,28 +10,23 @@ use Rattle.node_axes.specs.Paths.{Stands, before, above, same, below, after, sta
 use Rattle.node_axes.specs.Moves.{Up, has_spot, Lands, Ends, every}
 use Rattle.node_axes.proofs.PathLemmas.{flip, stands-flip, above_is, same_is}
 use Rattle.node_axes.proofs.MoveLemmas.{push_inj}
-use Rattle.node_axes.proofs.LoopLemmas.{stands-same, stands-longer}
+use Rattle.node_axes.proofs.LoopLemmas.{stands-same, stands-longer, apart}
 use Rattle.node_axes.proofs.AxisLemmas.{is_up, is_one, earlier_spot, option_less, before_is, same_path_is, descendant_is, ancestor_is, attribute_ancestor_is, parent_parts, parent_on, owner_parts, owner_on}
-use Rattle.node_axes.proofs.LandLemmas.{no_one, plain_before, before_trans, lands_from, ends_from}
+use Rattle.node_axes.proofs.LandLemmas.{plain_before, before_trans, lands_from, ends_from}
 use Rattle.node_axes.proofs.DownLemmas.{up_is_earlier, up_is_over}
+use Rattle.node_axes.proofs.StepWalks.OrderLemmas.{attribute_is}
+use Rattle.xt_names.proofs.BoolLemmas.{never}
 
 -- ---- the node itself
 one_is : (s : Stands) → is_one s ≡ true → s ≡ same
-one_is before h = no_one h
-one_is above h = no_one h
+one_is before h = never h
+one_is above h = never h
 one_is same h = refl
-one_is below h = no_one h
-one_is after h = no_one h
+one_is below h = never h
+one_is after h = never h
 
 pub path_is : (p u : List ℕ) → same_path p u ≡ true → p ≡ u
 path_is p u h = same_is p u (one_is (stands p u) (sym (same_path_is p u) ∙ h))
-
-pub attribute_is : (a b : Option ℕ) → same_attribute a b ≡ true → a ≡ b
-unfolding same_attribute
-attribute_is None None h = refl
-attribute_is None (Some y) h = no_one h
-attribute_is (Some x) None h = no_one h
-attribute_is (Some x) (Some y) h = ap (λ z. Some z) (eqb-true x y h)
 
 pair_is : (s : Spot) (p : List ℕ) (a : Option ℕ) → p ≡ s.0 → a ≡ s.1 → s ≡ (p, a)
 pair_is s p a i j = rw (i, j)
@@ -77,28 +72,28 @@ itself_end t n s o m h o' =
 
 -- ---- what is over a node is not after it
 over_flip : (s : Stands) → is_over s ≡ true → is_earlier (flip s) ≡ false
-over_flip before h = no_one h
+over_flip before h = never h
 over_flip above h = refl
 over_flip same h = refl
-over_flip below h = no_one h
-over_flip after h = no_one h
+over_flip below h = never h
+over_flip after h = never h
 
 pub under_not_earlier : (p u : List ℕ) → is_over (stands u p) ≡ true → is_earlier (stands p u) ≡ false
 under_not_earlier p u h = ap is_earlier (stands-flip u p) ∙ over_flip (stands u p) h
 
 pub over_attribute : (k : ℕ) (s : Stands) → is_over s ≡ true → earlier_spot (Some k) None (flip s) ≡ false
-over_attribute k before h = no_one h
+over_attribute k before h = never h
 over_attribute k above h = refl
 over_attribute k same h = refl
-over_attribute k below h = no_one h
-over_attribute k after h = no_one h
+over_attribute k below h = never h
+over_attribute k after h = never h
 
 over_below : (s : Stands) → is_up s ≡ true → is_earlier (flip s) ≡ false
-over_below before h = no_one h
+over_below before h = never h
 over_below above h = refl
-over_below same h = no_one h
-over_below below h = no_one h
-over_below after h = no_one h
+over_below same h = never h
+over_below below h = never h
+over_below after h = never h
 
 -- ---- descendants, first the node itself
 below_not_before : (p u : List ℕ) (a : Option ℕ) (b : Option ℕ) → is_descendant (p, a) (u, b) ≡ true → is_before (u, b) (p, a) ≡ false
@@ -106,9 +101,9 @@ unfolding is_descendant is_attribute
 below_not_before p u None None h =
     let e : is_up (stands p u) ≡ true = sym (descendant_is p u) ∙ h in
     plain_before u p ∙ ap is_earlier (stands-flip p u) ∙ over_below (stands p u) e
-below_not_before p u None (Some k) h = no_one h
-below_not_before p u (Some k) None h = no_one h
-below_not_before p u (Some k) (Some l) h = no_one h
+below_not_before p u None (Some k) h = never h
+below_not_before p u (Some k) None h = never h
+below_not_before p u (Some k) (Some l) h = never h
 
 with_not_before : (n m : Spot) → on_axis DescendantOrSelf n m ≡ true → is_before m n ≡ false
 unfolding on_axis
@@ -122,14 +117,14 @@ with_first t n h = record { exists = h; on = or_left (is_itself n n) (is_descend
 
 no_attribute_down : (n m : Spot) → is_attribute m ≡ true → is_descendant n m ≡ true → ⊥
 unfolding is_descendant is_attribute
-no_attribute_down (p, None) (u, None) a h = no_one a
-no_attribute_down (p, None) (u, Some k) a h = no_one h
-no_attribute_down (p, Some l) (u, b) a h = no_one h
+no_attribute_down (p, None) (u, None) a h = never a
+no_attribute_down (p, None) (u, Some k) a h = never h
+no_attribute_down (p, Some l) (u, b) a h = never h
 
 no_attribute_up : (n m : Spot) → is_attribute n ≡ true → is_descendant n m ≡ true → ⊥
 unfolding is_descendant is_attribute
-no_attribute_up (p, None) m a h = no_one a
-no_attribute_up (p, Some l) m a h = no_one h
+no_attribute_up (p, None) m a h = never a
+no_attribute_up (p, Some l) m a h = never h
 
 -- on this axis an attribute is the node itself, and has nothing after it
 pub with_attribute_end : (t : Tree) (n : Spot) (q : List ℕ) (k : ℕ) → on_axis DescendantOrSelf n (q, Some k) ≡ true → Ends DescendantOrSelf t n (is_further DescendantOrSelf (q, Some k))
@@ -217,11 +212,11 @@ nothing_more : (q : List ℕ) → q ≡ q ++ []
 nothing_more q = sym (append-nil q)
 
 over_split : (p q : List ℕ) (s : Stands) → s ≡ stands q p → is_over s ≡ true → (r : List ℕ) × (p ≡ q ++ r)
-over_split p q before e h = no_one h
+over_split p q before e h = never h
 over_split p q above e h = let x = above_is q p (sym e) in (x.0 ∷ x.1, x.2)
 over_split p q same e h = ([], sym (same_is q p (sym e)) ∙ nothing_more q)
-over_split p q below e h = no_one h
-over_split p q after e h = no_one h
+over_split p q below e h = never h
+over_split p q after e h = never h
 
 -- the parent of what is over a node is above it
 pub above_over : (p q new : List ℕ) (i : ℕ) → q ≡ new ++ i ∷ [] → is_over (stands q p) ≡ true → stands new p ≡ above
@@ -234,26 +229,19 @@ above_over p q new i e o =
 earlier_cases : (s : Stands) → is_earlier s ≡ true → (s ≡ before → ⊥) → s ≡ above
 earlier_cases before h f = absurd (f refl)
 earlier_cases above h f = refl
-earlier_cases same h f = no_one h
-earlier_cases below h f = no_one h
-earlier_cases after h f = no_one h
-
-apart : (s : Stands) → is_over s ≡ true → is_before_all s ≡ true → ⊥
-apart before h b = no_one h
-apart above h b = no_one b
-apart same h b = no_one b
-apart below h b = no_one h
-apart after h b = no_one h
+earlier_cases same h f = never h
+earlier_cases below h f = never h
+earlier_cases after h f = never h
 
 over_or_same : (p q u : List ℕ) (s : Stands) → s ≡ stands q p → is_over s ≡ true → is_over (stands u p) ≡ true → stands u q ≡ before → ⊥
-over_or_same p q u before e h o b = no_one h
+over_or_same p q u before e h o b = never h
 over_or_same p q u above e h o b =
     let x : is_before_all (stands u p) ≡ true = before_trans u q p (ap is_before_all b) (ap is_earlier (sym e)) in apart (stands u p) o x
 over_or_same p q u same e h o b =
     let f = same_is q p (sym e) in
     let x : is_before_all (stands u p) ≡ true = subst (λ z. is_before_all (stands u z) ≡ true) f (ap is_before_all b) in apart (stands u p) o x
-over_or_same p q u below e h o b = no_one h
-over_or_same p q u after e h o b = no_one h
+over_or_same p q u below e h o b = never h
+over_or_same p q u after e h o b = never h
 
 pub both_over : (p q u : List ℕ) → is_over (stands u p) ≡ true → is_over (stands q p) ≡ true → is_earlier (stands u q) ≡ true → stands u q ≡ above
 both_over p q u o o' h = earlier_cases (stands u q) h (λ b. over_or_same p q u (stands q p) refl o' o b)
@@ -286,11 +274,11 @@ unfolding on_axis
 ancestor_axis n m = refl
 
 up_above : (s : Stands) → is_up s ≡ true → s ≡ above
-up_above before h = no_one h
+up_above before h = never h
 up_above above h = refl
-up_above same h = no_one h
-up_above below h = no_one h
-up_above after h = no_one h
+up_above same h = never h
+up_above below h = never h
+up_above after h = never h
 
 pub ancestor_first : (t : Tree) (p new : List ℕ) → Up t p new → Lands Ancestor t (p, None) every (new, None)
 ancestor_first t p new s =
@@ -311,7 +299,7 @@ ancestor_none t p e =
     ends_from Ancestor t (p, None) every (λ u k. ancestor_axis (p, None) (u, Some k) ∙ no_attribute_over (p, None) u k)
     (λ u h o.
     let x = up_is_earlier (stands u p) (sym (ancestor_is p u) ∙ sym (ancestor_axis (p, None) (u, None)) ∙ o) in
-    let y : is_earlier (stands u []) ≡ true = subst (λ z. is_earlier (stands u z) ≡ true) e x in no_one (sym (root_is_top u) ∙ y))
+    let y : is_earlier (stands u []) ≡ true = subst (λ z. is_earlier (stands u z) ≡ true) e x in never (sym (root_is_top u) ∙ y))
 
 pub owner_ancestor_first : (t : Tree) (p : List ℕ) (k : ℕ) → has_path t p ≡ true → Lands Ancestor t (p, Some k) every (p, None)
 owner_ancestor_first t p k has =

@@ -25,7 +25,7 @@ same_attribute None (Some j) = false
 same_attribute (Some i) None = false
 same_attribute (Some i) (Some j) = nat_eq i j
 
--- whether the two are children of one node, and the first stands before the second
+-- whether the two are children of one node, and the first comes before the second
 unfoldable pub is_later_sibling : List ℕ → List ℕ → Bool
 is_later_sibling [] q = false
 is_later_sibling (i ∷ p) [] = false
@@ -38,7 +38,7 @@ is_less Less = true
 is_less Equal = false
 is_less Greater = false
 
--- whether the first stands before the second in document order
+-- whether the first comes before the second in document order
 unfoldable pub is_before : Spot → Spot → Bool
 is_before s t = is_less (spot_cmp s t)
 

@@ -6,7 +6,7 @@ use Rattle.std.specs.Ordering.{nat_cmp}
 use Rattle.xt_tree.specs.declared.trees.Tree.{Tree}
 use Rattle.xt_tree.specs.Place.{subtree_at, has_attribute}
 
--- the first with all below it stands before the second, is above it, is it, is below it, or stands after it with all below it
+-- the first with all below it comes before the second, is above it, is it, is below it, or comes after it with all below it
 pub data Stands : Type 0 where
   before : Stands
   above : Stands

@@ -12,6 +12,7 @@
 mod axis_steps;
 mod cursors;
 mod moves;
+pub mod step_walks;
 mod steps;
 
 pub use cursors::Cursor;

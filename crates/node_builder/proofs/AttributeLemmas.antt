@@ -9,14 +9,14 @@ use Rattle.std.specs.List.{list_any}
 use Rattle.std.specs.Str.{bytes_eq}
 use Rattle.std.specs.HashSet.{HashSet}
 use Rattle.xt_names.specs.declared.names.Name.{Name}
-use Rattle.xt_tree.specs.Names.{has_key}
-use Rattle.xt_tree.specs.Sound.{same_name, names_differ}
+use Rattle.xt_tree.specs.Sound.{names_differ}
 use Rattle.xt_tree.specs.declared.attributes.Attribute.{Attribute}
 use Rattle.node_builder.specs.Made.{Gives}
 use Rattle.node_builder.specs.Complex.{last_of_each, distinct}
 use Rattle.node_builder.specs.Kept.{kept_one}
 use Rattle.node_builder.specs.declared.kinds.Duplicates.{Duplicates}
 use Rattle.node_builder.specs.declared.kinds.Duplicates.TheVariants.{KeepLast, Refuse}
+use Rattle.xt_names.specs.Names.{has_key, same_name}
 
 bytes_eq-sym : (x y : List ℕ) → bytes_eq x y ≡ bytes_eq y x
 bytes_eq-sym x y =

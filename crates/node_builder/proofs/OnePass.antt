@@ -244,7 +244,7 @@ right_tree side holder after b c (Pi target t) r e = given after _ c (right_kid 
 right_tree side holder after b c (Attr name t) r e = right_attribute side holder after b c name t r e
 
 -- the value after two steps
-split_then : {A B : Type 0} (o : Made A) (f : A → Made B) (y : B) → made_then o f ≡ Gives y → (x : A) × (o ≡ Gives x) × (f x ≡ Gives y)
+pub split_then : {A B : Type 0} (o : Made A) (f : A → Made B) (y : B) → made_then o f ≡ Gives y → (x : A) × (o ≡ Gives x) × (f x ≡ Gives y)
 split_then (Gives x) f y e = (x, refl, e)
 split_then (Fails c) f y e = absurd cc
 

@@ -9,7 +9,7 @@ use Rattle.xt_names.specs.declared.codes.Code.{Code}
 use Rattle.xt_atoms.specs.AtomTexts.{text_of}
 use Rattle.xt_tree.specs.Forest.{Forest, end, doc, elem, text, comment, pi, attr}
 use Rattle.xt_tree.specs.Place.{subtree_of}
-use Rattle.xt_tree.specs.Sound.{same_name, names_differ, is_sound_name, is_sound_attribute, are_sound_attributes, is_sound_comment, is_sound_pi, are_sound_behind, is_sound_root, is_sound_tree}
+use Rattle.xt_tree.specs.Sound.{names_differ, is_sound_name, is_sound_attribute, are_sound_attributes, is_sound_comment, is_sound_pi, are_sound_behind, is_sound_root, is_sound_tree}
 use Rattle.xt_tree.specs.TreeView.{trees, forest_of}
 use Rattle.xt_tree.specs.declared.attributes.Attribute.{Attribute}
 use Rattle.xt_tree.specs.declared.trees.Tree.{Tree}
@@ -24,11 +24,10 @@ use Rattle.node_builder.specs.declared.kinds.Duplicates.TheVariants.{KeepLast, R
 use Rattle.node_builder.specs.declared.kinds.Holder.{Holder}
 use Rattle.node_builder.specs.declared.kinds.Holder.TheVariants.{Element, Document}
 use Rattle.node_builder.proofs.ContentLemmas.{put_text, put_tree, tidy, tidy-put}
-use Rattle.node_builder.proofs.SubtreeLemmas.{both, subtree_sound}
-
-pub xml_append : (t u : List ℕ) → is_xml_text t ≡ true → is_xml_text u ≡ true → is_xml_text (t ++ u) ≡ true
-unfolding is_xml_text
-xml_append t u e f = list_all-append _ t u ∙ both _ _ e f
+use Rattle.node_builder.proofs.SubtreeLemmas.{subtree_sound}
+use Rattle.xt_names.proofs.ClassLemmas.{append_text}
+use Rattle.xt_names.specs.Names.{same_name}
+use Rattle.xt_names.proofs.BoolLemmas.{and_both as both}
 
 xml_space : is_xml_text (32 ∷ []) ≡ true
 unfolding is_xml_text is_in_ranges
@@ -39,7 +38,7 @@ atom_fits : (t : List ℕ) (pieces : List Piece) → is_xml_text t ≡ true → 
 atom_fits t [] e h = both _ _ e refl
 atom_fits t (words u ∷ pieces) e h =
     let p = and_parts (is_xml_text u) (list_all (λ q. is_sound_root (piece_tree q)) pieces) h in
-    both _ _ (xml_append t ((32 ∷ []) ++ u) e (xml_append (32 ∷ []) u xml_space p.0)) p.1
+    both _ _ (append_text t ((32 ∷ []) ++ u) e (append_text (32 ∷ []) u xml_space p.0)) p.1
 atom_fits t (whole x ∷ pieces) e h = both _ _ e h
 
 node_fits : (o : Option Tree) (pieces : List Piece) → ((x : Tree) → o ≡ Some x → is_sound_root x ≡ true) → list_all (λ p. is_sound_root (piece_tree p)) pieces ≡ true → list_all (λ p. is_sound_root (piece_tree p)) (put_node o pieces) ≡ true
@@ -53,7 +52,7 @@ pieces_fit (Node n ∷ items) h =
 pieces_fit (Atom a ∷ items) h =
     let p = and_parts (is_xml_text (text_of a)) (list_all is_sound_item items) h in atom_fits (text_of a) (pieces_of items) p.0 (pieces_fit items p.1)
 
--- a tree that content may hold, but for what stands before it
+-- a tree that content may hold, but for what comes before it
 abbrev is_fit : Tree → Bool
 is_fit (Doc kids) = false
 is_fit (Elem name attributes kids) = is_sound_name name && are_sound_attributes attributes && are_sound_behind false kids
@@ -87,7 +86,7 @@ opened_fit (whole x ∷ pieces) h =
       opened_one (Pi target t) ys e f = both _ _ e f
       opened_one (Attr name t) ys e f = both _ _ e f
 
--- content, of which the first stands after a text or not
+-- content, of which the first comes after a text or not
 abbrev fits_behind : Bool → List Tree → Bool
 fits_behind after [] = true
 fits_behind after (Doc kids ∷ xs) = false
@@ -104,7 +103,7 @@ merge_fits c cs (Doc kids ∷ xs) e h = absurd cc
 merge_fits c cs (Elem name attributes kids ∷ xs) e h = both _ _ e h
 merge_fits c cs (Text u ∷ xs) e h =
     let p = and_parts (not false && not (is_empty_text u) && is_xml_text u) (fits_behind true xs) h in
-    let q = and_parts (not (is_empty_text u)) (is_xml_text u) p.0 in both _ _ (xml_append (c ∷ cs) u e q.1) p.1
+    let q = and_parts (not (is_empty_text u)) (is_xml_text u) p.0 in both _ _ (append_text (c ∷ cs) u e q.1) p.1
 merge_fits c cs (Comment u ∷ xs) e h = both _ _ e h
 merge_fits c cs (Pi target u ∷ xs) e h = both _ _ e h
 merge_fits c cs (Attr name u ∷ xs) e h = both _ _ e h

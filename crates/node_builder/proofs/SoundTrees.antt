@@ -24,17 +24,14 @@ use Rattle.node_builder.specs.declared.faults.BuildFault.{BuildFault}
 use Rattle.node_builder.specs.declared.kinds.Duplicates.{Duplicates}
 use Rattle.node_builder.specs.declared.kinds.Holder.{Holder}
 use Rattle.node_builder.specs.declared.kinds.Holder.TheVariants.{Element, Document}
-use Rattle.node_builder.proofs.SubtreeLemmas.{both}
 use Rattle.node_builder.proofs.SoundContent.{children_sound, leading_all_sound, distinct_sound}
+use Rattle.node_builder.proofs.OnePass.{split_then}
+use Rattle.xt_names.proofs.BoolLemmas.{and_both as both}
 
 -- attributes and children that an element may have
 pub record IsSoundContent (c : Content) : Type 0 where
   pub attributes : are_sound_attributes c.attributes ≡ true
   pub kids : are_sound_behind false (forest_of c.kids) ≡ true
-
-split_then : {A B : Type 0} (o : Made A) (f : A → Made B) (y : B) → made_then o f ≡ Gives y → (x : A) × (o ≡ Gives x) × (f x ≡ Gives y)
-split_then (Gives x) f y e = (x, refl, e)
-split_then (Fails c) f y e = absurd cc
 
 taken_sound : (side : Duplicates) (attributes : List Attribute) (kids : List Tree) (c : Content) (test : Bool) (code : Code) → ((kept : List Attribute) → distinct side attributes ≡ Gives kept → are_sound_attributes kept ≡ true)
     → (test ≡ false → are_sound_behind false (forest_of kids) ≡ true) → cond test (Fails code) (made_then (distinct side attributes) (λ kept. Gives (record { attributes = kept; kids = kids }))) ≡ Gives c → IsSoundContent c

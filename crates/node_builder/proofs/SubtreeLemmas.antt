@@ -13,10 +13,6 @@ use Rattle.xt_tree.specs.declared.attributes.Attribute.{Attribute}
 use Rattle.xt_tree.specs.declared.trees.Tree.{Tree}
 use Rattle.xt_tree.specs.declared.trees.Tree.TheVariants.{Doc, Elem, Text, Comment, Pi, Attr}
 
-pub both : (p q : Bool) → p ≡ true → q ≡ true → (p && q) ≡ true
-both true q e f = f
-both false q e f = absurd cc
-
 -- a child of a sound node
 pub kid_sound : (f : Forest) (after : Bool) (i : ℕ) (k : Tree) → are_sound_behind after f ≡ true → slice_get (trees f) i ≡ Some k → is_sound_root k ≡ true
 kid_sound end after i k h e = absurd cc

@@ -21,7 +21,7 @@ use Rattle.node_builder.specs.declared.kinds.Holder.{Holder}
 use Rattle.node_builder.specs.declared.kinds.Holder.TheVariants.{Element, Document}
 
 -- the attributes and the trees that are done, the text after them to which more may come, whether there is any child, and
--- whether an atom stands at the end
+-- whether an atom is at the end
 pub record Built : Type 0 where
   pub attributes : List Attribute
   pub done : List Tree

@@ -9,7 +9,7 @@ use Rattle.xt_names.specs.declared.codes.QueryDynamicCode.TheVariants.{XQTY0024,
 use Rattle.xt_names.specs.declared.codes.SheetDynamicCode.TheVariants.{XTDE0410, XTDE0420}
 use Rattle.xt_atoms.specs.AtomTexts.{text_of}
 use Rattle.xt_tree.specs.Place.{subtree_of}
-use Rattle.xt_tree.specs.Sound.{same_name, names_differ}
+use Rattle.xt_tree.specs.Sound.{names_differ}
 use Rattle.xt_tree.specs.TreeView.{trees}
 use Rattle.xt_tree.specs.declared.attributes.Attribute.{Attribute}
 use Rattle.xt_tree.specs.declared.trees.Tree.{Tree}
@@ -22,6 +22,7 @@ use Rattle.node_builder.specs.declared.kinds.Duplicates.{Duplicates}
 use Rattle.node_builder.specs.declared.kinds.Duplicates.TheVariants.{KeepLast, Refuse}
 use Rattle.node_builder.specs.declared.kinds.Holder.{Holder}
 use Rattle.node_builder.specs.declared.kinds.Holder.TheVariants.{Element, Document}
+use Rattle.xt_names.specs.Names.{same_name}
 
 -- a part of the content: the words of atoms that stand beside each other, or a tree
 pub data Piece : Type 0 where

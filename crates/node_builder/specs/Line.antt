@@ -18,13 +18,13 @@ line b = record { text = b.text; ending = b.ending }
 abbrev pub no_line : Line
 no_line = record { text = []; ending = Nothing }
 
--- what stands before a text node: the separator, unless it goes on with a text node
+-- what comes before a text node: the separator, unless it goes on with a text node
 abbrev pub run_gap : List ℕ → End → List ℕ
 run_gap separator Nothing = []
 run_gap separator Value = separator
 run_gap separator Run = []
 
--- what stands before the text of any other item
+-- what comes before the text of any other item
 abbrev pub value_gap : List ℕ → End → List ℕ
 value_gap separator Nothing = []
 value_gap separator Value = separator

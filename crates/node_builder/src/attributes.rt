@@ -1,8 +1,7 @@
 // The attributes of an element, whose names differ.
 ghost use Rattle.std.specs.Prelude.{◌≡◌, ◌++◌, not, true, if◌then◌else◌, IfOk, OnOk};
 ghost use Rattle.xt_names.specs.declared.names.Name.{Name};
-ghost use Rattle.xt_tree.specs.Names.{has_key};
-ghost use Rattle.xt_tree.specs.Sound.{same_name};
+ghost use Rattle.xt_names.specs.Names.{has_key, same_name};
 ghost use Rattle.node_builder.specs.Answers.{Makes};
 ghost use Rattle.node_builder.specs.Complex.{last_of_each, distinct};
 ghost use Rattle.node_builder.specs.Kept.{kept_one};

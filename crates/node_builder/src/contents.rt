@@ -47,7 +47,7 @@ pub(crate) struct ContentBuilder {
     pending: Pending,
     /// Whether there is any child.
     begun: bool,
-    /// Whether an atom stands at the end.
+    /// Whether an atom is at the end.
     after_atom: bool,
 }
 
@@ -84,7 +84,7 @@ impl ContentBuilder {
         }
     }
 
-    /// Puts an atom at the end, and a space before it where it stands after an atom.
+    /// Puts an atom at the end, and a space before it where it comes after an atom.
     fn push_atom(&mut self, alloc: Global, atom: &Atom) -> Result<(), AllocError>
         ensures { OnOk result (built self.new ≡ with_atom (built self.old) (text_of atom.now)) }
     {
@@ -141,7 +141,7 @@ impl ContentBuilder {
         Ok(())
     }
 
-    /// Puts a tree at the end. A text joins the text before it, and an attribute stands before all children.
+    /// Puts a tree at the end. A text joins the text before it, and an attribute comes before all children.
     fn push_tree(
         &mut self,
         alloc: Global,

@@ -6,28 +6,18 @@ use Rattle.xt_tree.specs.Place.{Place}
 use Rattle.xt_types.specs.declared.axes.Axis.{Axis}
 use Rattle.xt_types.specs.declared.node_tests.Test.{Test}
 use Rattle.xdm_items.specs.NodeTests.Tests.{passes_at}
-use Rattle.step_walks.specs.NodeAxes.Course.{Course, to_come, is_at_hit}
+use Rattle.node_axes.specs.Course.{Course, to_come, is_at_hit}
 use Rattle.xdm_items.specs.declared.items.Item.TheVariants.{Node}
 use Rattle.node_walks.specs.Courses.{moves_along, moves_to_come, present_moves, walk_moves, is_ahead}
 use Rattle.node_walks.specs.declared.axis_walks.Stand.{Stand}
 use Rattle.node_walks.specs.declared.axis_walks.Stand.TheVariants.{Before, Ahead, Ended}
 use Rattle.node_walks.specs.Moves.{Moves, standing, settled, passed, steps_before}
+use Rattle.node_axes.proofs.StepWalks.HitLemmas.{at_hit, Onto}
 
 along : (axis : Axis) (wanted : Test) (n : Place) (rest : List Place) (b : Bool) → passes_at axis wanted n ≡ b → moves_along axis wanted (n ∷ rest)
     ≡ (if b then None ∷ Some (Node n) ∷ moves_along axis wanted rest else None ∷ moves_along axis wanted rest)
 unfolding moves_along
 along axis wanted n rest b e = rw e refl
-
-at_hit : (axis : Axis) (wanted : Test) (n : Place) → is_at_hit axis wanted (Some n) ≡ passes_at axis wanted n
-unfolding is_at_hit
-at_hit axis wanted n = refl
-
--- a step of a cursor onto a node
-pub record Onto (c d : Course) : Type 0 where
-  pub walk : to_come c ≡ option_to_list d.present ++ to_come d
-  pub present : is_some d.present ≡ true
-  pub axis : d.axis ≡ c.axis
-  pub test : d.test ≡ c.test
 
 course_moves : (c : Course) (axis : Axis) (wanted : Test) → axis ≡ c.axis → wanted ≡ c.test → moves_to_come c ≡ moves_along axis wanted (to_come c)
 unfolding moves_to_come
@@ -93,7 +83,7 @@ nowhere : (c : Course) → (standing (moves_to_come c) ≡ None) × (passed (mov
 unfolding moves_to_come
 nowhere c = no_give c.axis c.test (to_come c)
 
--- what a walk stands on, and what is left behind it
+-- what a walk stands on, and what is left after it
 pub on_none : (s : Stand) (c : Course) (xs : Moves) → is_ahead s ≡ false → walk_moves s c ≡ xs → (None ≡ standing xs) × (xs ≡ passed xs)
 unfolding walk_moves
 on_none Before c xs a e = (sym (ap standing (sym e) ∙ (nowhere c).0), sym (ap passed (sym e) ∙ (nowhere c).1 ∙ e))

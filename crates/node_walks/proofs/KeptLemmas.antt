@@ -9,14 +9,14 @@ use Rattle.xt_tree.specs.Place.{Place}
 use Rattle.xt_types.specs.declared.axes.Axis.{Axis}
 use Rattle.xt_types.specs.declared.node_tests.Test.{Test}
 use Rattle.xdm_items.specs.NodeTests.Tests.{passes_at}
-use Rattle.step_walks.specs.NodeAxes.Course.{Course, to_come}
-use Rattle.step_walks.specs.Hits.{hits_ahead}
-use Rattle.step_walks.specs.Nodes.{Focus, kept_from, kept_by_all}
-use Rattle.step_walks.specs.Sifted.{AreSizeFree, sifted, kept_in_turn, raised, alone_if}
-use Rattle.step_walks.proofs.SiftLemmas.{begins, comes, raised_length}
-use Rattle.quiet_places.specs.QuietMeaning.Paths.{keeps}
-use Rattle.quiet_places.specs.Free.{is_size_free_expr}
-use Rattle.quiet_places.proofs.FreeLemmas.{size_free}
+use Rattle.node_axes.specs.Course.{Course, to_come}
+use Rattle.node_axes.specs.StepWalks.Hits.{hits_ahead}
+use Rattle.node_axes.specs.StepWalks.Nodes.{Focus, kept_from, kept_by_all}
+use Rattle.node_axes.specs.StepWalks.Sifted.{AreSizeFree, sifted, kept_in_turn, raised, alone_if}
+use Rattle.node_axes.proofs.StepWalks.SiftLemmas.{begins, comes, raised_length}
+use Rattle.quiet_eval.specs.QuietMeaning.Paths.{keeps}
+use Rattle.quiet_eval.specs.QuietPlaces.Free.{is_size_free_expr}
+use Rattle.quiet_eval.proofs.QuietPlaces.FreeLemmas.{size_free}
 use Rattle.xdm_items.specs.declared.items.Item.{Item}
 use Rattle.xdm_items.specs.declared.items.Item.TheVariants.{Node}
 use Rattle.node_walks.specs.Courses.{moves_along, moves_to_come}

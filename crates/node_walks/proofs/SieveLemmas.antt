@@ -7,12 +7,12 @@ use Rattle.std.proofs.lemmas.List.{append-nil, drop_more}
 use Rattle.std.proofs.Math.Seq.{take-length, drop-length}
 use Rattle.xt_syntax.specs.declared.exprs.Expr.{Expr}
 use Rattle.xt_tree.specs.Place.{Place}
-use Rattle.step_walks.specs.Sifted.{kept_in_turn, raised}
+use Rattle.node_axes.specs.StepWalks.Sifted.{kept_in_turn, raised}
 use Rattle.xdm_items.specs.declared.items.Item.TheVariants.{Node}
 use Rattle.std.specs.Prelude.{nat_eq}
 use Rattle.node_walks.specs.Sift.{is_kept, after}
-use Rattle.quiet_places.specs.QuietMeaning.Quietly.{quietly_of, is_pattern_form, holds_quietly}
-use Rattle.quiet_places.specs.QuietMeaning.Paths.{keeps}
+use Rattle.quiet_eval.specs.QuietMeaning.Quietly.{quietly_of, is_pattern_form, holds_quietly}
+use Rattle.quiet_eval.specs.QuietMeaning.Paths.{keeps}
 
 pub allowed_at : (tests : List Expr) (i : ℕ) (e : Expr) → i < length tests → e ≡ get_or tests i e → list_all is_pattern_form (map quietly_of tests) ≡ true → is_pattern_form (quietly_of e) ≡ true
 allowed_at [] i e l is h = absurd (omega arith)

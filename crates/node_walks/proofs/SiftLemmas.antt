@@ -4,8 +4,8 @@ use Rattle.std.proofs.Common.{refl, sym, ap, ◌∙◌, arith, length, ◌≤◌
 use Rattle.std.specs.Result.{OnErr}
 use Rattle.std.specs.declared.alloc.AllocError.{AllocError}
 use Rattle.xt_syntax.specs.declared.exprs.Expr.{Expr}
-use Rattle.quiet_places.specs.QuietMeaning.Paths.{keeps}
-use Rattle.step_walks.specs.Nodes.{Focus}
+use Rattle.quiet_eval.specs.QuietMeaning.Paths.{keeps}
+use Rattle.node_axes.specs.StepWalks.Nodes.{Focus}
 use Rattle.xdm_items.specs.declared.items.Item.{Item}
 use Rattle.node_walks.specs.Moves.{Moves, steps_before, settled, standing, passed}
 use Rattle.node_walks.specs.Quiet.{IsFound, IsOn, Judged}

@@ -4,7 +4,7 @@ use Rattle.xt_tree.specs.Place.{Place}
 use Rattle.xt_types.specs.declared.axes.Axis.{Axis}
 use Rattle.xt_types.specs.declared.node_tests.Test.{Test}
 use Rattle.xdm_items.specs.NodeTests.Tests.{passes_at}
-use Rattle.step_walks.specs.NodeAxes.Course.{Course, to_come}
+use Rattle.node_axes.specs.Course.{Course, to_come}
 use Rattle.xdm_items.specs.declared.items.Item.TheVariants.{Node}
 use Rattle.node_walks.specs.Moves.{Moves}
 use Rattle.node_walks.specs.declared.axis_walks.Stand.{Stand}

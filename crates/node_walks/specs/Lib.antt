@@ -3,7 +3,6 @@ pub mod Moves
 pub mod Quiet
 pub mod Sift
 pub mod Trails
-pub use Rattle.step_walks.specs.NodeAxes
-pub use Rattle.quiet_places.specs.QuietMeaning
-pub use Rattle.quiet_places.specs as QuietPlaces
-pub use Rattle.step_walks.specs as StepWalks
+pub use Rattle.node_axes.specs as NodeAxes
+pub use Rattle.quiet_eval.specs as QuietEval
+pub use Rattle.quiet_eval.specs.QuietMeaning

@@ -1,9 +1,9 @@
 -- What holds of a walk with predicates at each moment.
 use Rattle.std.specs.Prelude.{◌≡◌, ℕ, ◌+◌, List, length, Bool, true, is_some, Some}
 use Rattle.xt_syntax.specs.declared.exprs.Expr.{Expr}
-use Rattle.quiet_places.specs.QuietMeaning.Paths.{are_allowed}
+use Rattle.quiet_eval.specs.QuietMeaning.Paths.{are_allowed}
 use Rattle.node_walks.specs.Moves.{Moves, standing, settled, steps_before}
-use Rattle.step_walks.specs.Nodes.{Focus}
+use Rattle.node_axes.specs.StepWalks.Nodes.{Focus}
 use Rattle.xdm_items.specs.declared.items.Item.{Item}
 use Rattle.node_walks.specs.Sift.{is_kept, after}
 

@@ -1,7 +1,7 @@
 -- Predicates that filter in turn what a walk gives (XPath 2.0, 3.2.2).
 use Rattle.std.specs.Prelude.{ℕ, suc, List, [], ◌∷◌, length, Bool, true, false, nat_eq, if◌then◌else◌, Some, None}
-use Rattle.step_walks.specs.Nodes.{Focus}
-use Rattle.step_walks.specs.Sifted.{kept_in_turn, raised}
+use Rattle.node_axes.specs.StepWalks.Nodes.{Focus}
+use Rattle.node_axes.specs.StepWalks.Sifted.{kept_in_turn, raised}
 use Rattle.xdm_items.specs.declared.items.Item.{Item}
 use Rattle.xdm_items.specs.declared.items.Item.TheVariants.{Node, Atom}
 use Rattle.node_walks.specs.Moves.{Moves}

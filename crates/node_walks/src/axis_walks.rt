@@ -6,10 +6,10 @@ ghost use Rattle.node_walks.specs.Courses.{is_ahead, moves_to_come, present_move
 ghost use Rattle.node_walks.specs.Moves.{settled, standing, passed, steps_before};
 ghost use Rattle.node_walks.specs.declared.axis_walks.Stand.TheVariants.{Ahead};
 
+use node_axes::{Cursor, Steps};
 use std::alloc::AllocError;
 use std::marker::Model;
 use std::sync::ledger::Ledger;
-use step_walks::node_axes::{Cursor, Steps};
 use xt_tree::Node;
 
 /// Where a walk stands: before its next step, on a node that is still to be given, or past the end.

@@ -1,13 +1,13 @@
 // What predicates keep of the nodes along an axis, as one list.
 ghost use Rattle.std.specs.Prelude.{◌≡◌, map, true, IfOk};
-ghost use Rattle.quiet_places.specs.QuietMeaning.Paths.{are_allowed, keeps};
-ghost use Rattle.step_walks.specs.Hits.{hits_ahead};
-ghost use Rattle.step_walks.specs.Nodes.{kept_by_all};
+ghost use Rattle.quiet_eval.specs.QuietMeaning.Paths.{are_allowed, keeps};
+ghost use Rattle.node_axes.specs.StepWalks.Hits.{hits_ahead};
+ghost use Rattle.node_axes.specs.StepWalks.Nodes.{kept_by_all};
 ghost use Rattle.xdm_items.specs.declared.items.Item.TheVariants.{Node as a_node};
 
+use node_axes::Cursor;
 use quiet_eval::{hits_ahead, kept_in_turn};
 use std::alloc::{AllocError, Global};
-use step_walks::node_axes::Cursor;
 use xdm_items::{Item, ItemList};
 use xt_syntax::Expr;
 use xt_tree::Node;

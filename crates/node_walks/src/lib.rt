@@ -18,6 +18,6 @@ mod sieves;
 mod walks;
 
 pub use collected::kept_hits;
-pub use quiet_places;
-pub use step_walks::node_axes;
+pub use node_axes;
+pub use quiet_eval;
 pub use walks::Walk;

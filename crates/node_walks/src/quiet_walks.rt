@@ -2,7 +2,7 @@
 ghost use Rattle.std.specs.Prelude.{◌≡◌, ◌+◌, ◌≤◌, ◌<◌, [], length, replicate, true, false, is_some};
 ghost use Rattle.std.specs.Prelude.{Ok, IfOk, OnErr};
 ghost use Rattle.std.specs.Option.{option_map};
-ghost use Rattle.quiet_places.specs.QuietMeaning.Paths.{are_allowed, keeps};
+ghost use Rattle.quiet_eval.specs.QuietMeaning.Paths.{are_allowed, keeps};
 ghost use Rattle.xdm_items.specs.declared.items.Item.TheVariants.{Node as a_node};
 ghost use Rattle.node_walks.specs.Courses.{moves_to_come};
 ghost use Rattle.node_walks.specs.Moves.{settled, standing, passed, steps_before};
@@ -11,10 +11,10 @@ ghost use Rattle.node_walks.specs.Sift.{sifted_moves, quiet_moves};
 
 use crate::axis_walks::AxisWalk;
 use crate::sieves::Sieve;
+use node_axes::{Cursor, Steps};
 use std::alloc::{AllocError, Global};
 use std::marker::Model;
 use std::sync::ledger::Ledger;
-use step_walks::node_axes::{Cursor, Steps};
 use xt_names::List;
 use xt_syntax::Expr;
 use xt_tree::Node;
@@ -32,7 +32,7 @@ pub(crate) struct QuietWalk {
 impl Model for QuietWalk {
     ghost use Rattle.std.specs.Coded.{codes};
     ghost use Rattle.xt_tree.specs.Forest.{forest_code};
-    ghost use Rattle.quiet_places.specs.QuietMeaning.Paths.{keeps};
+    ghost use Rattle.quiet_eval.specs.QuietMeaning.Paths.{keeps};
     ghost use Rattle.node_walks.specs.Quiet.{IsSteady, Sifting};
     ghost use Rattle.node_walks.specs.Sift.{quiet_moves};
 

@@ -1,15 +1,15 @@
 // Predicates that are asked one node after another (XPath 2.0, 3.2.2).
 ghost use Rattle.std.specs.Prelude.{◌≡◌, ◌+◌, ◌<◌, ◌^◌, ℕ, length, replicate, slice_index, true};
 ghost use Rattle.std.specs.Prelude.{IfOk, OnOk, OnErr};
-ghost use Rattle.quiet_places.specs.QuietMeaning.Paths.{are_allowed, keeps};
-ghost use Rattle.step_walks.specs.Sifted.{kept_in_turn};
+ghost use Rattle.quiet_eval.specs.QuietMeaning.Paths.{are_allowed, keeps};
+ghost use Rattle.node_axes.specs.StepWalks.Sifted.{kept_in_turn};
 ghost use Rattle.xdm_items.specs.declared.items.Item.TheVariants.{Node as a_node};
 ghost use Rattle.node_walks.specs.Quiet.{IsSieve};
 ghost use Rattle.node_walks.specs.Sift.{is_kept, after};
 
+use node_axes::step_walks::{raise, zeros};
 use quiet_eval::holds;
 use std::alloc::{AllocError, Global};
-use step_walks::{raise, zeros};
 use xt_names::{List, Shared};
 use xt_syntax::Expr;
 use xt_tree::Node;

@@ -3,11 +3,11 @@ ghost use Rattle.std.specs.Prelude.{◌≡◌, ◌++◌, ◌+◌, ◌≤◌, ◌
 ghost use Rattle.std.specs.Prelude.{slice_get, map, replicate, Ok, true};
 ghost use Rattle.std.specs.Option.{option_map, option_to_list, SomeIff};
 ghost use Rattle.xdm_items.specs.declared.items.Item.TheVariants.{Node as a_node};
-ghost use Rattle.quiet_places.specs.QuietMeaning.Paths.{are_allowed, keeps};
-ghost use Rattle.quiet_places.specs.Free.{is_size_free_expr};
+ghost use Rattle.quiet_eval.specs.QuietMeaning.Paths.{are_allowed, keeps};
+ghost use Rattle.quiet_eval.specs.QuietPlaces.Free.{is_size_free_expr};
 ghost use Rattle.std.specs.List.{list_all};
-ghost use Rattle.step_walks.specs.Hits.{hits_ahead};
-ghost use Rattle.step_walks.specs.Nodes.{kept_by_all};
+ghost use Rattle.node_axes.specs.StepWalks.Hits.{hits_ahead};
+ghost use Rattle.node_axes.specs.StepWalks.Nodes.{kept_by_all};
 ghost use Rattle.node_walks.specs.Courses.{moves_to_come};
 ghost use Rattle.node_walks.specs.Sift.{sifted_moves};
 ghost use Rattle.node_walks.specs.Trails.{trail_moves, is_ready};
@@ -16,10 +16,10 @@ ghost use Rattle.node_walks.specs.Moves.{settled, standing, passed};
 
 use crate::axis_walks::AxisWalk;
 use crate::quiet_walks::QuietWalk;
+use node_axes::{Cursor, Steps};
 use std::alloc::{AllocError, Global};
 use std::marker::{Brand, Model};
 use std::sync::ledger::{Blank, Ledger};
-use step_walks::node_axes::{Cursor, Steps};
 use xdm_items::Item;
 use xt_names::List;
 use xt_syntax::Expr;

@@ -40,7 +40,7 @@ place_total = then_total (on_total (λ (p : Place). p.number) nat_cmp_total)
 pub place_ranks : IsStrictWeakOrder (λ (a b : Place). is_lt (order_of_all a b))
 place_ranks = ranks_by place_total (λ (p : Place). p)
 
--- neither of two nodes stands before the other exactly where they are one node
+-- neither of two nodes comes before the other exactly where they are one node
 tied : (a b : ℕ) (o : Ordering) → is_equal (if nat_eq a b then Some o else None)
     ≡ is_eq (ordering_then (nat_cmp a b) o)
 tied a b o = by (nat_lt a b) (nat_eq a b) refl refl

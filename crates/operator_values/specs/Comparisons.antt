@@ -5,8 +5,8 @@ use Rattle.xt_names.specs.declared.kinds.CompareOp.{CompareOp}
 use Rattle.xt_atoms.specs.declared.atoms.Atom.{Atom as AtomValue}
 use Rattle.xt_atoms.specs.Comparisons.{value_comparison, general_comparison}
 use Rattle.xdm_items.specs.declared.items.Item.{Item}
-use Rattle.function_arguments.specs.Answers.{of_truth}
-use Rattle.function_arguments.specs.Arguments.{and_then}
+use Rattle.xdm_items.specs.FunctionArguments.Answers.{of_truth}
+use Rattle.xdm_items.specs.FunctionArguments.Arguments.{and_then}
 use Rattle.operator_values.specs.Operands.{atom_of, optional_atom, of_both}
 
 -- the first that is true or fails decides

@@ -4,7 +4,7 @@ pub mod Nodes
 pub mod Numbers
 pub mod Operands
 pub mod Types
-pub use Rattle.function_arguments.specs as FunctionArguments
 pub use Rattle.lazy_seq.specs as LazySeq
 pub use Rattle.lazy_seq.specs.NodeAxes
 pub use Rattle.lazy_seq.specs.NodeWalks
+pub use Rattle.xdm_items.specs as XdmItems

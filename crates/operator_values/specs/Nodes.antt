@@ -11,8 +11,8 @@ use Rattle.xt_atoms.specs.Casts.{wrong_type}
 use Rattle.xt_tree.specs.Place.{Place, order_of}
 use Rattle.xdm_items.specs.declared.items.Item.{Item}
 use Rattle.xdm_items.specs.declared.items.Item.TheVariants.{Node, Atom}
-use Rattle.function_arguments.specs.Answers.{of_truth}
-use Rattle.function_arguments.specs.Arguments.{and_then}
+use Rattle.xdm_items.specs.FunctionArguments.Answers.{of_truth}
+use Rattle.xdm_items.specs.FunctionArguments.Arguments.{and_then}
 use Rattle.lazy_seq.specs.Orders.{in_document_order}
 use Rattle.operator_values.specs.Operands.{optional_node, of_both}
 
@@ -20,7 +20,7 @@ abbrev pub is_equal : Option Ordering → Bool
 is_equal None = false
 is_equal (Some order) = is_eq order
 
--- the same node of the same tree: neither of the two stands before the other
+-- the same node of the same tree: neither of the two comes before the other
 unfoldable pub same_node : Place → Place → Bool
 same_node n m = is_equal (order_of n m)
 

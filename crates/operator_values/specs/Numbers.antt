@@ -6,8 +6,8 @@ use Rattle.xt_names.specs.declared.kinds.ArithOp.TheVariants.{Sub}
 use Rattle.xt_atoms.specs.declared.atoms.Atom.{Atom as AtomValue}
 use Rattle.xt_atoms.specs.Arithmetic.{integer_operand, computed}
 use Rattle.xdm_items.specs.declared.items.Item.{Item}
-use Rattle.function_arguments.specs.Answers.{of_integer}
-use Rattle.function_arguments.specs.Arguments.{and_then, as_some}
+use Rattle.xdm_items.specs.FunctionArguments.Answers.{of_integer}
+use Rattle.xdm_items.specs.FunctionArguments.Arguments.{and_then, as_some}
 use Rattle.xt_atoms.specs.declared.faults.ValueFault.{ValueFault}
 use Rattle.xt_atoms.specs.declared.faults.ValueFault.TheVariants.{Error, Memory}
 use Rattle.lazy_seq.specs.NodeWalks.Moves.{given}

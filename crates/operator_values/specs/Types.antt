@@ -11,8 +11,8 @@ use Rattle.xt_atoms.specs.Casts.{cast_of, wrong_type}
 use Rattle.xdm_items.specs.declared.items.Item.{Item}
 use Rattle.xdm_items.specs.declared.items.Item.TheVariants.{Atom}
 use Rattle.xdm_items.specs.Matching.{matches_type}
-use Rattle.function_arguments.specs.Answers.{of_truth}
-use Rattle.function_arguments.specs.Arguments.{and_then}
+use Rattle.xdm_items.specs.FunctionArguments.Answers.{of_truth}
+use Rattle.xdm_items.specs.FunctionArguments.Arguments.{and_then}
 use Rattle.operator_values.specs.Operands.{optional_atom}
 
 -- `a instance of T`

@@ -6,9 +6,9 @@ ghost use Rattle.operator_values.specs.Comparisons.{compares_with_some, some_com
 ghost use Rattle.operator_values.specs.Comparisons.{general_value, single_value};
 
 use crate::operands::{atom_of, atoms_of, optional_atom};
-use function_arguments::{no_items, truth_list};
 use std::alloc::Global;
 use std::slice;
+use xdm_items::function_arguments::{no_items, truth_list};
 use xdm_items::{Item, ItemList};
 use xt_atoms::{Atom, ValueFault, general_compare, value_compare};
 use xt_names::{Code, CompareOp};

@@ -17,10 +17,10 @@ mod operands;
 mod types;
 
 pub use comparisons::{general, single};
-pub use function_arguments;
 pub use lazy_seq;
 pub use node_operators::{after, before, is};
 pub use node_sets::{are_nodes, except, in_order, intersect, union};
 pub use numbers::{arithmetic, negated, range, signed};
 pub use operands::atom_of;
 pub use types::{cast_list, castable_list, instance, treated};
+pub use xdm_items;

@@ -6,15 +6,15 @@ ghost use Rattle.operator_values.specs.Nodes.{is_value, before_value, after_valu
 ghost use Rattle.operator_values.specs.Nodes.{is_equal, is_less, same_node};
 
 use crate::operands::optional_node;
-use function_arguments::{no_items, truth_list};
 use std::alloc::Global;
 use std::cmp::Ordering;
 use xdm_items::ItemList;
+use xdm_items::function_arguments::{no_items, truth_list};
 use xt_atoms::ValueFault;
 use xt_names::{Code, DynamicCode};
 use xt_tree::{Node, order};
 
-/// Whether neither of two nodes of one tree stands before the other.
+/// Whether neither of two nodes of one tree comes before the other.
 fn is_equal(order: Option<Ordering>) -> bool
     ensures { result ≡ is_equal order }
 {
@@ -31,7 +31,7 @@ fn is_same(a: &Node, b: &Node) -> bool
     is_equal(order(a, b))
 }
 
-/// Whether the first of two nodes of one tree stands before the other.
+/// Whether the first of two nodes of one tree comes before the other.
 fn is_less(alloc: Global, order: Option<Ordering>) -> Result<ItemList, ValueFault>
     ensures { Answers (is_less order) result }
 {
@@ -41,7 +41,7 @@ fn is_less(alloc: Global, order: Option<Ordering>) -> Result<ItemList, ValueFaul
     }
 }
 
-/// Whether the one stands before the other.
+/// Whether the one comes before the other.
 fn precedes(alloc: Global, a: &Node, b: &Node) -> Result<ItemList, ValueFault>
     ensures { Answers (precedes a.now b.now) result }
 {

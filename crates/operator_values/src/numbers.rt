@@ -7,9 +7,9 @@ ghost use Rattle.operator_values.specs.Numbers.{arithmetic_value, range_value, n
 ghost use Rattle.operator_values.specs.Numbers.{signed_value, AnswersItems};
 
 use crate::operands::optional_atom;
-use function_arguments::{integer_list, no_items};
 use lazy_seq::Seq;
 use std::alloc::Global;
+use xdm_items::function_arguments::{integer_list, no_items};
 use xdm_items::{Item, ItemList};
 use xt_atoms::{Atom, ValueFault, arith, integer_operand};
 use xt_names::{ArithOp, Code};

@@ -5,8 +5,8 @@ ghost use Rattle.operator_values.specs.Types.{instance_value, treated_value, cas
 ghost use Rattle.operator_values.specs.Types.{cast_value, castable_value};
 
 use crate::operands::{WRONG_TYPE, optional_atom};
-use function_arguments::{atom_list, no_items, truth_list};
 use std::alloc::Global;
+use xdm_items::function_arguments::{atom_list, no_items, truth_list};
 use xdm_items::{ItemList, matches};
 use xt_atoms::{Atom, ValueFault, cast, castable};
 use xt_names::{AtomType, Code, DynamicCode};

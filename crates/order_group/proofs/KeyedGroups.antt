@@ -10,11 +10,12 @@ use Rattle.std.proofs.lemmas.Simd.{map-map}
 use Rattle.xt_atoms.specs.Keys.{key_same}
 use Rattle.xt_atoms.specs.declared.atoms.Atom.{Atom}
 use Rattle.xdm_items.specs.declared.items.Item.{Item}
-use Rattle.atom_keys.proofs.KeyLemmas.{same_key_laws as laws}
-use Rattle.atom_keys.specs.Tables.{ends_in, joined, first_entry, with_place}
-use Rattle.atom_keys.specs.declared.tables.KeyEntry.{KeyEntry}
+use Rattle.order_group.proofs.AtomKeys.KeyLemmas.{same_key_laws as laws}
+use Rattle.order_group.specs.AtomKeys.Tables.{ends_in, joined, first_entry, with_place}
+use Rattle.order_group.specs.declared.atom_keys.tables.KeyEntry.{KeyEntry}
 use Rattle.order_group.specs.Groups.{atoms_of, has_key, first_seen, places_where, grouped_by}
 use Rattle.order_group.specs.Steps.{with_row, with_rows, entry_group}
+use Rattle.std.proofs.Math.Bool.{or-false}
 
 or_true : (b : Bool) → b || true ≡ true
 or_true true = refl
@@ -23,10 +24,6 @@ or_true false = refl
 or_assoc : (a b c : Bool) → a || (b || c) ≡ (a || b) || c
 or_assoc true b c = refl
 or_assoc false b c = refl
-
-or_false : (b : Bool) → b || false ≡ b
-or_false true = refl
-or_false false = refl
 
 -- equal keys are among the same keys
 any_same : (a b : Atom) (ks : List Atom) → key_same a b ≡ true → has_key a ks ≡ has_key b ks
@@ -217,7 +214,7 @@ abbrev entries_for : List (List Atom) → List KeyEntry
 entries_for rows = with_places (λ a. places_where (has_key a) 0 rows) (first_seen (flat rows))
 
 any_push : (a b : Atom) (ks : List Atom) → has_key b (ks ++ a ∷ []) ≡ has_key b ks || key_same b a
-any_push a b ks = list_any-append (key_same b) ks (a ∷ []) ∙ ap (λ s. has_key b ks || s) (or_false (key_same b a))
+any_push a b ks = list_any-append (key_same b) ks (a ∷ []) ∙ ap (λ s. has_key b ks || s) (or-false (key_same b a))
 
 -- the places of a key in rows of which the last is being read
 module _ (done : List (List Atom)) (part : List Atom) (a : Atom) where
@@ -241,7 +238,7 @@ module _ (done : List (List Atom)) (part : List Atom) (a : Atom) where
   others_same : (b : Atom) → key_same a b ≡ false → before b ≡ after b
   others_same b h =
       before_is b
-      ∙ ap (λ s. places_where (has_key b) 0 done ++ last_place s) (sym (ap (λ s. has_key b part || s) (laws.symm b a ∙ h) ∙ or_false (has_key b part)))
+      ∙ ap (λ s. places_where (has_key b) 0 done ++ last_place s) (sym (ap (λ s. has_key b part || s) (laws.symm b a ∙ h) ∙ or-false (has_key b part)))
       ∙ sym (after_is b)
 
   own_joined : (b : Atom) → key_same a b ≡ true → joined (before b) (length done) ≡ after b

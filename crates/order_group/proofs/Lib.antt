@@ -4,3 +4,4 @@ pub mod Natural
 pub mod Orders
 pub mod Places
 pub mod Runs
+pub mod AtomKeys

@@ -1,12 +1,12 @@
 -- Groups that begin at marked places.
 use Rattle.std.proofs.Common.{◌≡◌, ℕ, zero, suc, ◌+◌, ◌<◌, add-one, not, map, drop, get_or, Bool, true, false, List, [], ◌∷◌, ◌++◌, length, Some, slice_get, slice_set, if◌then◌else◌, refl, ap, sym, ◌∙◌, arith}
-use Rattle.std.proofs.Math.Seq.{drop-cons}
 use Rattle.std.proofs.lemmas.List.{append-nil, append_assoc}
 use Rattle.order_group.specs.Groups.{Mark, changes, plain_mark}
 use Rattle.order_group.specs.Steps.{extended, first_group, with_mark, continued}
 use Rattle.xt_atoms.specs.Keys.{key_same}
 use Rattle.xt_atoms.specs.declared.atoms.Atom.{Atom}
 use Rattle.order_group.specs.declared.groups.Group.{Group}
+use Rattle.xt_names.proofs.ListLemmas.{drop_at}
 
 pub continued_end : (gs : List Group) (n : ℕ) → continued gs n [] ≡ gs
 continued_end [] n = refl
@@ -30,9 +30,6 @@ continued_mark gs m n ms = rw add-one (by m.begins refl)
     by : (b : Bool) → m.begins ≡ b → continued (if b then gs ++ first_group m n ∷ [] else extended gs n) (suc n) ms ≡ continued gs n (m ∷ ms)
     by true e = continued_begun gs m n ms e
     by false e = continued_extended gs m n ms e
-
-drop_at : {X : Type 0} (xs : List X) (i : ℕ) (x : X) → i < length xs → x ≡ get_or xs i x → drop i xs ≡ x ∷ drop (i + 1) xs
-drop_at xs i x h e = rw add-one (drop-cons xs i x h ∙ ap (λ z. z ∷ drop (suc i) xs) (sym e))
 
 -- a turn of the loops
 pub turn_changes : (gs new : List Group) (n i : ℕ) (a b : Atom) (rest : List Atom) → i < length rest → b ≡ get_or rest i b → new ≡ with_mark gs (record { begins = not (key_same a b); key = Some b }) n → continued new (n + 1) (changes b (drop (i + 1) rest)) ≡ continued gs n (changes a (drop i rest))

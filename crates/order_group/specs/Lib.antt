@@ -4,5 +4,5 @@ pub mod Rows
 pub mod Sorts
 pub mod Stable
 pub mod Steps
-pub use Rattle.atom_keys.specs as AtomKeys
+pub mod AtomKeys
 pub use Rattle.xdm_items.specs as XdmItems

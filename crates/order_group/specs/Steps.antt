@@ -1,8 +1,8 @@
 -- Groups in the making.
 use Rattle.std.specs.Prelude.{ℕ, suc, List, [], ◌∷◌, ◌++◌, if◌then◌else◌, Some}
 use Rattle.xt_atoms.specs.declared.atoms.Atom.{Atom}
-use Rattle.atom_keys.specs.Tables.{with_place}
-use Rattle.atom_keys.specs.declared.tables.KeyEntry.{KeyEntry}
+use Rattle.order_group.specs.AtomKeys.Tables.{with_place}
+use Rattle.order_group.specs.declared.atom_keys.tables.KeyEntry.{KeyEntry}
 use Rattle.order_group.specs.Groups.{Mark, places_before, marked_groups}
 use Rattle.order_group.specs.declared.groups.Group.{Group}
 
@@ -28,7 +28,7 @@ extended (g ∷ h ∷ gs) n = g ∷ extended (h ∷ gs) n
 abbrev pub first_group : Mark → ℕ → Group
 first_group m n = record { key = m.key; members = n ∷ [] }
 
--- with the place n, which begins a group or stands in the last one
+-- with the place n, which begins a group or is in the last one
 abbrev pub with_mark : List Group → Mark → ℕ → List Group
 with_mark groups m n = if m.begins then groups ++ first_group m n ∷ [] else extended groups n
 

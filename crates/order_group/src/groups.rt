@@ -4,7 +4,7 @@ ghost use Rattle.std.specs.Option.{option_copied};
 ghost use Rattle.order_group.specs.Groups.{atoms_of, changes, grouped_adjacent, grouped_by, grouped_starting, plain_mark, Mark};
 ghost use Rattle.order_group.specs.Steps.{continued, entry_group, extended, first_group, with_mark, with_row, with_rows};
 
-use atom_keys::{KeyEntry, KeyTable};
+use crate::atom_keys::{KeyEntry, KeyTable};
 use std::alloc::{AllocError, Global};
 use xdm_items::{Item, ItemList};
 use xt_atoms::{Atom, key_same};

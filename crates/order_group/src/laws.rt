@@ -1,7 +1,8 @@
 // What holds of the order of rows, whatever they are.
 ghost use Rattle.std.specs.Prelude.{Bool, List, ◌≡◌, length};
 ghost use Rattle.order_group.specs.Rows.{Keyed, stands_before};
-ghost use Rattle.order_group.specs.Stable.{stable_order, IsTheStableOrder, IsNatural};
+ghost use Rattle.order_group.specs.Stable.{IsTheStableOrder, IsNatural};
+ghost use Rattle.xt_names.specs.Lists.{stable_order};
 
 /// Rows of keys have exactly one stable order, whatever the directions are.
 pub fn rows_have_one_order<A>()

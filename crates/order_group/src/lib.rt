@@ -8,12 +8,12 @@
 //! these keys `group_by` makes the groups `b` with the place 0 and `a` with the places 1 and 3.
 #![tactic(auto)]
 
+pub mod atom_keys;
 mod groups;
 mod laws;
 mod rows;
 mod sorts;
 
-pub use atom_keys;
 pub use groups::{Group, group_adjacent, group_by, group_starting};
 pub use laws::{rows_have_one_order, sorted_values_follow_their_keys};
 pub use sorts::{KeyRow, SortFault, sort_by_keys};

@@ -4,7 +4,7 @@ ghost use Rattle.std.specs.Ordering.{is_lt};
 ghost use Rattle.order_group.specs.Rows.{in_order, is_of, cell_is_of, all_of, has_order, mixed_from, row_order, cell_at};
 ghost use Rattle.order_group.specs.Sorts.{cells_of, numbered, IsSorted};
 ghost use Rattle.order_group.specs.Entries.{keyed_entries};
-ghost use Rattle.order_group.specs.Stable.{stable_order};
+ghost use Rattle.xt_names.specs.Lists.{stable_order};
 
 use crate::rows::{cell, row_order};
 use std::alloc::{AllocError, Global};

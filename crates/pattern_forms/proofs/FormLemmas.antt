@@ -1,11 +1,11 @@
 -- The form of what is made of parts is made of their forms.
-use Rattle.std.proofs.Common.{◌≡◌, ℕ, ◌+◌, ◌==◌, ℤ, List, [], ◌∷◌, ◌++◌, map, filter, length, Bool, true, false, cond, not, ◌&&◌, refl, sym, ap, ap₂, ◌∙◌, subst, codes, arith, drop, drop-cons, add-one, take, get_or, ◌<◌, ◌≤◌}
+use Rattle.std.proofs.Common.{◌≡◌, ℕ, ◌+◌, ◌==◌, ℤ, List, [], ◌∷◌, ◌++◌, map, filter, length, Bool, true, false, cond, not, ◌&&◌, refl, sym, ap, ap₂, ◌∙◌, subst, codes, arith, drop, take, get_or, ◌<◌, ◌≤◌}
 use Rattle.std.specs.List.{list_all, list_any}
 use Rattle.std.specs.Str.{bytes_eq}
 use Rattle.std.proofs.Math.Dec.{eqb-suc-zero}
 use Rattle.std.proofs.lemmas.List.{take_more, take_all, map-append}
 use Rattle.std.proofs.Math.ListN.{drop_of_length-le}
-use Rattle.quiet_meaning.specs.StepWalks.Nodes.{Focus, Nodes, step_nodes}
+use Rattle.quiet_meaning.specs.NodeAxes.StepWalks.Nodes.{Focus, Nodes, step_nodes}
 use Rattle.xt_names.specs.declared.kinds.CompareOp.{CompareOp}
 use Rattle.xt_types.specs.declared.axes.Axis.{Axis}
 use Rattle.xt_types.specs.declared.node_tests.Test.{Test}
@@ -21,6 +21,7 @@ use Rattle.quiet_meaning.proofs.FormLemmas.{gives_quietly, rolled_quietly, each_
 use Rattle.pattern_forms.specs.Forms.{PredicateForm}
 use Rattle.pattern_forms.specs.Forms as forms
 use Rattle.pattern_forms.specs.Kinds.{Layer, form_of, form_in, is_conjunct, Tally}
+use Rattle.xt_names.proofs.ListLemmas.{drop_next}
 
 pub truth-of : (q : Quietly) → forms.is_truth (form_of q) ≡ is_truth q
 unfolding form_of forms.is_truth is_truth
@@ -380,10 +381,6 @@ pub ruleset bares = (bare-is)
 
 pub ruleset steps_of = (step-of)
 
--- one part behind the other
-drop_next : {A : Type 0} (xs : List A) (k : ℕ) (d : A) → k < length xs → drop k xs ≡ get_or xs k d ∷ drop (k + 1) xs
-drop_next xs k d h = rw (add-one, drop-cons xs k d) refl
-
 this : (e : Expr) (f : PredicateForm) → f ≡ form_in (out-Expr e) → f ≡ form_of (quietly_of e)
 this e f g = g ∙ in-is e
 
@@ -422,7 +419,7 @@ tested_ends all i h v =
     let a : list_all is_predicate (map quietly_of all) ≡ true = sym v ∙ ap (λ xs. list_all is_predicate (map quietly_of xs)) (drop_of_length-le all h) in
     sym (ap (λ b. cond b forms.Step forms.Other) a)
 
--- the conjuncts, one behind the other
+-- the conjuncts, one after the other
 map-take : (all : List Expr) (i : ℕ) (e : Expr) → i < length all → e ≡ get_or all i e → map quietly_of (take (i + 1) all) ≡ map quietly_of (take i all) ++ quietly_of e ∷ []
 map-take all i e h k = ap (map quietly_of) (take_more all i e h ∙ ap (λ x. take i all ++ x ∷ []) (sym k)) ∙ map-append quietly_of (take i all) (e ∷ [])
 

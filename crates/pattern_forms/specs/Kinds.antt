@@ -45,11 +45,11 @@ form_in (Step along wanted tests) = form_of (stepped along wanted (map quietly_o
 form_in (Call name args) = form_of (call_gives (quiet_call name) name.local (map quietly_of args))
 form_in x = forms.Other
 
--- what may stand in an `and` at the top
+-- what may be in an `and` at the top
 abbrev pub is_conjunct : Quietly → Bool
 is_conjunct q = is_truth q || is_numeric q
 
--- the conjuncts that have been looked at: whether all are truth values, whether all may stand there, and how many are comparisons
+-- the conjuncts that have been looked at: whether all are truth values, whether all may be there, and how many are comparisons
 -- of an attribute with an integer
 pub record Tally (qs : List Quietly) (truths allowed : Bool) (numerics : ℕ) : Type 0 where
   pub are_truths : truths ≡ list_all is_truth qs

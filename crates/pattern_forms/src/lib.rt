@@ -9,6 +9,7 @@
 
 mod combined;
 mod forms;
+pub mod pattern_shapes;
 mod predicates;
 
 pub use forms::PredicateForm;

@@ -4,39 +4,38 @@ use Rattle.std.proofs.Common.{reverse, append-nil, refl, sym, ap, ◌∙◌}
 use Rattle.std.specs.List.{list_all}
 use Rattle.std.proofs.lemmas.Bool.{and_parts}
 use Rattle.xt_names.specs.declared.codes.Code.{Code}
-use Rattle.expr_terms.specs.declared.tokens.Token.{Token}
-use Rattle.expr_terms.specs.declared.productions.Level.{Level}
-use Rattle.expr_terms.specs.declared.productions.Level.TheVariants.{Unions as unions}
-use Rattle.expr_terms.specs.declared.productions.Production.{Production}
-use Rattle.expr_terms.specs.declared.productions.Production.TheVariants as production
+use Rattle.expr_keys.specs.declared.tokens.Token.{Token}
+use Rattle.expr_keys.specs.declared.productions.Level.{Level}
+use Rattle.expr_keys.specs.declared.productions.Level.TheVariants.{Union as union_level}
+use Rattle.expr_keys.specs.declared.productions.Production.{Production}
+use Rattle.expr_keys.specs.declared.productions.Production.TheVariants as production
 use Rattle.expr_terms.specs.declared.raws.Raw.{Raw}
 use Rattle.expr_terms.specs.declared.raws.Raw.TheViews.{out-Raw}
 use Rattle.expr_terms.specs.declared.raws.Raw.TheFolds.{map-Raw, fold_out-Raw}
 use Rattle.expr_terms.specs.declared.raws.Raw.TheOpen.{Raw-F, Leaf, Node}
-use Rattle.expr_meant.specs.declared.meant.Meant.{Meant}
-use Rattle.expr_resolve.specs.ExprRules.Rules.{own_broken, operated_broken, end_broken}
+use Rattle.expr_rules.specs.declared.expr_meant.meant.Meant.{Meant}
+use Rattle.expr_rules.specs.Rules.{own_broken, operated_broken, end_broken}
 use Rattle.expr_resolve.specs.declared.setting.Setting.{Setting}
 use Rattle.expr_resolve.specs.Tables.{own, end, is_chain, is_tag, before_last}
 use Rattle.expr_resolve.specs.Folds as folds
-use Rattle.expr_resolve.specs.Folds.{Found, found_layer, found_of, broken_of, is_none}
+use Rattle.expr_resolve.specs.Folds.{Found, found_layer, found_of, broken_of}
 use Rattle.expr_resolve.specs.Folds.{parts_values}
-use Rattle.pattern_shapes.specs.Shapes.{is_step, is_step_of, is_step_in, is_only_step, is_after}
-use Rattle.pattern_shapes.specs.Shapes.{is_after_in, are_steps, is_alternative, is_alternative_in}
-use Rattle.pattern_shapes.specs.Shapes.{is_bar, has_bar, is_barred, is_barred_in, is_unions}
-use Rattle.pattern_shapes.specs.Shapes.{are_alternatives, is_pattern, is_pattern_in}
-use Rattle.pattern_shapes.specs.Shapes.{inner_in}
+use Rattle.pattern_forms.specs.PatternShapes.Shapes.{is_step, is_step_of, is_step_in, is_only_step, is_after}
+use Rattle.pattern_forms.specs.PatternShapes.Shapes.{is_after_in, are_steps, is_alternative, is_alternative_in}
+use Rattle.pattern_forms.specs.PatternShapes.Shapes.{is_bar, has_bar, is_barred, is_barred_in, is_unions}
+use Rattle.pattern_forms.specs.PatternShapes.Shapes.{are_alternatives, is_pattern, is_pattern_in}
+use Rattle.pattern_forms.specs.PatternShapes.Shapes.{inner_in}
 use Rattle.pattern_syntax.specs.Parts.{barless_in, alternatives_in}
 use Rattle.pattern_syntax.specs.Parts.{steps_within}
 use Rattle.pattern_syntax.specs.Meant.{steps_broken, alternative_broken, alternatives_broken}
 use Rattle.pattern_syntax.specs.Meant.{pattern_broken}
-
-never : {P : Type 0} → false ≡ true → P
-never e = cc
+use Rattle.xt_names.proofs.BoolLemmas.{never}
+use Rattle.xt_names.specs.Lists.{is_none}
 
 -- the productions of alternatives, which break no rule of their own
 abbrev is_joining : Production → Bool
-is_joining (production.Chain l) = is_unions l
-is_joining (production.Operated l) = is_unions l
+is_joining (production.OperatorChain l) = is_unions l
+is_joining (production.OperatorTail l) = is_unions l
 is_joining production.Rooted = true
 is_joining production.RootSteps = true
 is_joining production.RootedDeep = true
@@ -45,20 +44,20 @@ is_joining production.StepAfter = true
 is_joining production.DeepAfter = true
 is_joining p = false
 
-unions_is : (l : Level) → is_unions l ≡ true → l ≡ unions
-unions_is unions e = refl
+unions_is : (l : Level) → is_unions l ≡ true → l ≡ union_level
+unions_is union_level e = refl
 unions_is l e = never e
 
-operated_none : (s : Setting) (l : Level) (first : Bool) (m : Meant) → l ≡ unions
-    → own s (production.Operated l) first m ≡ []
+operated_none : (s : Setting) (l : Level) (first : Bool) (m : Meant) → l ≡ union_level
+    → own s (production.OperatorTail l) first m ≡ []
 unfolding own_broken operated_broken
 operated_none s l first m e = rw e refl
 
 own_none : (s : Setting) (p : Production) (first : Bool) (m : Meant) → is_joining p ≡ true
     → own s p first m ≡ []
 unfolding own_broken
-own_none s (production.Chain l) first m e = refl
-own_none s (production.Operated l) first m e = operated_none s l first m (unions_is l e)
+own_none s (production.OperatorChain l) first m e = refl
+own_none s (production.OperatorTail l) first m e = operated_none s l first m (unions_is l e)
 own_none s production.Rooted first m e = refl
 own_none s production.RootSteps first m e = refl
 own_none s production.RootedDeep first m e = refl
@@ -69,8 +68,8 @@ own_none s p first m e = never e
 
 end_none : (s : Setting) (p : Production) (ms : List Meant) → is_joining p ≡ true → end s p ms ≡ []
 unfolding end_broken
-end_none s (production.Chain l) ms e = refl
-end_none s (production.Operated l) ms e = refl
+end_none s (production.OperatorChain l) ms e = refl
+end_none s (production.OperatorTail l) ms e = refl
 end_none s production.Rooted ms e = refl
 end_none s production.RootSteps ms e = refl
 end_none s production.RootedDeep ms e = refl
@@ -81,13 +80,13 @@ end_none s p ms e = never e
 
 no_tag : (p : Production) → is_joining p ≡ true → is_tag p ≡ false
 unfolding is_tag
-no_tag production.Element e = never e
-no_tag production.Child e = never e
+no_tag production.DirectElement e = never e
+no_tag production.ChildElement e = never e
 no_tag p e = refl
 
 no_chain : (p : Production) → is_joining p ≡ true → is_chain p ≡ false
 unfolding is_chain
-no_chain production.Conditional e = never e
+no_chain production.IfExpr e = never e
 no_chain p e = refl
 
 nothing_before : (b : Bool) (ms : List Meant) → before_last false b ms ≡ []
@@ -207,20 +206,20 @@ one_broken : (s : Setting) (v : Raw) → is_alternative v ≡ true
     → alternative_broken s v ≡ broken_of s v
 one_broken s v e = alternative_in_broken s v (out-Raw v) refl e
 
--- .. is behind no bar
+-- .. is after no bar
 pub itself : (v : Raw) (f : Raw-F Raw) → is_alternative_in f ≡ true → barless_in v f ≡ v
 itself v (Leaf t) e = never e
-itself v (Node (production.Operated l) vs) e = never e
+itself v (Node (production.OperatorTail l) vs) e = never e
 itself v (Node p vs) e = refl
 
 second_broken : (s : Setting) (v : Raw) (l : Level) (vs : List Raw)
-    → out-Raw v ≡ Node (production.Operated l) vs → is_unions l ≡ true → has_bar vs ≡ true
-    → alternative_broken s (barless_in v (Node (production.Operated l) vs)) ≡ broken_of s v
+    → out-Raw v ≡ Node (production.OperatorTail l) vs → is_unions l ≡ true → has_bar vs ≡ true
+    → alternative_broken s (barless_in v (Node (production.OperatorTail l) vs)) ≡ broken_of s v
 second_broken s v l [] o j e = never e
 second_broken s v l (b ∷ []) o j e = never e
 second_broken s v l (b ∷ w ∷ []) o j e =
     let h = and_parts (is_bar (out-Raw b)) (is_alternative w) e in
-    one_broken s w h.1 ∙ sym (node_broken s v (production.Operated l) (b ∷ w ∷ []) o j
+    one_broken s w h.1 ∙ sym (node_broken s v (production.OperatorTail l) (b ∷ w ∷ []) o j
     ∙ ap (λ xs. xs ++ (broken_of s w ++ [])) (bar (out-Raw b) refl h.0)
     ∙ append-nil (broken_of s w))
   where
@@ -232,7 +231,7 @@ second_broken s v l (b ∷ w ∷ x ∷ vs) o j e = never e
 barred_broken : (s : Setting) (v : Raw) (f : Raw-F Raw) → out-Raw v ≡ f → is_barred_in f ≡ true
     → alternative_broken s (barless_in v f) ≡ broken_of s v
 barred_broken s v (Leaf t) o e = never e
-barred_broken s v (Node (production.Operated l) vs) o e = let h = and_parts (is_unions l) (has_bar
+barred_broken s v (Node (production.OperatorTail l) vs) o e = let h = and_parts (is_unions l) (has_bar
     vs) e in second_broken s v l vs o h.0 h.1
 barred_broken s v (Node p vs) o e = never e
 
@@ -261,9 +260,9 @@ alone_broken s v e = ap (λ x. alternative_broken s x ++ []) (itself v (out-Raw 
 pattern_in_broken : (s : Setting) (v : Raw) (f : Raw-F Raw) → out-Raw v ≡ f
     → is_pattern_in f ≡ true → alternatives_broken s (alternatives_in v f) ≡ broken_of s v
 pattern_in_broken s v (Leaf t) o e = never e
-pattern_in_broken s v (Node (production.Chain l) vs) o e =
+pattern_in_broken s v (Node (production.OperatorChain l) vs) o e =
     let h = and_parts (is_unions l) (are_alternatives vs) e in
-    all_alternatives_broken s vs h.1 ∙ sym (node_broken s v (production.Chain l) vs o h.0)
+    all_alternatives_broken s vs h.1 ∙ sym (node_broken s v (production.OperatorChain l) vs o h.0)
 pattern_in_broken s v (Node p vs) o e = alone_broken s v (rw o e)
 
 pub pattern_breaks : (s : Setting) (raw : Raw) → is_pattern raw ≡ true

@@ -1,29 +1,28 @@
 -- What begins with a name and `(` is a call, and no pattern begins with one.
-use Rattle.std.proofs.Common.{◌≡◌, ◌⊎◌, inl, inr, ℕ, Bool, true, false, ◌&&◌, cond}
+use Rattle.std.proofs.Common.{◌≡◌, ◌⊎◌, inl, inr, ℕ, Bool, true, false, cond}
 use Rattle.std.proofs.Common.{List, [], ◌∷◌, refl, sym, ap, subst, ◌∙◌}
-use Rattle.expr_terms.specs.declared.keys.Key.TheVariants.{OpenParen as open_paren}
-use Rattle.expr_terms.specs.declared.tokens.Token.{Token}
-use Rattle.expr_terms.specs.declared.tokens.Token.TheVariants as token
-use Rattle.expr_terms.specs.declared.productions.Language.{Language}
-use Rattle.expr_terms.specs.declared.productions.Level.{Level}
-use Rattle.expr_terms.specs.declared.productions.Level.TheVariants as levels
-use Rattle.expr_terms.specs.declared.productions.Nonterminal.{Nonterminal}
-use Rattle.expr_terms.specs.declared.productions.Nonterminal.TheVariants as nonterminal
-use Rattle.expr_terms.specs.declared.productions.Production.{Production}
-use Rattle.expr_terms.specs.declared.productions.Production.TheVariants as production
-use Rattle.expr_terms.specs.declared.productions.Symbol.TheVariants.{Maybe as maybe, Many as many}
+use Rattle.expr_keys.specs.declared.keys.Key.TheVariants.{OpenParen as open_paren}
+use Rattle.expr_keys.specs.declared.tokens.Token.{Token}
+use Rattle.expr_keys.specs.declared.tokens.Token.TheVariants as token
+use Rattle.expr_keys.specs.declared.productions.Language.{Language}
+use Rattle.expr_keys.specs.declared.productions.Level.{Level}
+use Rattle.expr_keys.specs.declared.productions.Level.TheVariants as levels
+use Rattle.expr_keys.specs.declared.productions.Nonterminal.{Nonterminal}
+use Rattle.expr_keys.specs.declared.productions.Nonterminal.TheVariants as nonterminal
+use Rattle.expr_keys.specs.declared.productions.Production.{Production}
+use Rattle.expr_keys.specs.declared.productions.Production.TheVariants as production
+use Rattle.expr_keys.specs.declared.productions.Symbol.TheVariants.{Maybe as maybe, Many as many}
 use Rattle.expr_terms.specs.declared.raws.Raw.{Raw}
 use Rattle.expr_terms.specs.declared.raws.Raw.TheVariants.{Node as node, outs-Node}
 use Rattle.expr_terms.specs.Productions.{body, head, below, repeats, operation}
 use Rattle.expr_terms.specs.Raws.{build}
 use Rattle.expr_grammar.specs.Grammar.{Derives, by, Seq, end, taken, next, without, with, stop}
 use Rattle.expr_grammar.specs.Grammar.{again}
-use Rattle.pattern_shapes.specs.Shapes.{is_step, is_step_of, is_step_in, are_steps}
-use Rattle.pattern_shapes.specs.Shapes.{is_alternative, is_alternative_of, is_alternative_in}
-use Rattle.pattern_shapes.specs.Shapes.{is_unions, is_pattern, is_pattern_of, is_pattern_in}
-
-never : {P : Type 0} → false ≡ true → P
-never e = cc
+use Rattle.pattern_forms.specs.PatternShapes.Shapes.{is_step, is_step_of, is_step_in, are_steps}
+use Rattle.pattern_forms.specs.PatternShapes.Shapes.{is_alternative, is_alternative_of, is_alternative_in}
+use Rattle.pattern_forms.specs.PatternShapes.Shapes.{is_unions, is_pattern, is_pattern_of, is_pattern_in}
+use Rattle.xt_names.proofs.BoolLemmas.{never}
+use Rattle.std.proofs.Math.Bool.{and-false}
 
 -- a name and `(` come first
 abbrev pub called : List ℕ → List Token → List Token
@@ -68,22 +67,18 @@ steps_no w (x ∷ xs) n =
     let h : are_steps (w ∷ x ∷ xs) ≡ false = rw n.step refl in
     plain_no production.Steps (w ∷ x ∷ xs) refl h h
 
-and_no : (b : Bool) → (b && false) ≡ false
-and_no true = refl
-and_no false = refl
-
 chain_no : (of : Level) (w : Raw) (ws : List Raw) → NoPattern w
-    → NoPattern (build (production.Chain of) (w ∷ ws))
+    → NoPattern (build (production.OperatorChain of) (w ∷ ws))
 chain_no of w [] n = n
-chain_no of w (x ∷ xs) n = plain_no (production.Chain of) (w ∷ x ∷ xs) refl refl (rw
-    n.alternative (and_no (is_unions of)))
+chain_no of w (x ∷ xs) n = plain_no (production.OperatorChain of) (w ∷ x ∷ xs) refl refl (rw
+    n.alternative (and-false (is_unions of)))
 
 list_no : (w : Raw) (ws : List Raw) → NoPattern w
-    → NoPattern (build production.Listing (w ∷ ws))
+    → NoPattern (build production.ExprList (w ∷ ws))
 list_no w [] n = n
-list_no w (x ∷ xs) n = plain_no production.Listing (w ∷ x ∷ xs) refl refl refl
+list_no w (x ∷ xs) n = plain_no production.ExprList (w ∷ x ∷ xs) refl refl refl
 
-same_level : {x y : Level} → nonterminal.Level x ≡ nonterminal.Level y → x ≡ y
+pub same_level : {x y : Level} → nonterminal.Level x ≡ nonterminal.Level y → x ≡ y
 same_level e = cc
 
 -- what stands for the nonterminal has this outcome
@@ -137,31 +132,31 @@ module _ {l : Language} {us : List Token} where
   no_step _ mid (by p s e q) = step_opens p e q
 
   item_opens : (p : Production) {vs : List Raw} {rest : List Token}
-      → head p ≡ nonterminal.CommaItem → Seq l (body p) (opened us) vs rest → ⊥
-  item_opens production.ItemAfter e (taken f q) = never f
+      → head p ≡ nonterminal.CommaExprSingle → Seq l (body p) (opened us) vs rest → ⊥
+  item_opens production.NextExprSingle e (taken f q) = never f
   item_opens _ e q = absurd cc
 
-  no_item : (v : Raw) (mid : List Token) → Derives l nonterminal.CommaItem (opened us) v mid → ⊥
+  no_item : (v : Raw) (mid : List Token) → Derives l nonterminal.CommaExprSingle (opened us) v mid → ⊥
   no_item _ mid (by p s e q) = item_opens p e q
 
   operation_opens : (of : Level) {vs : List Raw} {rest : List Token}
       → Seq l (operation of) (opened us) vs rest → ⊥
-  operation_opens levels.Ors (taken f q) = never f
-  operation_opens levels.Ands (taken f q) = never f
-  operation_opens levels.Compares (taken f q) = never f
-  operation_opens levels.Ranges (taken f q) = never f
-  operation_opens levels.Adds (taken f q) = never f
-  operation_opens levels.Multiplies (taken f q) = never f
-  operation_opens levels.Unions (taken f q) = never f
-  operation_opens levels.Crosses (taken f q) = never f
-  operation_opens levels.Instances (taken f q) = never f
-  operation_opens levels.Treats (taken f q) = never f
-  operation_opens levels.Castables (taken f q) = never f
-  operation_opens levels.Casts (taken f q) = never f
+  operation_opens levels.Or (taken f q) = never f
+  operation_opens levels.And (taken f q) = never f
+  operation_opens levels.Comparison (taken f q) = never f
+  operation_opens levels.Range (taken f q) = never f
+  operation_opens levels.Additive (taken f q) = never f
+  operation_opens levels.Multiplicative (taken f q) = never f
+  operation_opens levels.Union (taken f q) = never f
+  operation_opens levels.Intersect (taken f q) = never f
+  operation_opens levels.InstanceOf (taken f q) = never f
+  operation_opens levels.Treat (taken f q) = never f
+  operation_opens levels.Castable (taken f q) = never f
+  operation_opens levels.Cast (taken f q) = never f
 
   tail_opens : (of : Level) (p : Production) {vs : List Raw} {rest : List Token}
       → head p ≡ nonterminal.Tail of → Seq l (body p) (opened us) vs rest → ⊥
-  tail_opens of (production.Operated other) e q = operation_opens other q
+  tail_opens of (production.OperatorTail other) e q = operation_opens other q
   tail_opens of _ e q = absurd cc
 
   no_tail : (of : Level) (v : Raw) (mid : List Token) → Derives l (nonterminal.Tail of) (opened
@@ -177,13 +172,13 @@ module _ {l : Language} {us : List Token} where
   chain_joined : (of : Level) (w : Raw) (ws : List Raw) {mid rest : List Token}
       → Outcome us w mid
       → Seq l (cond (repeats of) (many (nonterminal.Tail of)) (maybe (nonterminal.Tail of))
-      ∷ []) mid ws rest → Outcome us (build (production.Chain of) (w ∷ ws)) rest
+      ∷ []) mid ws rest → Outcome us (build (production.OperatorChain of) (w ∷ ws)) rest
   chain_joined of w ws (inl n) q = inl (chain_no of w ws n)
   chain_joined of w ws (inr e) q = inr (either_none (repeats of) (no_tail of) e q)
 
   list_joined : (w : Raw) (ws : List Raw) {mid rest : List Token} → Outcome us w mid
-      → Seq l (many nonterminal.CommaItem ∷ []) mid ws rest
-      → Outcome us (build production.Listing (w ∷ ws)) rest
+      → Seq l (many nonterminal.CommaExprSingle ∷ []) mid ws rest
+      → Outcome us (build production.ExprList (w ∷ ws)) rest
   list_joined w ws (inl n) q = inl (list_no w ws n)
   list_joined w ws (inr e) q = inr (none_behind no_item e q)
 
@@ -204,12 +199,12 @@ module _ {l : Language} {us : List Token} where
     test_called _ e q = absurd cc
 
     direct_called : (p : Production) {vs : List Raw} {rest : List Token}
-        → head p ≡ nonterminal.Direct → Seq l (body p) (called a us) vs rest → ⊥
-    direct_called production.Element e (taken f q) = never f
+        → head p ≡ nonterminal.DirElemConstructor → Seq l (body p) (called a us) vs rest → ⊥
+    direct_called production.DirectElement e (taken f q) = never f
     direct_called _ e q = absurd cc
 
     primary_called : (p : Production) {vs : List Raw} {rest : List Token}
-        → head p ≡ nonterminal.Primary → Seq l (body p) (called a us) vs rest
+        → head p ≡ nonterminal.PrimaryExpr → Seq l (body p) (called a us) vs rest
         → NoPattern (build p vs)
     primary_called production.Number e (taken f q) = never f
     primary_called production.Literal e (taken f q) = never f
@@ -221,11 +216,11 @@ module _ {l : Language} {us : List Token} where
     primary_called production.Constructed e (taken f q) = never f
     primary_called production.PiConstructed e (taken f q) = never f
     primary_called production.Enclosing e (taken f q) = never f
-    primary_called production.Directly e (next (by p s i q) end) = absurd (direct_called p i q)
+    primary_called production.DirectConstructor e (next (by p s i q) end) = absurd (direct_called p i q)
     primary_called _ e q = absurd cc
 
     step_called : (p : Production) {vs : List Raw} {rest : List Token}
-        → head p ≡ nonterminal.Step → Seq l (body p) (called a us) vs rest
+        → head p ≡ nonterminal.StepExpr → Seq l (body p) (called a us) vs rest
         → Outcome us (build p vs) rest
     step_called production.AxisStep e (taken f q) = never f
     step_called production.AttributeStep e (taken f q) = never f
@@ -236,19 +231,19 @@ module _ {l : Language} {us : List Token} where
         (primary_called p i q))
     step_called _ e q = absurd cc
 
-    step_at : {v : Raw} {mid : List Token} → Derives l nonterminal.Step (called a us) v mid
+    step_at : {v : Raw} {mid : List Token} → Derives l nonterminal.StepExpr (called a us) v mid
         → Outcome us v mid
     step_at (by p s e q) = step_called p e q
 
     relative_called : (p : Production) {vs : List Raw} {rest : List Token}
-        → head p ≡ nonterminal.Relative → Seq l (body p) (called a us) vs rest
+        → head p ≡ nonterminal.RelativePathExpr → Seq l (body p) (called a us) vs rest
         → Outcome us (build p vs) rest
     relative_called production.Steps e (next {v = w} {vs = ws} d more) = steps_joined w ws
         (step_at d) more
     relative_called _ e q = absurd cc
 
     path_called : (p : Production) {vs : List Raw} {rest : List Token}
-        → head p ≡ nonterminal.Path → Seq l (body p) (called a us) vs rest
+        → head p ≡ nonterminal.PathExpr → Seq l (body p) (called a us) vs rest
         → Outcome us (build p vs) rest
     path_called production.Rooted e (taken f q) = never f
     path_called production.RootedDeep e (taken f q) = never f
@@ -256,36 +251,36 @@ module _ {l : Language} {us : List Token} where
     path_called _ e q = absurd cc
 
     unary_called : (p : Production) {vs : List Raw} {rest : List Token}
-        → head p ≡ nonterminal.Unary → Seq l (body p) (called a us) vs rest
+        → head p ≡ nonterminal.UnaryExpr → Seq l (body p) (called a us) vs rest
         → Outcome us (build p vs) rest
     unary_called production.Signed e (taken f q) = never f
     unary_called production.Unsigned e (next (by p s i q) end) = path_called p i q
     unary_called _ e q = absurd cc
 
-    unary_at : Called l us a nonterminal.Unary
+    unary_at : Called l us a nonterminal.UnaryExpr
     unary_at _ mid (by p s e q) = unary_called p e q
 
     chain_called : (of : Level) → Called l us a (below of) → {vs : List Raw} {rest : List Token}
-        → Seq l (body (production.Chain of)) (called a us) vs rest
-        → Outcome us (build (production.Chain of) vs) rest
+        → Seq l (body (production.OperatorChain of)) (called a us) vs rest
+        → Outcome us (build (production.OperatorChain of) vs) rest
     chain_called of h (next {mid = mid} {v = w} {vs = ws} d more) = chain_joined of w ws (h w mid
         d) more
 
     level_called : (of : Level) → Called l us a (below of) → (p : Production) {vs : List Raw} {rest :
         List Token} → head p ≡ nonterminal.Level of → Seq l (body p) (called a us) vs rest
         → Outcome us (build p vs) rest
-    level_called of h (production.Chain other) e q = chain_called other (subst (λ x. Called l us a (below
+    level_called of h (production.OperatorChain other) e q = chain_called other (subst (λ x. Called l us a (below
         x)) (sym (same_level e)) h) q
     level_called of h _ e q = absurd cc
 
     level_at : (of : Level) → Called l us a (below of) → Called l us a (nonterminal.Level of)
     level_at of h _ mid (by p s e q) = level_called of h p e q
 
-    levels_at : Called l us a (nonterminal.Level levels.Ors)
-    levels_at = level_at levels.Ors (level_at levels.Ands (level_at levels.Compares (level_at
-        levels.Ranges (level_at levels.Adds (level_at levels.Multiplies (level_at levels.Unions
-        (level_at levels.Crosses (level_at levels.Instances (level_at levels.Treats (level_at
-        levels.Castables (level_at levels.Casts unary_at)))))))))))
+    levels_at : Called l us a (nonterminal.Level levels.Or)
+    levels_at = level_at levels.Or (level_at levels.And (level_at levels.Comparison (level_at
+        levels.Range (level_at levels.Additive (level_at levels.Multiplicative (level_at levels.Union
+        (level_at levels.Intersect (level_at levels.InstanceOf (level_at levels.Treat (level_at
+        levels.Castable (level_at levels.Cast unary_at)))))))))))
 
     clause_called : (p : Production) {vs : List Raw} {rest : List Token}
         → head p ≡ nonterminal.Clause → Seq l (body p) (called a us) vs rest → ⊥
@@ -294,25 +289,25 @@ module _ {l : Language} {us : List Token} where
     clause_called _ e q = absurd cc
 
     single_called : (p : Production) {vs : List Raw} {rest : List Token}
-        → head p ≡ nonterminal.Single → Seq l (body p) (called a us) vs rest
+        → head p ≡ nonterminal.ExprSingle → Seq l (body p) (called a us) vs rest
         → Outcome us (build p vs) rest
-    single_called production.Conditional e (taken f q) = never f
-    single_called production.Flwor e (next (by p s i q) more) = absurd (clause_called p i q)
-    single_called production.Quantified e (taken f q) = never f
-    single_called production.Plain e (next {mid = mid} {v = w} d end) = levels_at w mid d
+    single_called production.IfExpr e (taken f q) = never f
+    single_called production.FlworExpr e (next (by p s i q) more) = absurd (clause_called p i q)
+    single_called production.QuantifiedExpr e (taken f q) = never f
+    single_called production.OperatorExpr e (next {mid = mid} {v = w} d end) = levels_at w mid d
     single_called _ e q = absurd cc
 
     expr_called : (p : Production) {vs : List Raw} {rest : List Token}
         → head p ≡ nonterminal.Expr → Seq l (body p) (called a us) vs rest
         → Outcome us (build p vs) rest
-    expr_called production.Listing e (next {v = w} {vs = ws} (by p s i q) more) = list_joined w ws
+    expr_called production.ExprList e (next {v = w} {vs = ws} (by p s i q) more) = list_joined w ws
         (single_called p i q) more
     expr_called _ e q = absurd cc
 
     whole_called : (p : Production) {vs : List Raw} {rest : List Token}
         → head p ≡ nonterminal.Whole → Seq l (body p) (called a us) vs rest
         → Outcome us (build p vs) rest
-    whole_called production.Top e (next (by p s i q) end) = expr_called p i q
+    whole_called production.WholeExpr e (next (by p s i q) end) = expr_called p i q
     whole_called _ e q = absurd cc
 
 -- all of the tokens are read

@@ -1,30 +1,24 @@
 -- No pattern begins with `key(` or `id(`.
-use Rattle.std.proofs.Common.{◌≡◌, ◌⊎◌, inl, inr, ℕ, Bool, true, false, codes, List, [], ◌∷◌}
+use Rattle.std.proofs.Common.{◌≡◌, ◌⊎◌, inl, inr, ℕ, true, false, codes, List, [], ◌∷◌}
 use Rattle.std.proofs.Common.{Option, Some, None, option_map, option_and_then, refl, sym, subst}
-use Rattle.std.proofs.Common.{◌∙◌}
-use Rattle.std.proofs.lemmas.Bool.{and_parts, or_cases}
+use Rattle.std.proofs.lemmas.Bool.{and_parts, or_cases, false_from_ne_true}
 use Rattle.std.proofs.lemmas.Option.{none-some, same_Some}
 use Rattle.std.proofs.lemmas.Slice.Eq.{bytes_eq-Decides}
 use Rattle.std.specs.Str.{bytes_eq}
 use Rattle.xpath_lex.specs.declared.lexing.TokenKind.{TokenKind}
 use Rattle.xpath_lex.specs.declared.lexing.TokenKind.TheVariants.{Word, Symbol}
-use Rattle.expr_terms.specs.declared.keys.Key.TheVariants.{OpenParen as open_paren}
-use Rattle.expr_terms.specs.declared.tokens.Token.{Token}
-use Rattle.expr_terms.specs.declared.tokens.Token.TheVariants as token
+use Rattle.expr_keys.specs.declared.keys.Key.TheVariants.{OpenParen as open_paren}
+use Rattle.expr_keys.specs.declared.tokens.Token.{Token}
+use Rattle.expr_keys.specs.declared.tokens.Token.TheVariants as token
 use Rattle.expr_terms.specs.declared.raws.Raw.{Raw}
-use Rattle.expr_terms.specs.declared.productions.Language.TheVariants.{Xpath as xpath}
+use Rattle.expr_keys.specs.declared.productions.Language.TheVariants.{Xpath as xpath}
 use Rattle.expr_tokens.specs.Terms.{Written, term_of, terms_of}
 use Rattle.expr_grammar.specs.Grammar.{Spells}
 use Rattle.xpath_syntax.specs.Spelled.{IsWritten}
-use Rattle.pattern_shapes.specs.Shapes.{is_pattern}
+use Rattle.pattern_forms.specs.PatternShapes.Shapes.{is_pattern}
 use Rattle.pattern_syntax.specs.Readings.{is_key_text, is_open_text, begins_with_key}
 use Rattle.pattern_syntax.proofs.CallLemmas.{called, call_is_no_pattern}
-
-never : {P : Type 0} → false ≡ true → P
-never e = cc
-
-both : {b : Bool} {P : Type 0} → b ≡ true → b ≡ false → P
-both e f = never (sym f ∙ e)
+use Rattle.xt_names.proofs.BoolLemmas.{never, no as both}
 
 -- both words are names
 name_term : (cs : List ℕ) → (bytes_eq cs (codes "key") ≡ true) ⊎ (bytes_eq cs (codes "id") ≡ true)
@@ -83,10 +77,6 @@ shapeless_key ts raw w e =
     let b : Begun w.terms = begun ts w.terms e w.are in
     call_is_no_pattern xpath b.name b.rest raw (subst (λ us. Spells xpath us raw) b.are w.spelled)
 
-by_case : (b : Bool) → (b ≡ true → ⊥) → b ≡ false
-by_case true h = absurd (h refl)
-by_case false h = refl
-
 pub no_key : (ts : List Written) (raw : Raw) → IsWritten ts raw → is_pattern raw ≡ true
     → begins_with_key ts ≡ false
-no_key ts raw w p = by_case (begins_with_key ts) (λ e. both p (shapeless_key ts raw w e))
+no_key ts raw w p = false_from_ne_true (begins_with_key ts) (λ e. both p (shapeless_key ts raw w e))

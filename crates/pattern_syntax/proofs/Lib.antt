@@ -6,3 +6,4 @@ pub mod CallLemmas
 pub mod KeyLemmas
 pub mod NameLemmas
 pub mod ReadingLemmas
+pub mod PatternReadings

@@ -1,6 +1,6 @@
 -- What has been made of the parts so far.
-use Rattle.std.proofs.Common.{◌≡◌, ℕ, ◌+◌, ◌<◌, ◌≤◌, suc, Bool, false, ◌||◌, List, [], ◌∷◌, ◌++◌}
-use Rattle.std.proofs.Common.{length, drop, get_or, add-one, drop-cons, append_assoc, refl, sym}
+use Rattle.std.proofs.Common.{◌≡◌, ℕ, ◌+◌, ◌<◌, ◌≤◌, Bool, false, ◌||◌, List, [], ◌∷◌, ◌++◌}
+use Rattle.std.proofs.Common.{length, drop, get_or, append_assoc, refl, sym}
 use Rattle.std.proofs.Common.{subst, ap, ◌∙◌}
 use Rattle.std.proofs.lemmas.List.{drop_all, append-nil}
 use Rattle.xt_names.specs.declared.codes.Code.{Code}
@@ -12,10 +12,11 @@ use Rattle.expr_names.specs.Answers.{IsFaultOf}
 use Rattle.expr_resolve.specs.declared.setting.Setting.{Setting}
 use Rattle.expr_resolve.specs.Folds.{broken_of}
 use Rattle.expr_resolve.proofs.Follow.{fault_first}
-use Rattle.pattern_shapes.specs.Shapes.{is_behind_slashes, inner_step}
+use Rattle.pattern_forms.specs.PatternShapes.Shapes.{is_behind_slashes, inner_step}
 use Rattle.pattern_syntax.specs.Parts.{barless}
 use Rattle.pattern_syntax.specs.Meant.{step_of, steps_from, alternative_of, alternatives_from}
 use Rattle.pattern_syntax.specs.Meant.{steps_broken, alternative_broken, alternatives_broken}
+use Rattle.xt_names.proofs.ListLemmas.{drop_at}
 
 -- none of the parts so far breaks a rule, and `made` is what they mean
 pub record Made {A : Type 0} (left all : List Code) (made rest whole : List A) : Type 0 where
@@ -38,11 +39,6 @@ made_fault : {A : Type 0} (codes left next all : List Code) (made rest whole : L
 made_fault codes left next all made rest whole f m l h = subst (λ xs. IsFaultOf f xs) (sym l
     ∙ m.unbroken) (fault_first f codes next h)
 
-at_part : (xs : List Raw) (i : ℕ) (x : Raw) → i < length xs → x ≡ get_or xs i x
-    → drop i xs ≡ x ∷ drop (i + 1) xs
-at_part xs i x lt is = drop-cons xs i x lt ∙ ap (λ y. y ∷ drop (suc i) xs) (sym is)
-    ∙ ap (λ n. x ∷ drop n xs) (sym (add-one i))
-
 -- the steps
 abbrev pub Stepped : Setting → Bool → Bool → List Raw → List PatternStep → ℕ → Type 0
 Stepped s first deep xs made i = Made (steps_broken s (drop i xs)) (steps_broken s xs) made
@@ -62,7 +58,7 @@ pub stepped_next : (s : Setting) (first deep : Bool) (xs : List Raw) (made more 
     → more ≡ made ++ step_of s (deep || is_behind_slashes x) (inner_step x) ∷ []
     → Stepped s first false xs more (i + 1)
 stepped_next s first deep xs made more i x m lt is none e =
-    let p = at_part xs i x lt is in
+    let p = drop_at xs i x lt is in
     made_next (broken_of s (inner_step x)) _ _ _ made more _ (steps_from s false (drop (i + 1)
     xs)) _ _ m (ap (steps_broken s) p) (ap (steps_from s deep) p) none e
 
@@ -71,7 +67,7 @@ pub stepped_fault : (s : Setting) (first deep : Bool) (xs : List Raw) (made : Li
     → x ≡ get_or xs i x → IsFaultOf f (broken_of s (inner_step x))
     → IsFaultOf f (steps_broken s xs)
 stepped_fault s first deep xs made i x f m lt is h = made_fault (broken_of s (inner_step x)) _
-    (steps_broken s (drop (i + 1) xs)) _ made _ _ f m (ap (steps_broken s) (at_part xs i x lt is))
+    (steps_broken s (drop (i + 1) xs)) _ made _ _ f m (ap (steps_broken s) (drop_at xs i x lt is))
     h
 
 pub stepped_none : (s : Setting) (first deep : Bool) (xs : List Raw) (made : List PatternStep) (i
@@ -101,7 +97,7 @@ pub joined_next : (s : Setting) (xs : List Raw) (made more : List Pattern) (i : 
     → alternative_broken s (barless x) ≡ [] → more ≡ made ++ alternative_of s (barless x) ∷ []
     → Joined s xs more (i + 1)
 joined_next s xs made more i x m lt is none e =
-    let p = at_part xs i x lt is in
+    let p = drop_at xs i x lt is in
     made_next (alternative_broken s (barless x)) _ _ _ made more _ (alternatives_from s (drop (i +
     1) xs)) _ _ m (ap (alternatives_broken s) p) (ap (alternatives_from s) p) none e
 
@@ -109,7 +105,7 @@ pub joined_fault : (s : Setting) (xs : List Raw) (made : List Pattern) (i : ℕ)
     ResolveFault) → Joined s xs made i → i < length xs → x ≡ get_or xs i x
     → IsFaultOf f (alternative_broken s (barless x)) → IsFaultOf f (alternatives_broken s xs)
 joined_fault s xs made i x f m lt is h = made_fault (alternative_broken s (barless x)) _
-    (alternatives_broken s (drop (i + 1) xs)) _ made _ _ f m (ap (alternatives_broken s) (at_part
+    (alternatives_broken s (drop (i + 1) xs)) _ made _ _ f m (ap (alternatives_broken s) (drop_at
     xs i x lt is)) h
 
 pub joined_none : (s : Setting) (xs : List Raw) (made : List Pattern) (i : ℕ)

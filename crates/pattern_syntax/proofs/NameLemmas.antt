@@ -19,24 +19,23 @@ use Rattle.xt_syntax.specs.declared.exprs.Expr.TheVariants as expr
 use Rattle.xt_syntax.specs.declared.exprs.Expr.TheVariants.{outs-Step}
 use Rattle.xt_syntax.specs.declared.exprs.Clause.TheViews.{out-Expr}
 use Rattle.xt_syntax.specs.declared.patterns.Pattern.{Pattern}
-use Rattle.xpath_lex.specs.Classes.{is_space, starts_name}
 use Rattle.xpath_lex.specs.Gaps.{Stops, none}
 use Rattle.xpath_lex.specs.Readings.{Placed, TokenAt, over, token, size}
 use Rattle.xpath_lex.specs.Tokens.{Longest}
 use Rattle.xpath_lex.specs.declared.lexing.TokenKind.TheVariants.{Word}
-use Rattle.xpath_lex.proofs.CharacterFacts.{no, is_other, open_name}
+use Rattle.xpath_lex.proofs.CharacterFacts.{open_name}
 use Rattle.xpath_lex.proofs.KindLemmas.{name_parts}
 use Rattle.xpath_lex.proofs.NameLemmas.{word_longest}
 use Rattle.xpath_lex.proofs.RunLemmas.{first_same}
-use Rattle.expr_terms.specs.Keys.{key_text, is_worded, same_key}
-use Rattle.expr_terms.specs.Productions.{fits}
-use Rattle.expr_terms.specs.declared.keys.Key.{Key}
-use Rattle.expr_terms.specs.declared.keys.Key.TheVariants as key
-use Rattle.expr_terms.specs.declared.productions.Class.TheVariants.{NameTest as name_test_class}
-use Rattle.expr_terms.specs.declared.productions.Language.TheVariants.{Xpath as xpath}
-use Rattle.expr_terms.specs.declared.productions.Level.TheVariants as level
-use Rattle.expr_terms.specs.declared.productions.Production.TheVariants as production
-use Rattle.expr_terms.specs.declared.tokens.Token.{Token}
+use Rattle.expr_keys.specs.Keys.{key_text, is_worded, same_key}
+use Rattle.expr_keys.specs.Classes.{fits}
+use Rattle.expr_keys.specs.declared.keys.Key.{Key}
+use Rattle.expr_keys.specs.declared.keys.Key.TheVariants as key
+use Rattle.expr_keys.specs.declared.productions.Class.TheVariants.{NameTest as name_test_class}
+use Rattle.expr_keys.specs.declared.productions.Language.TheVariants.{Xpath as xpath}
+use Rattle.expr_keys.specs.declared.productions.Level.TheVariants as level
+use Rattle.expr_keys.specs.declared.productions.Production.TheVariants as production
+use Rattle.expr_keys.specs.declared.tokens.Token.{Token}
 use Rattle.expr_terms.specs.declared.raws.Raw.{Raw}
 use Rattle.expr_terms.specs.declared.raws.Raw.TheVariants.{Leaf as leaf}
 use Rattle.expr_terms.specs.declared.raws.Raw.TheVariants.{outs-Leaf, outs-Node}
@@ -48,36 +47,36 @@ use Rattle.expr_tokens.proofs.KeyLemmas.{word_text}
 use Rattle.expr_grammar.specs.Grammar.{Spells, by, end, taken, next, without, stop}
 use Rattle.expr_grammar.specs.Machine.{read_whole}
 use Rattle.expr_grammar.proofs.Run.{spells_runs}
-use Rattle.expr_nest.specs.Measures.{predicate_nest_of}
-use Rattle.expr_nest.specs.declared.measures.Measure.TheVariants.{Predicates}
-use Rattle.expr_nest.proofs.Within.{within-node}
+use Rattle.expr_grammar.specs.ExprNest.Measures.{predicate_nest_of}
+use Rattle.expr_grammar.specs.declared.expr_nest.measures.Measure.TheVariants.{Predicates}
+use Rattle.expr_grammar.proofs.ExprNest.Within.{within-node}
 use Rattle.expr_reader.specs.declared.readings.Reading.TheVariants as read
 use Rattle.expr_reader.specs.Answers.{within_by}
-use Rattle.expr_meant.specs.Names.{written_in, written_test_in}
-use Rattle.expr_meant.specs.Parts.{expr_of}
-use Rattle.expr_meant.specs.declared.meant.Meant.TheVariants as meant
+use Rattle.expr_rules.specs.ExprMeant.Names.{written_in, written_test_in}
+use Rattle.expr_rules.specs.ExprMeant.Parts.{expr_of}
+use Rattle.expr_rules.specs.declared.expr_meant.meant.Meant.TheVariants as meant
 use Rattle.expr_names.specs.Names.{uri_in, undeclared_in, name_test, test_broken, default_name}
 use Rattle.expr_names.specs.Names.{default_in}
 use Rattle.expr_names.specs.Answers.{first}
 use Rattle.expr_names.specs.declared.written.WrittenTest.TheVariants as test
-use Rattle.expr_resolve.specs.ExprPaths.Steps.{axis_for, defaulted, test_on}
-use Rattle.expr_resolve.specs.ExprPaths.Table.{path_value}
-use Rattle.expr_resolve.specs.ExprRules.Known.{name_test_of}
-use Rattle.expr_resolve.specs.ExprRules.Rules.{own_broken, end_broken, test_broken_of}
+use Rattle.expr_resolve.specs.ExprPrimaries.ExprPaths.Steps.{axis_for, defaulted, test_on}
+use Rattle.expr_resolve.specs.ExprPrimaries.ExprPaths.Table.{path_value}
+use Rattle.expr_rules.specs.Known.{name_test_of}
+use Rattle.expr_rules.specs.Rules.{own_broken, end_broken, test_broken_of}
 use Rattle.expr_resolve.specs.declared.setting.Setting.{Setting}
 use Rattle.expr_resolve.specs.Folds.{Found, found_layer, found_of, value_of}
 use Rattle.expr_resolve.specs.Tables.{own, family_of, value_in, is_chain, is_tag, before_last}
 use Rattle.expr_resolve.proofs.Follow.{found-node}
-use Rattle.pattern_shapes.specs.Shapes.{is_pattern}
+use Rattle.pattern_forms.specs.PatternShapes.Shapes.{is_pattern}
 use Rattle.pattern_syntax.specs.Meant.{patterns_of, pattern_broken, step_in, have_allowed, left_out}
 use Rattle.pattern_syntax.specs.Names.{named, alone, name_meant, is_lone_test, lone_step}
 use Rattle.pattern_syntax.specs.Parts.{has_pattern_tests}
 use Rattle.pattern_syntax.specs.Readings.{value, static, value_or, resolved, shaped, answer_of}
 use Rattle.pattern_syntax.specs.Readings.{reading_in, pattern_reading, IsLexed, GivesText}
 use Rattle.pattern_syntax.proofs.TestLemmas.{leaf_flat}
-
-never : {P : Type 0} → false ≡ true → P
-never e = cc
+use Rattle.xt_names.proofs.BoolLemmas.{never, no}
+use Rattle.xt_names.specs.Characters.{is_space, starts_name}
+use Rattle.xt_names.proofs.CharacterLemmas.{is_other}
 
 -- the text is one word
 
@@ -181,21 +180,21 @@ test_spells t f =
     let steps = by production.Steps refl refl (next step (stop end)) in
     let path = by production.Unrooted refl refl (next steps end) in
     let unary = by production.Unsigned refl refl (next path end) in
-    let casts = by (production.Chain level.Casts) refl refl (next unary (without end)) in
-    let castables = by (production.Chain level.Castables) refl refl (next casts (without end)) in
-    let treats = by (production.Chain level.Treats) refl refl (next castables (without end)) in
-    let instances = by (production.Chain level.Instances) refl refl (next treats (without end)) in
-    let crosses = by (production.Chain level.Crosses) refl refl (next instances (stop end)) in
-    let unions = by (production.Chain level.Unions) refl refl (next crosses (stop end)) in
-    let multiplies = by (production.Chain level.Multiplies) refl refl (next unions (stop end)) in
-    let adds = by (production.Chain level.Adds) refl refl (next multiplies (stop end)) in
-    let ranges = by (production.Chain level.Ranges) refl refl (next adds (without end)) in
-    let compares = by (production.Chain level.Compares) refl refl (next ranges (without end)) in
-    let ands = by (production.Chain level.Ands) refl refl (next compares (stop end)) in
-    let ors = by (production.Chain level.Ors) refl refl (next ands (stop end)) in
-    let plain = by production.Plain refl refl (next ors end) in
-    let listing = by production.Listing refl refl (next plain (stop end)) in
-    by production.Top refl refl (next listing end)
+    let casts = by (production.OperatorChain level.Cast) refl refl (next unary (without end)) in
+    let castables = by (production.OperatorChain level.Castable) refl refl (next casts (without end)) in
+    let treats = by (production.OperatorChain level.Treat) refl refl (next castables (without end)) in
+    let instances = by (production.OperatorChain level.InstanceOf) refl refl (next treats (without end)) in
+    let crosses = by (production.OperatorChain level.Intersect) refl refl (next instances (stop end)) in
+    let unions = by (production.OperatorChain level.Union) refl refl (next crosses (stop end)) in
+    let multiplies = by (production.OperatorChain level.Multiplicative) refl refl (next unions (stop end)) in
+    let adds = by (production.OperatorChain level.Additive) refl refl (next multiplies (stop end)) in
+    let ranges = by (production.OperatorChain level.Range) refl refl (next adds (without end)) in
+    let compares = by (production.OperatorChain level.Comparison) refl refl (next ranges (without end)) in
+    let ands = by (production.OperatorChain level.And) refl refl (next compares (stop end)) in
+    let ors = by (production.OperatorChain level.Or) refl refl (next ands (stop end)) in
+    let plain = by production.OperatorExpr refl refl (next ors end) in
+    let listing = by production.ExprList refl refl (next plain (stop end)) in
+    by production.WholeExpr refl refl (next listing end)
 
 step_flat : (t : Token) → predicate_nest_of (lone_step t) ≡ 0
 step_flat t =

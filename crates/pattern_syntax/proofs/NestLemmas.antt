@@ -3,11 +3,11 @@ use Rattle.std.proofs.Common.{◌≡◌, ℕ, max, true, false, List, [], ◌∷
 use Rattle.std.proofs.Common.{◌++◌, map, refl, sym, ap, ◌∙◌, arith}
 use Rattle.std.specs.List.{list_all}
 use Rattle.std.proofs.lemmas.Bool.{and_parts}
-use Rattle.expr_terms.specs.declared.productions.Level.{Level}
-use Rattle.expr_terms.specs.declared.productions.Level.TheVariants as unions_level
-use Rattle.expr_terms.specs.declared.productions.Production.{Production}
-use Rattle.expr_terms.specs.declared.productions.Production.TheVariants as production
-use Rattle.expr_terms.specs.declared.tokens.Token.{Token}
+use Rattle.expr_keys.specs.declared.productions.Level.{Level}
+use Rattle.expr_keys.specs.declared.productions.Level.TheVariants as unions_level
+use Rattle.expr_keys.specs.declared.productions.Production.{Production}
+use Rattle.expr_keys.specs.declared.productions.Production.TheVariants as production
+use Rattle.expr_keys.specs.declared.tokens.Token.{Token}
 use Rattle.expr_terms.specs.declared.raws.Raw.{Raw}
 use Rattle.expr_terms.specs.declared.raws.Raw.TheVariants.{rolls-Node}
 use Rattle.expr_terms.specs.declared.raws.Raw.TheVariants.{rolls-Leaf}
@@ -15,25 +15,23 @@ use Rattle.expr_terms.specs.declared.raws.Raw.TheViews.{out-Raw, roll-Raw, roll-
 use Rattle.expr_terms.specs.declared.raws.Raw.TheOpen.{Raw-F, Leaf, Node}
 use Rattle.expr_terms.specs.Nest.{Levels, levels_of, raw_nest_of, with_part, with_parts, is_left}
 use Rattle.expr_terms.specs.Nest.{is_arms}
-use Rattle.expr_nest.specs.Held.{held}
-use Rattle.expr_nest.specs.Measures.{is_outside, within_of}
-use Rattle.expr_nest.specs.Measures.{predicate_nest_of, widest}
-use Rattle.expr_nest.proofs.Within.{within-node, within-leaf}
-use Rattle.pattern_shapes.specs.Shapes.{is_step, is_step_in, is_after}
-use Rattle.pattern_shapes.specs.Shapes.{is_after_in, are_steps, is_alternative, is_alternative_in}
-use Rattle.pattern_shapes.specs.Shapes.{is_bar, has_bar, is_barred, is_barred_in, is_unions}
-use Rattle.pattern_shapes.specs.Shapes.{are_alternatives, is_pattern, is_pattern_in}
-use Rattle.pattern_shapes.specs.Shapes.{inner_in}
+use Rattle.expr_grammar.specs.ExprNest.Held.{held}
+use Rattle.expr_grammar.specs.ExprNest.Measures.{is_outside, within_of}
+use Rattle.expr_grammar.specs.ExprNest.Measures.{predicate_nest_of, widest}
+use Rattle.expr_grammar.proofs.ExprNest.Within.{within-node, within-leaf}
+use Rattle.pattern_forms.specs.PatternShapes.Shapes.{is_step, is_step_in, is_after}
+use Rattle.pattern_forms.specs.PatternShapes.Shapes.{is_after_in, are_steps, is_alternative, is_alternative_in}
+use Rattle.pattern_forms.specs.PatternShapes.Shapes.{is_bar, has_bar, is_barred, is_barred_in, is_unions}
+use Rattle.pattern_forms.specs.PatternShapes.Shapes.{are_alternatives, is_pattern, is_pattern_in}
+use Rattle.pattern_forms.specs.PatternShapes.Shapes.{inner_in}
 use Rattle.pattern_syntax.specs.Parts.{barless, barless_in, alternatives_in, steps_in}
 use Rattle.pattern_syntax.specs.Parts.{steps_within}
 use Rattle.pattern_syntax.specs.Predicates.{parts_in, step_parts, steps_parts, alternatives_parts}
 use Rattle.pattern_syntax.specs.Predicates.{pattern_parts, deepest}
 use Rattle.pattern_syntax.proofs.BrokenLemmas.{step_itself, itself}
+use Rattle.xt_names.proofs.BoolLemmas.{never}
 
-never : {P : Type 0} → false ≡ true → P
-never e = cc
-
-deepest-append : (xs ys : List Raw) → deepest (xs ++ ys) ≡ max (deepest xs) (deepest ys)
+pub deepest-append : (xs ys : List Raw) → deepest (xs ++ ys) ≡ max (deepest xs) (deepest ys)
 deepest-append [] ys = omega arith
 deepest-append (x ∷ xs) ys = let h = deepest-append xs ys in omega arith
 
@@ -47,7 +45,7 @@ leaf_out v t o = ap predicate_nest_of (sym (roll-out-Raw v) ∙ ap roll-Raw o �
     ∙ within-leaf t
 
 -- the parts of a step stand beside each other
-part_beside : (p : Production) (a : ℕ) (v : Levels) → is_left p ≡ false → is_arms p ≡ false
+pub part_beside : (p : Production) (a : ℕ) (v : Levels) → is_left p ≡ false → is_arms p ≡ false
     → with_part p a v ≡ max a v.nest
 part_beside p a v e f = rw (e, f) refl
 
@@ -147,14 +145,14 @@ one_nest : (v : Raw) → is_alternative v ≡ true
 one_nest v e = alternative_in_nest v (out-Raw v) refl e
 
 second_nest : (v : Raw) (l : Level) (vs : List Raw)
-    → out-Raw v ≡ Node (production.Operated l) vs → has_bar vs ≡ true
+    → out-Raw v ≡ Node (production.OperatorTail l) vs → has_bar vs ≡ true
     → predicate_nest_of v ≡ deepest (steps_parts (steps_in (barless_in v (Node
-    (production.Operated l) vs))))
+    (production.OperatorTail l) vs))))
 second_nest v l [] o e = never e
 second_nest v l (b ∷ []) o e = never e
 second_nest v l (b ∷ w ∷ []) o e =
     let h = and_parts (is_bar (out-Raw b)) (is_alternative w) e in
-    within_out v (production.Operated l) (b ∷ w ∷ []) o
+    within_out v (production.OperatorTail l) (b ∷ w ∷ []) o
     ∙ ap (λ n. max n (max (predicate_nest_of w) 0)) (bar (out-Raw b) refl h.0)
     ∙ turned (predicate_nest_of w) ∙ one_nest w h.1
   where
@@ -169,7 +167,7 @@ second_nest v l (b ∷ w ∷ x ∷ vs) o e = never e
 barred_nest : (v : Raw) (f : Raw-F Raw) → out-Raw v ≡ f → is_barred_in f ≡ true
     → predicate_nest_of v ≡ deepest (steps_parts (steps_in (barless_in v f)))
 barred_nest v (Leaf t) o e = never e
-barred_nest v (Node (production.Operated l) vs) o e = let h = and_parts (is_unions l) (has_bar vs)
+barred_nest v (Node (production.OperatorTail l) vs) o e = let h = and_parts (is_unions l) (has_bar vs)
     e in second_nest v l vs o h.1
 barred_nest v (Node p vs) o e = never e
 
@@ -207,19 +205,19 @@ alone_nest v e =
     let c = deepest-append (steps_parts (steps_in (barless v))) [] in
     omega arith
 
-union_nest : (v : Raw) (l : Level) (vs : List Raw) → out-Raw v ≡ Node (production.Chain l) vs
+union_nest : (v : Raw) (l : Level) (vs : List Raw) → out-Raw v ≡ Node (production.OperatorChain l) vs
     → is_unions l ≡ true → are_alternatives vs ≡ true
     → predicate_nest_of v ≡ deepest (alternatives_parts vs)
-union_nest v l vs o u e = within_out v (production.Chain l) vs o ∙ rw (same l u) (all_nest vs e)
+union_nest v l vs o u e = within_out v (production.OperatorChain l) vs o ∙ rw (same l u) (all_nest vs e)
   where
-    same : (l : Level) → is_unions l ≡ true → is_outside (production.Chain l) ≡ true
-    same unions_level.Unions e = refl
+    same : (l : Level) → is_unions l ≡ true → is_outside (production.OperatorChain l) ≡ true
+    same unions_level.Union e = refl
     same l e = never e
 
 pattern_in_nest : (v : Raw) (f : Raw-F Raw) → out-Raw v ≡ f → is_pattern_in f ≡ true
     → predicate_nest_of v ≡ deepest (alternatives_parts (alternatives_in v f))
 pattern_in_nest v (Leaf t) o e = never e
-pattern_in_nest v (Node (production.Chain l) vs) o e = let h = and_parts (is_unions l)
+pattern_in_nest v (Node (production.OperatorChain l) vs) o e = let h = and_parts (is_unions l)
     (are_alternatives vs) e in union_nest v l vs o h.0 h.1
 pattern_in_nest v (Node p vs) o e = alone_nest v (rw o e)
 

@@ -15,40 +15,38 @@ use Rattle.xt_syntax.specs.declared.prefixes.ParseFault.TheVariants.{Memory}
 use Rattle.xpath_lex.specs.declared.lexing.Token.{Token as Lexed}
 use Rattle.xpath_lex.specs.Readings.{placed, Tokens, Fault}
 use Rattle.xpath_lex.proofs.ReadingLemmas.{tokens_one, tokens_no_fault}
-use Rattle.expr_terms.specs.declared.tokens.Token.{Token}
+use Rattle.expr_keys.specs.declared.tokens.Token.{Token}
 use Rattle.expr_terms.specs.declared.raws.Raw.{Raw}
-use Rattle.expr_terms.specs.declared.productions.Language.TheVariants.{Xpath as xpath}
+use Rattle.expr_keys.specs.declared.productions.Language.TheVariants.{Xpath as xpath}
 use Rattle.expr_terms.specs.Nest.{raw_nest_of}
 use Rattle.expr_tokens.specs.Terms.{Written, written, terms_of}
 use Rattle.expr_length.proofs.Within.{spelled_within}
 use Rattle.expr_grammar.specs.Machine.{read_whole}
 use Rattle.expr_grammar.proofs.Run.{runs_spells, spells_runs}
-use Rattle.expr_nest.specs.Measures.{predicate_nest_of}
-use Rattle.expr_nest.specs.declared.measures.Measure.TheVariants.{Predicates}
-use Rattle.expr_nest.proofs.Within.{within-less}
+use Rattle.expr_grammar.specs.ExprNest.Measures.{predicate_nest_of}
+use Rattle.expr_grammar.specs.declared.expr_nest.measures.Measure.TheVariants.{Predicates}
+use Rattle.expr_grammar.proofs.ExprNest.Within.{within-less}
 use Rattle.expr_reader.specs.declared.readings.Reading.TheVariants as read
 use Rattle.expr_reader.specs.Answers.{within_by}
 use Rattle.expr_names.specs.Answers.{first}
 use Rattle.expr_resolve.specs.declared.setting.Setting.{Setting}
 use Rattle.expr_resolve.specs.Folds.{broken_of}
 use Rattle.xpath_syntax.specs.Spelled.{IsWritten}
-use Rattle.xpath_syntax.proofs.ReadingLemmas.{terms_length}
-use Rattle.pattern_shapes.specs.Shapes.{is_pattern}
+use Rattle.xpath_syntax.proofs.ReadingLemmas.{terms_length, only_one}
+use Rattle.pattern_forms.specs.PatternShapes.Shapes.{is_pattern}
 use Rattle.pattern_syntax.specs.Meant.{patterns_of, pattern_broken, is_allowed, left_out}
 use Rattle.pattern_syntax.specs.Readings.{value, syntax, static, too_deep}
 use Rattle.pattern_syntax.specs.Readings.{value_or, resolved, shaped, answer_of}
 use Rattle.pattern_syntax.specs.Readings.{reading_in, begins_with_key, reading_tokens}
 use Rattle.pattern_syntax.specs.Readings.{keyed, unless_key}
-use Rattle.pattern_syntax.specs.Readings.{pattern_reading, unplaced, IsLexed, Gives, GivesText}
+use Rattle.pattern_syntax.specs.Readings.{pattern_reading, IsLexed, Gives, GivesText}
 use Rattle.pattern_syntax.specs.Spelled.{IsRead, IsKeyForm, IsSupported, IsMeant, Spells}
 use Rattle.pattern_syntax.specs.Spelled.{SpellsWithin, shapeless}
 use Rattle.pattern_syntax.specs.Spelled.{breaks, unsupported, IsRefused, key_form, refused}
 use Rattle.pattern_syntax.specs.Spelled.{IsTooDeep, Parsed}
 use Rattle.pattern_syntax.proofs.BrokenLemmas.{pattern_breaks}
 use Rattle.pattern_syntax.proofs.KeyLemmas.{no_key}
-
-wrong : {P : Type 0} → true ≡ false → P
-wrong e = cc
+use Rattle.expr_tokens.specs.TextTokens.Lexed.{unplaced}
 
 -- tokens of the grammar
 pub reads_terms : (s : Setting) (k : ℕ) (ts : List Written) (r : Result (List Pattern) ParseFault)
@@ -175,11 +173,6 @@ not_terms : (text : List ℕ) (ts : List Written) → IsLexed text (Some ts) →
     → (us : List Written) (raw : Raw) → IsLexed text (Some us) → IsWritten us raw → ⊥
 not_terms text ts l e us raw m w = none-some _ (sym e ∙ ap terms_of (same_tokens text ts us l m)
     ∙ w.are)
-
-only_one : (ts : List Written) (us : List Token) (raw : Raw) → terms_of ts ≡ Some us
-    → IsWritten ts raw → read_whole xpath us ≡ Some raw
-only_one ts us raw e w = let same : us ≡ w.terms = same_Some _ _ (sym e
-    ∙ w.are) in rw same (spells_runs w.spelled)
 
 not_read : (text : List ℕ) (ts : List Written) (us : List Token) → IsLexed text (Some ts)
     → terms_of ts ≡ Some us → read_whole xpath us ≡ None → (vs : List Written) (raw : Raw)

@@ -1,14 +1,14 @@
 -- A test has no level.
 use Rattle.std.proofs.Common.{◌≡◌, ℕ, max, List, [], ◌∷◌, ap}
 use Rattle.std.proofs.Common.{◌∙◌, arith}
-use Rattle.expr_terms.specs.declared.tokens.Token.{Token}
-use Rattle.expr_terms.specs.declared.productions.Language.{Language}
-use Rattle.expr_terms.specs.declared.productions.Production.{Production}
-use Rattle.expr_terms.specs.declared.productions.Production.TheVariants as production
-use Rattle.expr_terms.specs.declared.productions.Nonterminal.TheVariants.{NodeTest as node_test}
-use Rattle.expr_terms.specs.declared.productions.Nonterminal.TheVariants.{KindTest as kind_test}
-use Rattle.expr_terms.specs.declared.productions.Nonterminal.TheVariants.{PiArgument as pi_argument}
-use Rattle.expr_terms.specs.declared.productions.Nonterminal.TheVariants.{NamedArgument as named_argument}
+use Rattle.expr_keys.specs.declared.tokens.Token.{Token}
+use Rattle.expr_keys.specs.declared.productions.Language.{Language}
+use Rattle.expr_keys.specs.declared.productions.Production.{Production}
+use Rattle.expr_keys.specs.declared.productions.Production.TheVariants as production
+use Rattle.expr_keys.specs.declared.productions.Nonterminal.TheVariants.{NodeTest as node_test}
+use Rattle.expr_keys.specs.declared.productions.Nonterminal.TheVariants.{KindTest as kind_test}
+use Rattle.expr_keys.specs.declared.productions.Nonterminal.TheVariants.{PiArgument as pi_argument}
+use Rattle.expr_keys.specs.declared.productions.Nonterminal.TheVariants.{NamedArgument as named_argument}
 use Rattle.expr_terms.specs.declared.raws.Raw.{Raw}
 use Rattle.expr_terms.specs.declared.raws.Raw.TheVariants.{Leaf as leaf, outs-Leaf}
 use Rattle.expr_terms.specs.declared.raws.Raw.TheFolds.{map-Raw}
@@ -16,7 +16,7 @@ use Rattle.expr_terms.specs.Productions.{body, head}
 use Rattle.expr_terms.specs.Raws.{build}
 use Rattle.expr_terms.specs.Nest.{Levels, levels_step, levels_of, raw_nest_of}
 use Rattle.expr_grammar.specs.Grammar.{Derives, by, Seq, end, taken, next, without, with}
-use Rattle.expr_nest.proofs.Levels.{levels-out, nest-node}
+use Rattle.expr_grammar.proofs.ExprNest.Levels.{levels-out, nest-node}
 
 pub leaf_flat : (t : Token) → raw_nest_of (leaf t) ≡ 0
 leaf_flat t = ap (λ x. x.nest) (levels-out (leaf t)

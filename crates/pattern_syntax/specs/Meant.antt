@@ -24,7 +24,7 @@ use Rattle.pattern_forms.specs.QuietMeaning.Quietly.{is_pattern_predicate}
 use Rattle.expr_terms.specs.declared.raws.Raw.{Raw}
 use Rattle.expr_resolve.specs.declared.setting.Setting.{Setting}
 use Rattle.expr_resolve.specs.Folds.{broken_of, expr_meant}
-use Rattle.pattern_shapes.specs.Shapes.{is_behind_slashes, inner_step}
+use Rattle.pattern_forms.specs.PatternShapes.Shapes.{is_behind_slashes, inner_step}
 use Rattle.pattern_syntax.specs.Parts.{barless, alternatives, steps_in, is_rooted, is_rooted_deep}
 use Rattle.pattern_syntax.specs.Parts.{has_pattern_tests}
 
@@ -48,7 +48,7 @@ as_step deep e = step_in deep (out-Expr e)
 abbrev pub step_of : Setting → Bool → Raw → PatternStep
 step_of s deep v = as_step deep (expr_meant s v)
 
--- the steps, of which `//` may stand before the first
+-- the steps, of which `//` may come before the first
 abbrev pub steps_from : Setting → Bool → List Raw → List PatternStep
 steps_from s deep [] = []
 steps_from s deep (v ∷ vs) =

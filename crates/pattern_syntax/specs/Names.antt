@@ -6,12 +6,12 @@ use Rattle.xt_types.specs.declared.node_tests.Test.TheVariants as test
 use Rattle.xt_types.specs.declared.node_tests.NameTest.TheVariants as name
 use Rattle.xt_syntax.specs.declared.patterns.Pattern.{Pattern}
 use Rattle.xt_syntax.specs.declared.patterns.PatternStep.{PatternStep}
-use Rattle.expr_terms.specs.Productions.{fits}
-use Rattle.expr_terms.specs.declared.productions.Class.TheVariants.{NameTest as name_test}
-use Rattle.expr_terms.specs.declared.productions.Production.TheVariants.{TestStep as test_step}
+use Rattle.expr_keys.specs.Classes.{fits}
+use Rattle.expr_keys.specs.declared.productions.Class.TheVariants.{NameTest as name_test}
+use Rattle.expr_keys.specs.declared.productions.Production.TheVariants.{TestStep as test_step}
 use Rattle.expr_terms.specs.declared.raws.Raw.{Raw}
 use Rattle.expr_terms.specs.declared.raws.Raw.TheVariants.{Leaf as leaf, Node as node}
-use Rattle.expr_terms.specs.declared.tokens.Token.{Token}
+use Rattle.expr_keys.specs.declared.tokens.Token.{Token}
 use Rattle.expr_resolve.specs.declared.setting.Setting.{Setting}
 
 -- the test for an element of this name, where names without prefix have the uri

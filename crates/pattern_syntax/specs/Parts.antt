@@ -2,16 +2,16 @@
 -- 5.5.2).
 use Rattle.std.specs.Prelude.{List, [], ◌∷◌, Bool, true, false, not}
 use Rattle.std.specs.List.{list_all}
-use Rattle.expr_terms.specs.declared.keys.Key.{Key}
-use Rattle.expr_terms.specs.declared.keys.Key.TheVariants.{DocumentNodeWord as document_node_word}
-use Rattle.expr_terms.specs.declared.tokens.Token.{Token}
-use Rattle.expr_terms.specs.declared.tokens.Token.TheVariants as token
-use Rattle.expr_terms.specs.declared.productions.Production.{Production}
-use Rattle.expr_terms.specs.declared.productions.Production.TheVariants as production
+use Rattle.expr_keys.specs.declared.keys.Key.{Key}
+use Rattle.expr_keys.specs.declared.keys.Key.TheVariants.{DocumentNodeWord as document_node_word}
+use Rattle.expr_keys.specs.declared.tokens.Token.{Token}
+use Rattle.expr_keys.specs.declared.tokens.Token.TheVariants as token
+use Rattle.expr_keys.specs.declared.productions.Production.{Production}
+use Rattle.expr_keys.specs.declared.productions.Production.TheVariants as production
 use Rattle.expr_terms.specs.declared.raws.Raw.{Raw}
 use Rattle.expr_terms.specs.declared.raws.Raw.TheViews.{out-Raw}
 use Rattle.expr_terms.specs.declared.raws.Raw.TheOpen.{Raw-F, Leaf, Node}
-use Rattle.pattern_shapes.specs.Shapes.{inner_step}
+use Rattle.pattern_forms.specs.PatternShapes.Shapes.{inner_step}
 
 -- what stands behind `|`
 abbrev pub second_or : List Raw → Raw → Raw
@@ -21,7 +21,7 @@ second_or (v ∷ w ∷ []) other = w
 second_or (v ∷ w ∷ x ∷ vs) other = other
 
 abbrev pub barless_of : Production → List Raw → Raw → Raw
-barless_of (production.Operated l) vs other = second_or vs other
+barless_of (production.OperatorTail l) vs other = second_or vs other
 barless_of p vs other = other
 
 abbrev pub barless_in : Raw → Raw-F Raw → Raw
@@ -33,7 +33,7 @@ barless v = barless_in v (out-Raw v)
 
 -- the alternatives, each with the `|` before it
 abbrev pub alternatives_of : Production → List Raw → Raw → List Raw
-alternatives_of (production.Chain l) vs v = vs
+alternatives_of (production.OperatorChain l) vs v = vs
 alternatives_of p vs v = v ∷ []
 
 abbrev pub alternatives_in : Raw → Raw-F Raw → List Raw
@@ -58,7 +58,7 @@ steps_within v (Node p vs) = steps_of p vs v
 abbrev pub steps_in : Raw → List Raw
 steps_in v = steps_within v (out-Raw v)
 
--- `/` or `//` stands at its front
+-- `/` or `//` is at its front
 abbrev pub is_rooted_of : Production → Bool
 is_rooted_of production.Rooted = true
 is_rooted_of production.RootSteps = true
@@ -124,7 +124,7 @@ abbrev pub second_test : List Raw → Bool
 second_test [] = false
 second_test (v ∷ vs) = first_test vs
 
--- behind the axis, where one is written
+-- after the axis, where one is written
 abbrev pub has_pattern_test_of : Production → List Raw → Bool
 has_pattern_test_of production.AxisStep vs = second_test vs
 has_pattern_test_of p vs = first_test vs

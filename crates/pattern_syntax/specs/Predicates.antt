@@ -5,8 +5,8 @@ use Rattle.expr_terms.specs.declared.raws.Raw.{Raw}
 use Rattle.expr_terms.specs.declared.raws.Raw.TheViews.{out-Raw}
 use Rattle.expr_terms.specs.declared.raws.Raw.TheOpen.{Raw-F, Leaf, Node}
 use Rattle.expr_terms.specs.Nest.{raw_nest_of}
-use Rattle.expr_nest.specs.Measures.{greatest}
-use Rattle.pattern_shapes.specs.Shapes.{inner_step}
+use Rattle.expr_grammar.specs.ExprNest.Measures.{greatest}
+use Rattle.pattern_forms.specs.PatternShapes.Shapes.{inner_step}
 use Rattle.pattern_syntax.specs.Parts.{barless, alternatives, steps_in}
 
 abbrev pub parts_in : Raw-F Raw → List Raw

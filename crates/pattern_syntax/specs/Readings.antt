@@ -13,19 +13,20 @@ use Rattle.xt_syntax.specs.declared.prefixes.ParseFault.TheVariants.{Memory}
 use Rattle.xpath_lex.specs.declared.lexing.TokenKind.{TokenKind}
 use Rattle.xpath_lex.specs.declared.lexing.TokenKind.TheVariants.{Word, Symbol}
 use Rattle.xpath_lex.specs.Readings.{Placed, Tokens, Fault}
-use Rattle.expr_terms.specs.declared.tokens.Token.{Token}
+use Rattle.expr_keys.specs.declared.tokens.Token.{Token}
 use Rattle.expr_terms.specs.declared.raws.Raw.{Raw}
-use Rattle.expr_terms.specs.declared.productions.Language.TheVariants.{Xpath as xpath}
+use Rattle.expr_keys.specs.declared.productions.Language.TheVariants.{Xpath as xpath}
 use Rattle.expr_tokens.specs.Terms.{Written, terms_of}
 use Rattle.expr_grammar.specs.Machine.{read_whole}
-use Rattle.expr_nest.specs.declared.measures.Measure.TheVariants.{Predicates}
+use Rattle.expr_grammar.specs.declared.expr_nest.measures.Measure.TheVariants.{Predicates}
 use Rattle.expr_reader.specs.declared.readings.Reading.{Reading}
 use Rattle.expr_reader.specs.declared.readings.Reading.TheVariants as read
 use Rattle.expr_reader.specs.Answers.{within_by}
 use Rattle.expr_names.specs.Answers.{first}
 use Rattle.expr_resolve.specs.declared.setting.Setting.{Setting}
-use Rattle.pattern_shapes.specs.Shapes.{is_pattern}
+use Rattle.pattern_forms.specs.PatternShapes.Shapes.{is_pattern}
 use Rattle.pattern_syntax.specs.Meant.{patterns_of, pattern_broken, left_out}
+use Rattle.expr_tokens.specs.TextTokens.Lexed.{unplaced}
 
 -- what a text gives: its alternatives, or why it is no pattern
 pub data Answer : Type 0 where
@@ -92,10 +93,6 @@ reading_tokens s k ts = unless_key (begins_with_key ts) (reading_in s k (terms_o
 abbrev pub pattern_reading : Setting → ℕ → Option (List Written) → Answer
 pattern_reading s k None = syntax
 pattern_reading s k (Some ts) = reading_tokens s k ts
-
--- a token without its place
-abbrev pub unplaced : Placed → Written
-unplaced t = record { kind = t.kind; characters = t.characters }
 
 -- the tokens of a text, or none where no token begins somewhere in it
 abbrev pub IsLexed : List ℕ → Option (List Written) → Type 0

@@ -10,12 +10,12 @@ use Rattle.xt_syntax.specs.declared.prefixes.ParseFault.TheVariants.{Syntax, Sta
 use Rattle.xt_syntax.specs.declared.prefixes.ParseFault.TheVariants.{Memory}
 use Rattle.expr_terms.specs.declared.raws.Raw.{Raw}
 use Rattle.expr_tokens.specs.Terms.{Written}
-use Rattle.expr_nest.specs.Measures.{predicate_nest_of}
+use Rattle.expr_grammar.specs.ExprNest.Measures.{predicate_nest_of}
 use Rattle.expr_names.specs.Answers.{first}
 use Rattle.expr_resolve.specs.declared.setting.Setting.{Setting}
 use Rattle.expr_resolve.specs.Folds.{broken_of}
 use Rattle.xpath_syntax.specs.Spelled.{IsWritten}
-use Rattle.pattern_shapes.specs.Shapes.{is_pattern}
+use Rattle.pattern_forms.specs.PatternShapes.Shapes.{is_pattern}
 use Rattle.pattern_syntax.specs.Meant.{patterns_of, is_allowed}
 use Rattle.pattern_syntax.specs.Readings.{IsLexed, begins_with_key}
 

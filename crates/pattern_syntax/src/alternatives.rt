@@ -14,7 +14,7 @@ use expr_names::ResolveFault;
 use expr_resolve::{Setting, resolve};
 use expr_terms::Raw;
 use pattern_forms::are_pattern_predicates;
-use pattern_shapes::{inner_step, is_behind_slashes};
+use pattern_forms::pattern_shapes::{inner_step, is_behind_slashes};
 use std::alloc::{AllocError, Global};
 use xt_names::List;
 use xt_syntax::{Expr, Pattern, PatternStep, copy_expr_list};
@@ -82,7 +82,7 @@ fn with_item<A: Drop>(made: List<A>, item: Result<A, ResolveFault>) -> Result<Li
     }
 }
 
-/// The steps, of which `//` may stand before the first.
+/// The steps, of which `//` may come before the first.
 #[tactic(auto, using(crate::proofs::LoopLemmas::loops))]
 fn steps(
     alloc: Global,

@@ -14,6 +14,8 @@ mod alternatives;
 mod laws;
 mod names;
 mod parts;
+pub mod pattern_priorities;
+pub mod pattern_readings;
 mod patterns;
 mod tests_of_steps;
 

@@ -2,9 +2,9 @@
 ghost use Rattle.std.specs.Prelude.{◌≡◌, ◌∷◌, [], IfOk, ℕ, true};
 ghost use Rattle.std.specs.Str.{chars};
 ghost use Rattle.xt_names.specs.Classes.{is_ncname_text};
-ghost use Rattle.expr_terms.specs.declared.productions.Language.TheVariants.{Xpath as xpath};
+ghost use Rattle.expr_keys.specs.declared.productions.Language.TheVariants.{Xpath as xpath};
 ghost use Rattle.expr_grammar.specs.Machine.{read_whole};
-ghost use Rattle.expr_nest.specs.declared.measures.Measure.TheVariants.{Predicates};
+ghost use Rattle.expr_grammar.specs.declared.expr_nest.measures.Measure.TheVariants.{Predicates};
 ghost use Rattle.expr_reader.specs.declared.readings.Reading.TheVariants.{Value};
 ghost use Rattle.expr_reader.specs.Answers.{within_by};
 ghost use Rattle.pattern_syntax.specs.Names.{named, child_step, alone, name_meant};

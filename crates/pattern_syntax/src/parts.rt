@@ -22,7 +22,7 @@ pub(crate) fn barless(raw: &Raw) -> &Raw
     match raw {
         Raw::Leaf(_) => raw,
         Raw::Node(production, parts) => match production {
-            Production::Operated(_) => second_or(parts.as_slice(), raw),
+            Production::OperatorTail(_) => second_or(parts.as_slice(), raw),
             _ => raw,
         },
     }
@@ -35,7 +35,7 @@ pub(crate) fn alternatives(raw: &Raw) -> &[Raw]
     match raw {
         Raw::Leaf(_) => from_ref(raw),
         Raw::Node(production, parts) => match production {
-            Production::Chain(_) => parts.as_slice(),
+            Production::OperatorChain(_) => parts.as_slice(),
             _ => from_ref(raw),
         },
     }
@@ -57,7 +57,7 @@ pub(crate) fn steps_in(raw: &Raw) -> &[Raw]
     }
 }
 
-/// Whether `/` or `//` stands at the front of the alternative.
+/// Whether `/` or `//` is at the front of the alternative.
 pub(crate) fn is_rooted(raw: &Raw) -> bool
     ensures { result ≡ is_rooted raw.now }
 {
@@ -72,7 +72,7 @@ pub(crate) fn is_rooted(raw: &Raw) -> bool
     }
 }
 
-/// Whether `//` stands at the front of the alternative.
+/// Whether `//` is at the front of the alternative.
 pub(crate) fn is_rooted_deep(raw: &Raw) -> bool
     ensures { result ≡ is_rooted_deep raw.now }
 {

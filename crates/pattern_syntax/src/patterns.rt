@@ -26,7 +26,7 @@ use expr_reader::{Reading, parse_as_pattern};
 use expr_resolve::Setting;
 use expr_terms::{Language, Raw, Token as Term};
 use expr_tokens::terms;
-use pattern_shapes::is_pattern;
+use pattern_forms::pattern_shapes::is_pattern;
 use std::alloc::Global;
 use xpath_lex::{LexFault, Token, TokenKind, tokens};
 use xt_names::{Code, List, SheetStaticCode, is_ascii_text, is_ncname};

@@ -9,7 +9,7 @@ ghost use Rattle.pattern_syntax.specs.Parts.{has_pattern_tests};
 
 use crate::parts::{alternatives, barless, steps_in};
 use expr_terms::{Key, Production, Raw, Token};
-use pattern_shapes::inner_step;
+use pattern_forms::pattern_shapes::inner_step;
 
 fn is_document_token(token: &Token) -> bool
     ensures { result ≡ is_document_token token.now }

@@ -7,7 +7,6 @@ use Rattle.std.proofs.lemmas.Option.{same_Some, none-some}
 use Rattle.std.specs.List.{list_all}
 use Rattle.std.specs.Str.{bytes_eq}
 use Rattle.xt_names.specs.Classes.{is_xml_text, is_in_ranges}
-use Rattle.xpath_lex.specs.Classes.{is_char, is_name_char, is_quote}
 use Rattle.xpath_lex.specs.Tokens.{Quoted, closes, doubled, passes, IsToken, literal}
 use Rattle.xpath_lex.specs.declared.lexing.TokenKind.TheVariants.{Literal}
 use Rattle.expr_tokens.specs.Literals.{piece, next_quote, next_doubling, within_quotes, unquoted}
@@ -16,7 +15,8 @@ use Rattle.query_pieces.specs.Literals.{Says, over, itself, reference, line, ret
 use Rattle.query_pieces.specs.References.{entity, char_of, numbered}
 use Rattle.query_pieces.specs.References.{value, is_digit_of, closed, entity_at, number_at}
 use Rattle.query_pieces.specs.References.{number_from, reference_from, reference_at}
-use Rattle.query_pieces.proofs.FrontLemmas.{either}
+use Rattle.xt_names.specs.Characters.{is_char, is_name_char, is_quote}
+use Rattle.xt_names.proofs.BoolLemmas.{either}
 
 abbrev pub all_chars : List ℕ → Bool
 all_chars cs = list_all is_char cs
@@ -25,7 +25,7 @@ pub chars_text : (cs : List ℕ) → all_chars cs ≡ true → is_xml_text cs �
 unfolding is_xml_text is_char
 chars_text cs h = h
 
--- what is left behind what is taken
+-- what is left after what is taken
 rest_chars : (p : ℕ → Bool) (ts : List ℕ) → all_chars ts ≡ true → all_chars (rest_of p ts) ≡ true
 rest_chars p [] h = refl
 rest_chars p (c ∷ ts) h =
@@ -121,25 +121,25 @@ pub referred : (ts : List ℕ) (r : ℕ × List ℕ) → reference_at ts ≡ Som
 referred ts r e = reference_from_referred ts (eaten 35 ts) r refl e
 
 -- literals
-quoted_chars : (q : ℕ) (cs : List ℕ) → is_char q ≡ true → Quoted q cs → all_chars cs ≡ true
+pub quoted_chars : (q : ℕ) (cs : List ℕ) → is_char q ≡ true → Quoted q cs → all_chars cs ≡ true
 quoted_chars q _ h closes = rw h refl
 quoted_chars q _ h (doubled {cs = cs} x) = rw (h, quoted_chars q cs h x) refl
 quoted_chars q _ h (passes {cs = cs} c e x) = rw (c, quoted_chars q cs h x) refl
 
-append_chars : (xs ys : List ℕ) → all_chars xs ≡ true → all_chars ys ≡ true
+pub append_chars : (xs ys : List ℕ) → all_chars xs ≡ true → all_chars ys ≡ true
     → all_chars (xs ++ ys) ≡ true
 append_chars [] ys h i = i
 append_chars (x ∷ xs) ys h i =
     let a = and_parts (is_char x) (all_chars xs) h in
     and_from (is_char x) _ a.0 (append_chars xs ys a.1 i)
 
-piece_chars : (q : Option ℕ) (d : Bool) (c : ℕ) → is_char c ≡ true
+pub piece_chars : (q : Option ℕ) (d : Bool) (c : ℕ) → is_char c ≡ true
     → all_chars (piece q d c) ≡ true
 piece_chars None d c h = refl
 piece_chars (Some q) true c h = rw h refl
 piece_chars (Some q) false c h = either (c == q) (λ e. rw e refl) (λ e. rw (e, h) refl)
 
-within_chars : (q : Option ℕ) (d : Bool) (cs : List ℕ) → all_chars cs ≡ true
+pub within_chars : (q : Option ℕ) (d : Bool) (cs : List ℕ) → all_chars cs ≡ true
     → all_chars (within_quotes q d cs) ≡ true
 unfolding within_quotes
 within_chars q d [] h = refl
@@ -148,14 +148,14 @@ within_chars q d (c ∷ cs) h =
     append_chars (piece q d c) _ (piece_chars q d c a.0)
     (within_chars (next_quote q c) (next_doubling q d c) cs a.1)
 
-quote_char : (c : ℕ) → is_quote c ≡ true → is_char c ≡ true
+pub quote_char : (c : ℕ) → is_quote c ≡ true → is_char c ≡ true
 unfolding is_quote is_char is_in_ranges
 quote_char c h = elim (or_cases (c == 34) (c == 39) h) [
   | inl a ↦ subst (λ x. is_char x ≡ true) (sym (eqb-true c 34 a)) refl
   | inr b ↦ subst (λ x. is_char x ≡ true) (sym (eqb-true c 39 b)) refl
 ]
 
-unquoted_chars : (cs : List ℕ) → IsToken Literal cs → all_chars (unquoted cs) ≡ true
+pub unquoted_chars : (cs : List ℕ) → IsToken Literal cs → all_chars (unquoted cs) ≡ true
 unfolding unquoted
 unquoted_chars _ (literal {c = c} {cs = cs} q x) =
     let h = quote_char c q in

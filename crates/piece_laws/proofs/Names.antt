@@ -1,20 +1,21 @@
 -- Names in texts, and the parts of names with a colon.
 use Rattle.std.proofs.Common.{◌≡◌, ℕ, ◌+◌, List, [], ◌∷◌, ◌++◌, length, drop, Bool, true, false}
-use Rattle.std.proofs.Common.{◌==◌, ◌&&◌, Option, Some, None, refl, codes, suc, arith}
+use Rattle.std.proofs.Common.{◌==◌, ◌&&◌, Option, Some, None, refl, codes, suc}
 use Rattle.std.proofs.lemmas.Bool.{and_parts, eqb-true, false_from_ne_true}
 use Rattle.std.proofs.lemmas.Bool.{or_right}
 use Rattle.std.specs.List.{list_all}
 use Rattle.xt_names.specs.Allowed.{is_empty_text}
 use Rattle.xt_names.specs.Classes.{is_ncname_text}
-use Rattle.xpath_lex.specs.Classes.{is_name_char, starts_name}
-use Rattle.xpath_lex.proofs.CharacterFacts.{no, colon_name, name_starts}
 use Rattle.xpath_lex.proofs.KindLemmas.{all_name, name_made}
 use Rattle.text_operations.specs.Searches.{text_before}
-use Rattle.expr_terms.specs.declared.tokens.Token.TheVariants as token
+use Rattle.expr_keys.specs.declared.tokens.Token.TheVariants as token
 use Rattle.expr_tokens.specs.Terms.{qname_term, any_local_term, any_prefix_term}
 use Rattle.query_pieces.specs.Fronts.{run_of, rest_of, begins, NameAt, local_at, name_with, name_at}
-use Rattle.query_pieces.proofs.FrontLemmas.{either}
-use Rattle.sound_forms.specs.Sound.{is_sound_prefix}
+use Rattle.sound_expressions.specs.SoundForms.Sound.{is_sound_prefix}
+use Rattle.xt_names.proofs.ListLemmas.{dropped}
+use Rattle.xt_names.specs.Characters.{is_name_char, starts_name}
+use Rattle.xt_names.proofs.BoolLemmas.{no, either}
+use Rattle.xt_names.proofs.CharacterLemmas.{colon_name, name_starts}
 
 before_colon : (p more : List ℕ) → list_all is_name_char p ≡ true
     → text_before (codes ":") (p ++ 58 ∷ more) ≡ Some p
@@ -29,10 +30,6 @@ before_colon (c ∷ p) more a =
 dropped_all : (p : List ℕ) (c : ℕ) (more : List ℕ) → drop (suc (length p)) (p ++ c ∷ more) ≡ more
 dropped_all [] c more = refl
 dropped_all (d ∷ p) c more = dropped_all p c more
-
-dropped : (p : List ℕ) (c : ℕ) (more : List ℕ) → drop (length p + 1) (p ++ c ∷ more) ≡ more
-dropped p c more =
-    let same : length p + 1 ≡ suc (length p) = omega arith in rw same (dropped_all p c more)
 
 pub qname_is : (p n : List ℕ) → is_ncname_text p ≡ true
     → qname_term (p ++ 58 ∷ n) ≡ Some (token.Qname p n)

@@ -5,10 +5,9 @@ use Rattle.std.proofs.Common.{if◌then◌else◌}
 use Rattle.std.proofs.lemmas.Bool.{and_parts, and_from}
 use Rattle.std.specs.List.{list_all}
 use Rattle.xt_names.specs.Classes.{is_in_ranges}
-use Rattle.xpath_lex.specs.Classes.{is_char, is_space}
 use Rattle.expr_length.specs.Weights.{weigh}
-use Rattle.expr_terms.specs.declared.tokens.Token.{Token}
-use Rattle.expr_terms.specs.declared.tokens.Token.TheVariants as token
+use Rattle.expr_keys.specs.declared.tokens.Token.{Token}
+use Rattle.expr_keys.specs.declared.tokens.Token.TheVariants as token
 use Rattle.query_pieces.specs.Fronts.{run_of, rest_of, begins, eaten, spaces, NameAt, name_at}
 use Rattle.query_pieces.specs.declared.contexts.Quote.{Quote}
 use Rattle.query_pieces.specs.declared.contexts.Quote.TheVariants.{Single as single}
@@ -26,10 +25,11 @@ use Rattle.query_pieces.specs.Elements.{value_mark, value_piece, quote_at, value
 use Rattle.query_pieces.specs.Elements.{equals_from, attribute_from, empty_end, full_or, empty_or}
 use Rattle.query_pieces.specs.Elements.{tag_mark, tag_piece, piece_at}
 use Rattle.query_pieces.specs.Elements as piece
-use Rattle.query_pieces.proofs.FrontLemmas.{either}
-use Rattle.sound_forms.specs.Sound.{is_sound_token}
+use Rattle.sound_expressions.specs.SoundForms.Sound.{is_sound_token}
 use Rattle.piece_laws.proofs.Names.{IsNamed, MaybeNamed, name_named, run_all}
 use Rattle.piece_laws.proofs.Literals.{all_chars, chars_text, referred}
+use Rattle.xt_names.specs.Characters.{is_char, is_space}
+use Rattle.xt_names.proofs.BoolLemmas.{either}
 
 -- sound, and as heavy as one token
 pub record IsLight (t : Token) : Type 0 where

@@ -8,14 +8,14 @@ use Rattle.xpath_lex.specs.Tokens.{IsToken}
 use Rattle.xpath_lex.specs.declared.lexing.TokenKind.{TokenKind}
 use Rattle.xpath_lex.specs.declared.lexing.TokenKind.TheVariants.{Literal}
 use Rattle.expr_length.specs.Weights.{weigh, weight}
-use Rattle.expr_terms.specs.declared.tokens.Token.{Token}
-use Rattle.expr_terms.specs.declared.tokens.Token.TheVariants as token
+use Rattle.expr_keys.specs.declared.tokens.Token.{Token}
+use Rattle.expr_keys.specs.declared.tokens.Token.TheVariants as token
 use Rattle.query_pieces.specs.Points.{Point}
 use Rattle.query_pieces.specs.Readings.{IsNext, Reads, spelled, opened, parted, Splits}
 use Rattle.query_pieces.specs.Readings as readings
 use Rattle.query_pieces.specs.Spellings.{is_literal, Spells, literal, others}
 use Rattle.query_pieces.proofs.ShortLemmas.{reads_shorter}
-use Rattle.sound_forms.specs.Sound.{is_sound_token, are_sound}
+use Rattle.sound_expressions.specs.SoundForms.Sound.{is_sound_token, are_sound}
 use Rattle.piece_laws.proofs.Names.{named_so}
 use Rattle.piece_laws.proofs.Terms.{Fits, term_fits}
 use Rattle.piece_laws.proofs.Literals.{literal_sound, literal_some}
@@ -70,7 +70,7 @@ reads_step operand p q t (opened {u = u} {rest = rest} {n = n} a o s g e) =
       light = light t g less;
     }
   where
-    light : (t : Token) → t ≡ token.Outer n.prefix n.local → length q.rest < length p.rest
+    light : (t : Token) → t ≡ token.StartTagOpen n.prefix n.local → length q.rest < length p.rest
         → weigh t + length q.rest ≤ length p.rest
     light t h l = let one : weigh t ≡ 1 = ap weigh h in omega (arith, l, one)
 reads_step operand p q t (parted {c = c} {a = a} k z g e) =

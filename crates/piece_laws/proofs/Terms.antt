@@ -9,25 +9,26 @@ use Rattle.xpath_lex.specs.Tokens.{IsToken, integer, literal, word, qword, any_l
 use Rattle.xpath_lex.specs.Tokens.{single, double}
 use Rattle.xpath_lex.specs.declared.lexing.TokenKind.{TokenKind}
 use Rattle.expr_length.specs.Weights.{weigh}
-use Rattle.expr_terms.specs.Keys.{key_text}
-use Rattle.expr_terms.specs.declared.keys.Key.{Key}
-use Rattle.expr_terms.specs.declared.keys.Key.TheVariants as key
-use Rattle.expr_terms.specs.declared.tokens.Token.{Token}
-use Rattle.expr_terms.specs.declared.tokens.Token.TheVariants as token
+use Rattle.expr_keys.specs.Keys.{key_text}
+use Rattle.expr_keys.specs.declared.keys.Key.{Key}
+use Rattle.expr_keys.specs.declared.keys.Key.TheVariants as key
+use Rattle.expr_keys.specs.declared.tokens.Token.{Token}
+use Rattle.expr_keys.specs.declared.tokens.Token.TheVariants as token
 use Rattle.expr_tokens.specs.Literals.{number_value}
 use Rattle.expr_tokens.specs.Terms.{term_of, word_or_name}
 use Rattle.expr_tokens.specs.Words.{key_of_word, key_of_symbol}
 use Rattle.expr_tokens.proofs.KeyLemmas.{word_text, symbol_text}
 use Rattle.query_pieces.specs.Spellings.{is_literal}
-use Rattle.sound_forms.specs.Sound.{is_sound_token}
+use Rattle.sound_expressions.specs.SoundForms.Sound.{is_sound_token}
 use Rattle.piece_laws.proofs.Names.{qname_is, any_local_is, any_prefix_is}
+use Rattle.xt_names.proofs.ListLemmas.{some_same}
 
 -- sound, and no heavier than so many characters
 pub record Fits (t : Token) (n : ℕ) : Type 0 where
   pub sound : is_sound_token t ≡ true
   pub light : weigh t ≤ n
 
-mapped : {A B : Type 0} (f : A → B) (o : Option A) (b : B) → option_map f o ≡ Some b
+pub mapped : {A B : Type 0} (f : A → B) (o : Option A) (b : B) → option_map f o ≡ Some b
     → (a : A) × (o ≡ Some a) × (b ≡ f a)
 mapped f None b e = absurd (none-some _ e)
 mapped f (Some a) b e = (a, refl, sym (same_Some _ _ e))
@@ -56,9 +57,6 @@ symbol_fits : (cs : List ℕ) (t : Token) (k : Key) → key_of_symbol cs ≡ Som
     → Fits t (length cs)
 symbol_fits cs t k e f = rw f (key_fits k cs (symbol_text k cs e))
 
-same_token : {a b : Token} → Some a ≡ Some b → a ≡ b
-same_token e = same_Some _ _ e
-
 parted_some : (x y : List ℕ) (c : ℕ) → 1 ≤ length (x ++ c ∷ y)
 parted_some x y c = let e = length-append x (c ∷ y) in omega (arith, e)
 
@@ -69,15 +67,15 @@ term_fits _ _ t (integer {c = c} {cs = cs} h) l e =
     rw m.2 (record { sound = refl; light = omega arith })
 term_fits _ _ t (literal q h) l e = absurd cc
 term_fits _ _ t (word {x = x} h) l e =
-    rw (← (same_token e)) (word_fits x (key_of_word x) h refl)
+    rw (← (some_same e)) (word_fits x (key_of_word x) h refl)
 term_fits _ _ t (qword x y h i) l e =
-    let same : t ≡ token.Qname x y = same_token (sym e ∙ qname_is x y h) in
+    let same : t ≡ token.Qname x y = some_same (sym e ∙ qname_is x y h) in
     rw same (record { sound = and_from _ _ h i; light = parted_some x y 58 })
 term_fits _ _ t (any_local x h) l e =
-    let same : t ≡ token.AnyLocal x = same_token (sym e ∙ any_local_is x h) in
+    let same : t ≡ token.AnyLocal x = some_same (sym e ∙ any_local_is x h) in
     rw same (record { sound = h; light = parted_some x (42 ∷ []) 58 })
 term_fits _ _ t (any_prefix {x = x} h) l e =
-    let same : t ≡ token.AnyPrefix x = same_token (sym e ∙ any_prefix_is x) in
+    let same : t ≡ token.AnyPrefix x = some_same (sym e ∙ any_prefix_is x) in
     rw same (record { sound = h; light = omega arith })
 term_fits _ _ t (single {c = c} h) l e =
     let m = mapped token.Key (key_of_symbol (c ∷ [])) t e in

@@ -1,1 +1,1 @@
-pub use Rattle.sound_forms.specs as SoundForms
+pub use Rattle.sound_expressions.specs as SoundExpressions

@@ -2,15 +2,15 @@
 //! alone.
 //!
 //! Whatever the text is, its tokens have texts and names that XML allows, since each token and
-//! piece is of characters that may stand in it; and each takes as many characters as it weighs.
+//! piece is of characters that may be in it; and each takes as many characters as it weighs.
 #![tactic(auto)]
 
 ghost use Rattle.std.specs.Prelude.{◌≡◌, ◌≤◌, ℕ, List, length, true};
 ghost use Rattle.expr_length.specs.Weights.{weight};
-ghost use Rattle.expr_terms.specs.declared.tokens.Token.{Token};
+ghost use Rattle.expr_keys.specs.declared.tokens.Token.{Token};
 ghost use Rattle.query_pieces.specs.Points.{Point};
 ghost use Rattle.query_pieces.specs.Readings.{Splits};
-ghost use Rattle.sound_forms.specs.Sound.{are_sound};
+ghost use Rattle.sound_expressions.specs.SoundForms.Sound.{are_sound};
 
 /// The tokens and pieces of a text are sound: their texts are of characters of XML, and their names
 /// can be written.

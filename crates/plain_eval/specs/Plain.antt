@@ -10,8 +10,8 @@ use Rattle.xdm_items.specs.declared.items.Item.{Item}
 use Rattle.doc_set.specs.Sets.{DocumentSet}
 use Rattle.node_walks.specs.Moves.{given}
 use Rattle.lazy_seq.specs.Flow.{Flow}
-use Rattle.outcomes.specs.Outcome.{Outcome, Ends, Fails}
-use Rattle.sort_meaning.specs.Sorted.{Placed}
+use Rattle.expr_meaning.specs.Outcomes.Outcome.{Outcome, Ends, Fails}
+use Rattle.expr_meaning.specs.SortMeaning.Sorted.{Placed}
 use Rattle.expr_meaning.specs.Env.{Binding, Calls, Env, Keys, Program, no_state}
 use Rattle.eval_scopes.specs.Scopes.{placed_at}
 use Rattle.plain_eval.specs.Bound.{Bound}

@@ -1,6 +1,6 @@
 // The value of an expression on its own.
 ghost use Rattle.std.specs.Prelude.{◌≡◌, ◌+◌, [], length};
-ghost use Rattle.outcomes.specs.Outcome.{Fails};
+ghost use Rattle.expr_meaning.specs.Outcomes.Outcome.{Fails};
 ghost use Rattle.xt_names.specs.declared.codes.Code.TheVariants.{QueryStatic};
 ghost use Rattle.xt_names.specs.declared.codes.QueryStaticCode.TheVariants.{XPST0017 as unknown};
 ghost use Rattle.expr_meaning.specs.Meaning.{outcome};
@@ -10,8 +10,8 @@ ghost use Rattle.eval_scopes.specs.Scopes.{focus_of};
 ghost use Rattle.plain_eval.specs.Plain.{AnswersPlain, focus_behind, plain_env, plain_program};
 
 use crate::variables::Vars;
+use eval_scopes::eval_values::Place;
 use eval_scopes::{Env, EvalFault, Fixed, Focus as Placed, Globals, Scope, no_state};
-use eval_values::Place;
 use expr_eval::{Callee, Host};
 use lazy_seq::Seq;
 use std::alloc::{AllocError, Global};

@@ -21,37 +21,37 @@ use Rattle.xt_syntax.specs.declared.exprs.Clause.TheViews.{out-Flwor, roll-out-F
 use Rattle.xt_syntax.specs.declared.exprs.Clause.TheFolds.{fold-roll-Flwor}
 use Rattle.xt_syntax.specs.Layers.{ExprLayer}
 use Rattle.expr_terms.specs.Raws.{is_parens, is_conditional, only_chain, as_chain, as_inner_chain}
-use Rattle.expr_terms.specs.declared.keys.Key.{Key}
-use Rattle.expr_terms.specs.declared.keys.Key.TheVariants as key
-use Rattle.expr_terms.specs.declared.tokens.Token.{Token}
-use Rattle.expr_terms.specs.declared.productions.Level.{Level}
-use Rattle.expr_terms.specs.declared.productions.Level.TheVariants as level
-use Rattle.expr_terms.specs.declared.productions.Production.{Production}
-use Rattle.expr_terms.specs.declared.productions.Production.TheVariants as production
+use Rattle.expr_keys.specs.declared.keys.Key.{Key}
+use Rattle.expr_keys.specs.declared.keys.Key.TheVariants as key
+use Rattle.expr_keys.specs.declared.tokens.Token.{Token}
+use Rattle.expr_keys.specs.declared.productions.Level.{Level}
+use Rattle.expr_keys.specs.declared.productions.Level.TheVariants as level
+use Rattle.expr_keys.specs.declared.productions.Production.{Production}
+use Rattle.expr_keys.specs.declared.productions.Production.TheVariants as production
 use Rattle.expr_terms.specs.declared.raws.Raw.{Raw}
 use Rattle.expr_terms.specs.declared.raws.Raw.TheVariants.{Node as node, outs-Node, outs-Leaf}
 use Rattle.expr_terms.specs.declared.raws.Raw.TheViews.{out-Raw}
 use Rattle.expr_terms.specs.declared.raws.Raw.TheOpen.{Node}
-use Rattle.path_raws.specs.Forms.{Form, single, at, in_parentheses, nothing}
-use Rattle.path_raws.specs.Paths.{with_token, variable_with, call_with, filtered, root_form}
-use Rattle.path_raws.specs.Paths.{slashed, Start, behind, from_root, root, alone, slash_raw}
-use Rattle.path_raws.specs.Paths.{start_of}
-use Rattle.control_raws.specs.Operators.{ArmForm, many, listed, arithmetic, conditional}
-use Rattle.element_raws.specs.Makers.{NameForm, fixed, computed, element, attribute, instruction}
-use Rattle.element_raws.specs.Makers.{given, given_pi}
-use Rattle.element_raws.specs.Direct.{PartForm, AttrForm, is_element, is_outer_leaf, front_token}
-use Rattle.element_raws.specs.Direct.{direct}
+use Rattle.expr_raws.specs.PathRaws.Forms.{Form, single, at, in_parentheses, nothing}
+use Rattle.expr_raws.specs.PathRaws.Paths.{with_token, variable_with, call_with, filtered, root_form}
+use Rattle.expr_raws.specs.PathRaws.Paths.{slashed, Start, behind, from_root, root, alone, slash_raw}
+use Rattle.expr_raws.specs.PathRaws.Paths.{start_of}
+use Rattle.expr_raws.specs.ControlRaws.Operators.{ArmForm, many, listed, arithmetic, conditional}
+use Rattle.expr_raws.specs.ElementRaws.Makers.{NameForm, fixed, computed, element, attribute, instruction}
+use Rattle.expr_raws.specs.ElementRaws.Makers.{given, given_pi}
+use Rattle.expr_raws.specs.ElementRaws.Direct.{PartForm, AttrForm, is_element, is_outer_leaf, front_token}
+use Rattle.expr_raws.specs.ElementRaws.Direct.{direct}
 use Rattle.expr_raws.specs.Raws.{form_of}
-use Rattle.expr_places.specs.Forms.{flwor_form, name_form, arm_form, attr_form, part_form}
-use Rattle.expr_places.specs.Roots.{parts}
-use Rattle.expr_places.proofs.Operands.{of_expr, rolled}
+use Rattle.expr_drafts.specs.ExprPlaces.Forms.{flwor_form, name_form, arm_form, attr_form, part_form}
+use Rattle.expr_drafts.specs.ExprPlaces.Roots.{parts}
+use Rattle.expr_drafts.proofs.ExprPlaces.Operands.{of_expr, rolled}
 use Rattle.printable_forms.specs.Roots.{is_if, is_if_layer, is_direct, is_direct_layer}
 
 record Kind (chain element : Bool) (f : Form) : Type 0 where
   pub chained : is_some (as_inner_chain (out-Raw (at single f))) ≡ chain
   pub elemental : is_element (out-Raw f.raw) ≡ element
 
--- whether it stands in parentheses or not
+-- whether it is in parentheses or not
 no_chain : (b : Bool) (f : Form) (q : Production) (vs : List Raw) → out-Raw f.raw ≡ Node q vs
     → is_conditional q ≡ false → is_parens q ≡ false
     → is_some (as_inner_chain (out-Raw (cond b f.raw (in_parentheses f)))) ≡ false
@@ -86,7 +86,7 @@ many_kind : (m : Level) (k : Key) (fs : List Form) → Kind false false (many m 
 many_kind m k [] = no_kind
 many_kind m k (a ∷ []) = no_kind
 many_kind m k (a ∷ b ∷ fs) =
-    simple (many m k (a ∷ b ∷ fs)) (production.Chain m) _ refl refl refl refl
+    simple (many m k (a ∷ b ∷ fs)) (production.OperatorChain m) _ refl refl refl refl
 
 listed_kind : (fs : List Form) → Kind false false (listed fs)
 listed_kind [] = record {
@@ -95,7 +95,7 @@ listed_kind [] = record {
 }
 listed_kind (a ∷ []) = no_kind
 listed_kind (a ∷ b ∷ fs) =
-    simple (listed (a ∷ b ∷ fs)) production.Listing _ refl refl refl refl
+    simple (listed (a ∷ b ∷ fs)) production.ExprList _ refl refl refl refl
 
 filtered_kind : (a : Form) (fs : List Form) → Kind false false (filtered a fs)
 filtered_kind a [] = no_kind
@@ -103,11 +103,11 @@ filtered_kind a (f ∷ fs) =
     simple (filtered a (f ∷ fs)) production.FilterStep _ refl refl refl refl
 
 arithmetic_kind : (op : ArithOp) (a b : Form) → Kind false false (arithmetic op a b)
-arithmetic_kind arith.Add a b = simple _ (production.Chain level.Adds) _ refl refl refl refl
-arithmetic_kind arith.Sub a b = simple _ (production.Chain level.Adds) _ refl refl refl refl
-arithmetic_kind arith.Mul a b = simple _ (production.Chain level.Multiplies) _ refl refl refl refl
-arithmetic_kind arith.Idiv a b = simple _ (production.Chain level.Multiplies) _ refl refl refl refl
-arithmetic_kind arith.Mod a b = simple _ (production.Chain level.Multiplies) _ refl refl refl refl
+arithmetic_kind arith.Add a b = simple _ (production.OperatorChain level.Additive) _ refl refl refl refl
+arithmetic_kind arith.Sub a b = simple _ (production.OperatorChain level.Additive) _ refl refl refl refl
+arithmetic_kind arith.Mul a b = simple _ (production.OperatorChain level.Multiplicative) _ refl refl refl refl
+arithmetic_kind arith.Idiv a b = simple _ (production.OperatorChain level.Multiplicative) _ refl refl refl refl
+arithmetic_kind arith.Mod a b = simple _ (production.OperatorChain level.Multiplicative) _ refl refl refl refl
 
 slash_kind : (s : Start) (f a b : Form) → f.raw ≡ slash_raw s a b → Kind false false f
 slash_kind (behind vs) f a b e = simple f production.Steps _ e refl refl refl
@@ -142,16 +142,16 @@ root_kind = record {
 
 conditional_kind : (arms : List ArmForm) (e : Form) → Kind true false (conditional arms e)
 conditional_kind arms e = record {
-  chained = ap (λ x. is_some (as_inner_chain x)) (outs-Node production.Conditional _);
-  elemental = ap is_element (outs-Node production.Conditional _);
+  chained = ap (λ x. is_some (as_inner_chain x)) (outs-Node production.IfExpr _);
+  elemental = ap is_element (outs-Node production.IfExpr _);
 }
 
 direct_kind : (p : Prefixes) (n : Name) (attrs : List AttrForm) (ps : List PartForm)
     → Kind false true (direct p n attrs ps)
 direct_kind p n attrs ps = record {
-  chained = no_chain true (direct p n attrs ps) production.Element _
-      (outs-Node production.Element _) refl refl;
-  elemental = ap is_element (outs-Node production.Element _)
+  chained = no_chain true (direct p n attrs ps) production.DirectElement _
+      (outs-Node production.DirectElement _) refl refl;
+  elemental = ap is_element (outs-Node production.DirectElement _)
       ∙ ap is_outer_leaf (outs-Leaf (front_token n));
 }
 
@@ -160,7 +160,7 @@ module _ (p : Prefixes) where
   flwor_kind f = subst (λ g. Kind false false (flwor_form p g)) (roll-out-Flwor f)
       (subst (λ g. Kind false false g)
       (sym (fold-roll-Flwor _ _ _ _ _ _ _ _ _ _ _ _ _ _ _ _ _ _ (out-Flwor f)))
-      (simple _ production.Flwor _ refl refl refl refl))
+      (simple _ production.FlworExpr _ refl refl refl refl))
 
   open_kind : (x : ExprLayer parts)
       → Kind (is_if_layer parts x) (is_direct_layer parts x) (of_expr p x)
@@ -171,28 +171,28 @@ module _ (p : Prefixes) where
   open_kind Context = simple _ production.Context _ refl refl refl refl
   open_kind Root = root_kind
   open_kind (Comma fs) = listed_kind (map (form_of p) fs)
-  open_kind (Or fs) = many_kind level.Ors key.OrWord (map (form_of p) fs)
-  open_kind (And fs) = many_kind level.Ands key.AndWord (map (form_of p) fs)
+  open_kind (Or fs) = many_kind level.Or key.OrWord (map (form_of p) fs)
+  open_kind (And fs) = many_kind level.And key.AndWord (map (form_of p) fs)
   open_kind (If arms e) = conditional_kind (map (arm_form p) arms) (form_of p e)
   open_kind (Flwor f) = flwor_kind f
-  open_kind (Quant every bs a) = simple _ production.Quantified _ refl refl refl refl
-  open_kind (General op a b) = simple _ (production.Chain level.Compares) _ refl refl refl refl
-  open_kind (Value op a b) = simple _ (production.Chain level.Compares) _ refl refl refl refl
-  open_kind (Is a b) = simple _ (production.Chain level.Compares) _ refl refl refl refl
-  open_kind (Before a b) = simple _ (production.Chain level.Compares) _ refl refl refl refl
-  open_kind (After a b) = simple _ (production.Chain level.Compares) _ refl refl refl refl
-  open_kind (Range a b) = simple _ (production.Chain level.Ranges) _ refl refl refl refl
+  open_kind (Quant every bs a) = simple _ production.QuantifiedExpr _ refl refl refl refl
+  open_kind (General op a b) = simple _ (production.OperatorChain level.Comparison) _ refl refl refl refl
+  open_kind (Value op a b) = simple _ (production.OperatorChain level.Comparison) _ refl refl refl refl
+  open_kind (Is a b) = simple _ (production.OperatorChain level.Comparison) _ refl refl refl refl
+  open_kind (Before a b) = simple _ (production.OperatorChain level.Comparison) _ refl refl refl refl
+  open_kind (After a b) = simple _ (production.OperatorChain level.Comparison) _ refl refl refl refl
+  open_kind (Range a b) = simple _ (production.OperatorChain level.Range) _ refl refl refl refl
   open_kind (Arith op a b) = arithmetic_kind op (form_of p a) (form_of p b)
   open_kind (Minus a) = simple _ production.Signed _ refl refl refl refl
   open_kind (Plus a) = simple _ production.Signed _ refl refl refl refl
-  open_kind (Union a b) = simple _ (production.Chain level.Unions) _ refl refl refl refl
-  open_kind (Intersect a b) = simple _ (production.Chain level.Crosses) _ refl refl refl refl
-  open_kind (Except a b) = simple _ (production.Chain level.Crosses) _ refl refl refl refl
-  open_kind (InstanceOf a t) = simple _ (production.Chain level.Instances) _ refl refl refl refl
-  open_kind (Treat a t) = simple _ (production.Chain level.Treats) _ refl refl refl refl
+  open_kind (Union a b) = simple _ (production.OperatorChain level.Union) _ refl refl refl refl
+  open_kind (Intersect a b) = simple _ (production.OperatorChain level.Intersect) _ refl refl refl refl
+  open_kind (Except a b) = simple _ (production.OperatorChain level.Intersect) _ refl refl refl refl
+  open_kind (InstanceOf a t) = simple _ (production.OperatorChain level.InstanceOf) _ refl refl refl refl
+  open_kind (Treat a t) = simple _ (production.OperatorChain level.Treat) _ refl refl refl refl
   open_kind (Castable a k empty) =
-      simple _ (production.Chain level.Castables) _ refl refl refl refl
-  open_kind (Cast a k empty) = simple _ (production.Chain level.Casts) _ refl refl refl refl
+      simple _ (production.OperatorChain level.Castable) _ refl refl refl refl
+  open_kind (Cast a k empty) = simple _ (production.OperatorChain level.Cast) _ refl refl refl refl
   open_kind (Slash a b) = slashed_kind (form_of p a) (form_of p b)
   open_kind (Step on t fs) = simple _ production.AxisStep _ refl refl refl refl
   open_kind (Filter a fs) = filtered_kind (form_of p a) (map (form_of p) fs)

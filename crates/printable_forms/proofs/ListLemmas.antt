@@ -3,15 +3,15 @@ use Rattle.std.proofs.Common.{◌≡◌, Bool, true, false, ◌&&◌, List, [], 
 use Rattle.std.proofs.Common.{ℕ, refl, sym, ap, ◌∙◌}
 use Rattle.std.specs.List.{list_all}
 use Rattle.xt_names.specs.Allowed.{is_empty_text}
-use Rattle.expr_terms.specs.declared.keys.Key.{Key}
-use Rattle.expr_terms.specs.declared.productions.Level.{Level}
+use Rattle.expr_keys.specs.declared.keys.Key.{Key}
+use Rattle.expr_keys.specs.declared.productions.Level.{Level}
 use Rattle.xt_names.specs.declared.kinds.ArithOp.{ArithOp}
 use Rattle.xt_names.specs.declared.kinds.ArithOp.TheVariants as arith_op
-use Rattle.path_raws.specs.Forms.{Form, all_can}
-use Rattle.path_raws.specs.Paths.{filtered}
-use Rattle.control_raws.specs.Operators.{ArmForm, has_arms, listed, many, arithmetic}
-use Rattle.control_raws.specs.Bindings.{has_some}
-use Rattle.element_raws.specs.Runs.{has_way, can_run}
+use Rattle.expr_raws.specs.PathRaws.Forms.{Form, all_can}
+use Rattle.expr_raws.specs.PathRaws.Paths.{filtered}
+use Rattle.expr_raws.specs.ControlRaws.Operators.{ArmForm, has_arms, listed, many, arithmetic}
+use Rattle.expr_raws.specs.ControlRaws.Bindings.{has_some}
+use Rattle.expr_raws.specs.ElementRaws.Runs.{has_way, can_run}
 use Rattle.printable_forms.specs.Lists.{not_one, several}
 
 pub listed_can : (fs : List Form) → (listed fs).can ≡ not_one fs

@@ -11,17 +11,17 @@ use Rattle.xt_syntax.specs.declared.exprs.NameSource.{NameSource}
 use Rattle.xt_syntax.specs.declared.exprs.Clause.TheOpen.{Call, ElemC, AttrC, PiC}
 use Rattle.xt_syntax.specs.declared.prefixes.Prefixes.{Prefixes}
 use Rattle.expr_names.specs.Types.{call_type, type_named}
-use Rattle.expr_terms.specs.declared.keys.Key.TheVariants as key
-use Rattle.expr_terms.specs.declared.productions.Class.TheVariants as class
-use Rattle.expr_terms.specs.declared.tokens.Token.{Token}
-use Rattle.path_raws.specs.Forms.{Form, all_can}
-use Rattle.path_raws.specs.Names.{function_token}
-use Rattle.path_raws.specs.Paths.{with_token, call_with}
-use Rattle.element_raws.specs.Makers.{NameForm, fixed, computed, element, attribute, instruction}
-use Rattle.element_raws.specs.Makers.{given, given_pi}
+use Rattle.expr_keys.specs.declared.keys.Key.TheVariants as key
+use Rattle.expr_keys.specs.declared.productions.Class.TheVariants as class
+use Rattle.expr_keys.specs.declared.tokens.Token.{Token}
+use Rattle.expr_raws.specs.PathRaws.Forms.{Form, all_can}
+use Rattle.expr_raws.specs.PathRaws.Names.{function_token}
+use Rattle.expr_raws.specs.PathRaws.Paths.{with_token, call_with}
+use Rattle.expr_raws.specs.ElementRaws.Makers.{NameForm, fixed, computed, element, attribute, instruction}
+use Rattle.expr_raws.specs.ElementRaws.Makers.{given, given_pi}
 use Rattle.expr_raws.specs.Raws.{form_of}
-use Rattle.expr_places.specs.Forms.{name_form}
-use Rattle.expr_places.proofs.Operands.{rolled}
+use Rattle.expr_drafts.specs.ExprPlaces.Forms.{name_form}
+use Rattle.expr_drafts.proofs.ExprPlaces.Operands.{rolled}
 use Rattle.printable_forms.specs.Named.{named_can}
 
 token_can : (b : Bool) (f : Token → Form) → ((t : Token) → (f t).can ≡ b) → (o : Option Token)

@@ -1,10 +1,10 @@
 -- What stands in the place of a token that may be missing can be printed where there is one.
 use Rattle.std.proofs.Common.{◌≡◌, Bool, Option, Some, None, refl}
 use Rattle.std.specs.Prelude.{is_some}
-use Rattle.expr_terms.specs.declared.keys.Key.{Key}
-use Rattle.expr_terms.specs.declared.tokens.Token.{Token}
-use Rattle.path_raws.specs.Paths.{with_token, variable_with, leaf_test, named_test}
-use Rattle.control_raws.specs.Types.{single_with}
+use Rattle.expr_keys.specs.declared.keys.Key.{Key}
+use Rattle.expr_keys.specs.declared.tokens.Token.{Token}
+use Rattle.expr_raws.specs.PathRaws.Paths.{with_token, variable_with, leaf_test, named_test}
+use Rattle.expr_raws.specs.ControlRaws.Types.{single_with}
 
 pub leaf_can : (o : Option Token) → (with_token o leaf_test).can ≡ is_some o
 leaf_can None = refl

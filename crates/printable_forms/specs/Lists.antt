@@ -1,6 +1,6 @@
 -- Lists of which each item can be printed, and that are as long as their form wants.
 use Rattle.std.specs.Prelude.{Bool, false, List, [], ◌∷◌}
-use Rattle.path_raws.specs.Forms.{Form, all_can}
+use Rattle.expr_raws.specs.PathRaws.Forms.{Form, all_can}
 
 -- of no item, or of two or more
 abbrev pub not_one : List Form → Bool

@@ -4,7 +4,7 @@ use Rattle.xt_syntax.specs.declared.exprs.Expr.{Expr}
 use Rattle.xt_syntax.specs.declared.exprs.Clause.TheOpen.{If, Direct}
 use Rattle.xt_syntax.specs.declared.exprs.Clause.TheViews.{out-Expr}
 use Rattle.xt_syntax.specs.Layers.{Kinds, ExprLayer}
-use Rattle.expr_places.specs.Roots.{parts}
+use Rattle.expr_drafts.specs.ExprPlaces.Roots.{parts}
 
 abbrev pub is_if_layer : (k : Kinds) → ExprLayer k → Bool
 is_if_layer k (If arms e) = true

@@ -1,16 +1,16 @@
 // What each form of expressions asks of its parts.
 ghost use Rattle.std.specs.Prelude.{◌≡◌, true, [], map, option_map, IfOk};
-ghost use Rattle.expr_terms.specs.declared.productions.Class.TheVariants as class_of;
-ghost use Rattle.path_raws.specs.Forms.{all_can};
-ghost use Rattle.control_raws.specs.Operators.{arms_can};
-ghost use Rattle.control_raws.specs.Bindings.{bind_can, binds_can, clauses_can};
-ghost use Rattle.control_raws.specs.Bindings.{orders_can, may};
-ghost use Rattle.element_raws.specs.Direct.{attr_can, attrs_can, part_can, parts_can};
+ghost use Rattle.expr_keys.specs.declared.productions.Class.TheVariants as class_of;
+ghost use Rattle.expr_raws.specs.PathRaws.Forms.{all_can};
+ghost use Rattle.expr_raws.specs.ControlRaws.Operators.{arms_can};
+ghost use Rattle.expr_raws.specs.ControlRaws.Bindings.{bind_can, binds_can, clauses_can};
+ghost use Rattle.expr_raws.specs.ControlRaws.Bindings.{orders_can, may};
+ghost use Rattle.expr_raws.specs.ElementRaws.Direct.{attr_can, attrs_can, part_can, parts_can};
 ghost use Rattle.expr_raws.specs.Raws.{form_of, is_printable};
-ghost use Rattle.expr_places.specs.Forms.{arm_form, bind_form, clause_form, order_form, name_form};
-ghost use Rattle.expr_places.specs.Forms.{attr_form, part_form, flwor_form};
-ghost use Rattle.expr_places.specs.Families.{is_branch, is_pair, is_typed, is_step};
-ghost use Rattle.expr_places.specs.Families.{is_named_constructor};
+ghost use Rattle.expr_drafts.specs.ExprPlaces.Forms.{arm_form, bind_form, clause_form, order_form, name_form};
+ghost use Rattle.expr_drafts.specs.ExprPlaces.Forms.{attr_form, part_form, flwor_form};
+ghost use Rattle.expr_drafts.specs.ExprPlaces.Families.{is_branch, is_pair, is_typed, is_step};
+ghost use Rattle.expr_drafts.specs.ExprPlaces.Families.{is_named_constructor};
 ghost use Rattle.printable_forms.specs.Lists.{not_one, several};
 ghost use Rattle.printable_forms.specs.Named.{named_can};
 
@@ -23,8 +23,8 @@ use crate::roots::{
 };
 use crate::runs::can_run;
 use crate::types::{has_kind, has_node_test, has_sequence_type};
+use expr_drafts::name_prefixes::NamePrefixes;
 use expr_terms::Class;
-use name_prefixes::NamePrefixes;
 use std::alloc::{AllocError, Global};
 use xt_names::Shared;
 use xt_syntax::{Arm, Bind, Clause, DirectAttr, Expr, Flwor, NameSource, Order, Part};

@@ -1,19 +1,19 @@
 // Whether names have tokens.
 ghost use Rattle.std.specs.Prelude.{◌≡◌, ◌&&◌, not, [], is_some, IfOk};
 ghost use Rattle.expr_names.specs.Types.{call_type, type_named};
-ghost use Rattle.expr_terms.specs.declared.productions.Class.TheVariants as class_of;
-ghost use Rattle.path_raws.specs.Names.{name_token, function_token, test_token};
-ghost use Rattle.control_raws.specs.Types.{type_token};
-ghost use Rattle.control_raws.specs.Bindings.{placing, may};
-ghost use Rattle.element_raws.specs.Makers.{node_token, gives_name};
-ghost use Rattle.element_raws.specs.Direct.{front_token, attr_token};
+ghost use Rattle.expr_keys.specs.declared.productions.Class.TheVariants as class_of;
+ghost use Rattle.expr_raws.specs.PathRaws.Names.{name_token, function_token, test_token};
+ghost use Rattle.expr_raws.specs.ControlRaws.Types.{type_token};
+ghost use Rattle.expr_raws.specs.ControlRaws.Bindings.{placing, may};
+ghost use Rattle.expr_raws.specs.ElementRaws.Makers.{node_token, gives_name};
+ghost use Rattle.expr_raws.specs.ElementRaws.Direct.{front_token, attr_token};
 
-use expr_names::{call_type, no_text};
-use expr_terms::{Class, Token};
-use name_prefixes::NamePrefixes;
-use name_tokens::{
+use expr_drafts::name_prefixes::NamePrefixes;
+use expr_drafts::name_tokens::{
     bare_node_token, function_token, gives_name, name_token, node_token, test_token, type_token,
 };
+use expr_names::{call_type, no_text};
+use expr_terms::{Class, Token};
 use std::alloc::{AllocError, Global};
 use xt_names::{AtomType, ExprName, Name};
 use xt_types::{Axis, NameTest};
@@ -136,7 +136,7 @@ pub(crate) fn has_front(
     ensures { IfOk result (λ has. has ≡ gives_name prefixes.now.bound
         prefixes.now.element_default name.now (front_token name.now)) }
 {
-    let token = Token::Outer(name.prefix.copy()?, name.local.copy()?);
+    let token = Token::StartTagOpen(name.prefix.copy()?, name.local.copy()?);
     let plain = prefixes.plain();
     gives_name(alloc, &plain.bound, &plain.element_default, name, &token)
 }

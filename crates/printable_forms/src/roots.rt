@@ -2,14 +2,14 @@
 ghost use Rattle.std.specs.Prelude.{◌≡◌, ◌||◌, not, is_some};
 ghost use Rattle.expr_terms.specs.Raws.{as_inner_chain};
 ghost use Rattle.expr_terms.specs.declared.raws.Raw.TheViews.{out-Raw};
-ghost use Rattle.path_raws.specs.Forms.{at, single};
-ghost use Rattle.control_raws.specs.Bindings.{has_some};
-ghost use Rattle.element_raws.specs.Direct.{is_characters, is_element};
+ghost use Rattle.expr_raws.specs.PathRaws.Forms.{at, single};
+ghost use Rattle.expr_raws.specs.ControlRaws.Bindings.{has_some};
+ghost use Rattle.expr_raws.specs.ElementRaws.Direct.{is_characters, is_element};
 ghost use Rattle.expr_raws.specs.Raws.{form_of};
-ghost use Rattle.expr_places.specs.Forms.{part_form};
+ghost use Rattle.expr_drafts.specs.ExprPlaces.Forms.{part_form};
 ghost use Rattle.printable_forms.specs.Roots.{is_if, is_direct};
 
-use name_prefixes::NamePrefixes;
+use expr_drafts::name_prefixes::NamePrefixes;
 use xt_syntax::{Arm, Bind, Clause, Expr, Order, Part};
 
 fn has_if(e: &Expr) -> bool

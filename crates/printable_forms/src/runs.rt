@@ -2,8 +2,8 @@
 ghost use Rattle.std.specs.Prelude.{◌≡◌};
 ghost use Rattle.std.specs.List.{list_all};
 ghost use Rattle.std.specs.Str.{chars};
-ghost use Rattle.element_raws.specs.Runs.{is_markup, is_itself, is_doubled, is_referred};
-ghost use Rattle.element_raws.specs.Runs.{has_way, can_run};
+ghost use Rattle.expr_raws.specs.ElementRaws.Runs.{is_markup, is_itself, is_doubled, has_way, can_run};
+ghost use Rattle.xt_names.specs.Characters.{is_referred};
 
 use xt_names::{Text, is_xml_char};
 
@@ -34,7 +34,7 @@ fn is_referred(c: char) -> bool
 }
 
 /// Whether the character stands for itself, in a value or in content.
-#[tactic(auto, unfolding(xpath_lex::specs::Classes::is_char))]
+#[tactic(auto, unfolding(xt_names::specs::Characters::is_char))]
 fn is_itself(value: bool, c: char) -> bool
     ensures { result ≡ is_itself value c }
 {

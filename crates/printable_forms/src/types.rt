@@ -1,12 +1,12 @@
 // Whether node tests and types can be printed.
 ghost use Rattle.std.specs.Prelude.{◌≡◌, IfOk};
-ghost use Rattle.path_raws.specs.Paths.{test_form};
-ghost use Rattle.control_raws.specs.Types.{kind_form, item_form, sequence_form};
-ghost use Rattle.control_raws.specs.Bindings.{typing, may};
+ghost use Rattle.expr_raws.specs.PathRaws.Paths.{test_form};
+ghost use Rattle.expr_raws.specs.ControlRaws.Types.{kind_form, item_form, sequence_form};
+ghost use Rattle.expr_raws.specs.ControlRaws.Bindings.{typing, may};
 
 use crate::names::{has_test, has_type};
+use expr_drafts::name_prefixes::NamePrefixes;
 use expr_terms::Class;
-use name_prefixes::NamePrefixes;
 use std::alloc::{AllocError, Global};
 use xt_types::{Axis, ItemType, SeqType, Test};
 

@@ -5,19 +5,17 @@ use Rattle.std.proofs.Common.{subst}
 use Rattle.std.proofs.Common.{Some, codes}
 use Rattle.std.proofs.lemmas.Bool.{and_parts}
 use Rattle.std.proofs.lemmas.Option.{none-some, same_Some}
-use Rattle.expr_terms.specs.declared.keys.Key.TheVariants as key
-use Rattle.expr_terms.specs.declared.tokens.Token.{Token}
-use Rattle.expr_terms.specs.declared.tokens.Token.TheVariants as token
-use Rattle.expr_terms.specs.Tokens.{fits_key}
+use Rattle.expr_keys.specs.declared.keys.Key.TheVariants as key
+use Rattle.expr_keys.specs.declared.tokens.Token.{Token}
+use Rattle.expr_keys.specs.declared.tokens.Token.TheVariants as token
+use Rattle.expr_keys.specs.Tokens.{fits_key}
 use Rattle.expr_grammar.proofs.Tables.{is_key}
 use Rattle.query_grammar.specs.Prolog.{Cut, here, there}
 use Rattle.query_grammar.specs.Machine.{is_head, inside, but_last, is_outside}
 use Rattle.query_grammar.specs.Words.{is_named}
 use Rattle.query_grammar.proofs.Tokens.{heads, type_head, type_parts}
 use Rattle.query_grammar.proofs.Neat.{Neat, done, opens, closes, plain}
-
-never : {P : Type 0} → false ≡ true → P
-never e = cc
+use Rattle.xt_names.proofs.BoolLemmas.{never, and_both}
 
 pub cut_at : (us : List Token) (t : Token) (rest : List Token) → Cut t rest (us ++ t ∷ rest) us
 cut_at [] t rest = here
@@ -27,15 +25,12 @@ pub cut_is : {t : Token} {rest all us : List Token} → Cut t rest all us → al
 cut_is here = refl
 cut_is (there {x = x} c) = ap (λ z. x ∷ z) (cut_is c)
 
-pub both_true : (a b : Bool) → a ≡ true → b ≡ true → (a && b) ≡ true
-both_true a b e f = rw (e, f) refl
-
 pub neat_heads : {k : ℕ} {ts rest : List Token} → Neat k ts rest → heads rest ≡ true
     → heads ts ≡ true
 neat_heads done h = h
 neat_heads (opens g) h = neat_heads g h
 neat_heads (closes g) h = neat_heads g h
-neat_heads (plain {t = t} e g) h = both_true _ _ (type_head t e) (neat_heads g h)
+neat_heads (plain {t = t} e g) h = and_both _ _ (type_head t e) (neat_heads g h)
 
 -- no comma is among them
 abbrev pub no_comma : List Token → Bool
@@ -52,10 +47,10 @@ neat_calm (plain {t = t} e g) h =
 
 pub heads_cut : {t : Token} {rest all us : List Token} → Cut t rest all us → is_head t ≡ true
     → heads us ≡ true → heads rest ≡ true → heads all ≡ true
-heads_cut here e f g = both_true _ _ e g
+heads_cut here e f g = and_both _ _ e g
 heads_cut (there {x = x} {us = us} c) e f g =
     let parts = and_parts (is_head x) (heads us) f in
-    both_true _ _ parts.0 (heads_cut c e parts.1 g)
+    and_both _ _ parts.0 (heads_cut c e parts.1 g)
 
 -- from so many open parentheses to none
 pub data Level : ℕ → List Token → Type 0 where
@@ -80,7 +75,7 @@ level_cut e f (rise g) (there c) l = rise (level_cut e f g c l)
 level_cut e f (fall g) (there c) l = fall (level_cut e f g c l)
 level_cut e f (along a b g) (there c) l = along a b (level_cut e f g c l)
 
--- what stands in parentheses is found
+-- what is in parentheses is found
 pub inside_found : {k : ℕ} {us all ts : List Token} (acc : List Token) → Level k us
     → Cut (token.Key key.CloseParen) ts all us → inside k acc all ≡ Some (acc ++ us, ts)
 inside_found {ts = ts} acc flat here = ap (λ z. Some (z, ts)) (sym (append-nil acc))
@@ -199,7 +194,7 @@ same_cut (u ∷ us) h g e f (there {us = hd} c) =
           i.rest_is;
     }
 
--- a token that may not stand in a head
+-- a token that may not be in a head
 pub no_heads : (us : List Token) (t : Token) (seg : List Token) → is_head t ≡ false
     → heads (us ++ t ∷ seg) ≡ true → ⊥
 no_heads [] t seg e h = never (sym e ∙ (and_parts (is_head t) (heads seg) h).0)

@@ -1,17 +1,17 @@
--- What stands before the expressions of declarations is read as the grammar has it.
+-- What comes before the expressions of declarations is read as the grammar has it.
 use Rattle.std.proofs.Common.{◌≡◌, Bool, true, false, cond, not, ◌&&◌, codes}
 use Rattle.std.proofs.Common.{List, [], ◌∷◌, ◌++◌, append_assoc, append-nil, refl, sym, ◌∙◌, ap}
 use Rattle.std.proofs.Common.{subst}
 use Rattle.std.proofs.Common.{Option, Some, None, option_map, option_and_then}
 use Rattle.std.proofs.lemmas.Bool.{and_parts}
 use Rattle.std.proofs.lemmas.Option.{none-some, same_Some}
-use Rattle.expr_terms.specs.declared.keys.Key.TheVariants as key
-use Rattle.expr_terms.specs.declared.tokens.Token.{Token}
-use Rattle.expr_terms.specs.declared.tokens.Token.TheVariants as token
+use Rattle.expr_keys.specs.declared.keys.Key.TheVariants as key
+use Rattle.expr_keys.specs.declared.tokens.Token.{Token}
+use Rattle.expr_keys.specs.declared.tokens.Token.TheVariants as token
 use Rattle.expr_terms.specs.declared.raws.Raw.{Raw}
-use Rattle.expr_terms.specs.declared.productions.Language.TheVariants.{Xquery as xquery}
-use Rattle.expr_terms.specs.Tokens.{fits_key, fits_name, fits_word, fits_function}
-use Rattle.expr_terms.specs.Productions.{fits_quoted}
+use Rattle.expr_keys.specs.declared.productions.Language.TheVariants.{Xquery as xquery}
+use Rattle.expr_keys.specs.Tokens.{fits_key, fits_name, fits_word, fits_function}
+use Rattle.expr_keys.specs.Classes.{fits_quoted}
 use Rattle.expr_grammar.specs.Machine.{read_type}
 use Rattle.expr_grammar.proofs.Run.{spells_type_runs, runs_spells_type}
 use Rattle.expr_grammar.proofs.Tables.{is_key}
@@ -35,16 +35,10 @@ use Rattle.query_grammar.specs.Machine.{is_outside, outside_of}
 use Rattle.query_grammar.proofs.Tokens.{heads, name_head, word_head, function_head}
 use Rattle.query_grammar.proofs.Tokens.{quoted_head, named_head, key_head, key_type, name_type}
 use Rattle.query_grammar.proofs.Neat.{Neat, done, plain, type_neat}
-use Rattle.query_grammar.proofs.Cuts.{cut_at, both_true, neat_heads, no_comma, neat_calm}
+use Rattle.query_grammar.proofs.Cuts.{cut_at, neat_heads, no_comma, neat_calm}
 use Rattle.query_grammar.proofs.Cuts.{heads_cut, Level, neat_level, level_cut, flat, inside_found}
 use Rattle.query_grammar.proofs.Cuts.{inside_is, last_found, last_is}
-
-never : {P : Type 0} → false ≡ true → P
-never e = cc
-
-negated : (b : Bool) → not b ≡ true → b ≡ false
-negated true e = never e
-negated false e = refl
+use Rattle.xt_names.proofs.BoolLemmas.{never, is_false, and_both}
 
 -- types
 pub typing_found : {ts : List Token} {k : Option Raw} → IsTyping ts k → typing_of ts ≡ Some k
@@ -101,7 +95,7 @@ params_last : (acc us : List Token) → no_comma us ≡ true
 params_last acc [] e = ap (λ z. option_map (λ p. p ∷ []) (typed_of z)) (sym (append-nil acc))
 params_last acc (t ∷ us) e =
     let parts = and_parts (not (fits_key key.Comma t)) (no_comma us) e in
-    let f = negated _ parts.0 in
+    let f = is_false _ parts.0 in
     rw f (params_last (acc ++ t ∷ []) us parts.1
     ∙ ap (λ z. option_map (λ p. p ∷ []) (typed_of z)) (append_assoc acc (t ∷ []) us))
 
@@ -115,7 +109,7 @@ params_cut {rest = rest} acc here e =
     ap (λ z. option_and_then (with_rest rest) (typed_of z)) (sym (append-nil acc))
 params_cut {rest = rest} acc (there {x = t} {us = us} c) e =
     let parts = and_parts (not (fits_key key.Comma t)) (no_comma us) e in
-    let f = negated _ parts.0 in
+    let f = is_false _ parts.0 in
     rw f (params_cut (acc ++ t ∷ []) c parts.1
     ∙ ap (λ z. option_and_then (with_rest rest) (typed_of z)) (append_assoc acc (t ∷ []) us))
 
@@ -247,7 +241,7 @@ signature_is (q ∷ o ∷ all) g e =
 pub signature_heads : {hd : List Token} {q : Token} {ps : List Typed} {k : Option Raw}
     → IsSignature hd q ps k → heads hd ≡ true
 signature_heads (signed {q = q} {o = o} e f c p t) =
-    both_true _ _ (function_head q e) (both_true _ _ (key_head key.OpenParen o refl f)
+    and_both _ _ (function_head q e) (and_both _ _ (key_head key.OpenParen o refl f)
     (heads_cut c refl (params_heads p) (neat_heads (typing_neat t) refl)))
 
 -- a variable of the outside
@@ -291,13 +285,13 @@ utf8_head _ e = never e
 version_heads : (us : List Token) (d : Declared) → version_of us ≡ Some d → heads us ≡ true
 version_heads [] d e = refl
 version_heads (v ∷ []) d e =
-    both_true _ _ (quoted_head v (held_true (fits_quoted v) _ d e)) refl
+    and_both _ _ (quoted_head v (held_true (fits_quoted v) _ d e)) refl
 version_heads (v ∷ x ∷ []) d e = absurd (none-some _ e)
 version_heads (v ∷ x ∷ u ∷ []) d e =
     let a = and_parts (fits_quoted v) _ (held_true _ _ d e) in
     let b = and_parts (is_named (codes "encoding") x) (is_utf8 u) a.1 in
-    both_true _ _ (quoted_head v a.0)
-    (both_true _ _ (named_head _ x b.0) (both_true _ _ (utf8_head u b.1) refl))
+    and_both _ _ (quoted_head v a.0)
+    (and_both _ _ (named_head _ x b.0) (and_both _ _ (utf8_head u b.1) refl))
 version_heads (v ∷ x ∷ u ∷ y ∷ us) d e = absurd (none-some _ e)
 
 namespace_heads : (us : List Token) (d : Declared) → namespace_of us ≡ Some d → heads us ≡ true
@@ -307,8 +301,8 @@ namespace_heads (p ∷ x ∷ []) d e = absurd (none-some _ e)
 namespace_heads (p ∷ x ∷ u ∷ []) d e =
     let a = and_parts (fits_word p) _ (held_true _ _ d e) in
     let b = and_parts (fits_key key.Equal x) (fits_quoted u) a.1 in
-    both_true _ _ (word_head p a.0)
-    (both_true _ _ (key_head key.Equal x refl b.0) (both_true _ _ (quoted_head u b.1) refl))
+    and_both _ _ (word_head p a.0)
+    (and_both _ _ (key_head key.Equal x refl b.0) (and_both _ _ (quoted_head u b.1) refl))
 namespace_heads (p ∷ x ∷ u ∷ y ∷ us) d e = absurd (none-some _ e)
 
 default_in : (b c f g : Bool) (a n u : Token) (d : Declared)
@@ -321,19 +315,19 @@ default_in : (b c f g : Bool) (a n u : Token) (d : Declared)
     → heads (a ∷ n ∷ u ∷ []) ≡ true
 default_in true true f g a n u d e h i j r =
     let p = and_parts (fits_key key.NamespaceWord n) (fits_quoted u) e in
-    both_true _ _ (key_head key.ElementWord a refl h)
-    (both_true _ _ (key_head key.NamespaceWord n refl p.0) (both_true _ _ (quoted_head u p.1) refl))
+    and_both _ _ (key_head key.ElementWord a refl h)
+    (and_both _ _ (key_head key.NamespaceWord n refl p.0) (and_both _ _ (quoted_head u p.1) refl))
 default_in true false true g a n u d e h i j r =
     let p = and_parts (fits_key key.NamespaceWord n) (fits_quoted u) e in
-    both_true _ _ (named_head _ a i)
-    (both_true _ _ (key_head key.NamespaceWord n refl p.0) (both_true _ _ (quoted_head u p.1) refl))
+    and_both _ _ (named_head _ a i)
+    (and_both _ _ (key_head key.NamespaceWord n refl p.0) (and_both _ _ (quoted_head u p.1) refl))
 default_in true false false g a n u d e h i j r = absurd (none-some _ r)
 default_in false c f true a n u d e h i j r =
     let p = and_parts (fits_key key.OrderWord a) _ j in
     let q = and_parts (fits_key key.EmptyWord n) (fits_key key.LeastWord u) p.1 in
-    both_true _ _ (key_head key.OrderWord a refl p.0)
-    (both_true _ _ (key_head key.EmptyWord n refl q.0)
-    (both_true _ _ (key_head key.LeastWord u refl q.1) refl))
+    and_both _ _ (key_head key.OrderWord a refl p.0)
+    (and_both _ _ (key_head key.EmptyWord n refl q.0)
+    (and_both _ _ (key_head key.LeastWord u refl q.1) refl))
 default_in false c f false a n u d e h i j r = absurd (none-some _ r)
 
 default_heads : (us : List Token) (d : Declared) → default_of us ≡ Some d → heads us ≡ true
@@ -348,8 +342,8 @@ space_in : (b c : Bool) (t : Token) (d : Declared) → is_named (codes "strip") 
     → cond b (Some (declared.BoundarySpace false)) (cond c
     (Some (declared.BoundarySpace true)) None)
     ≡ Some d → heads (t ∷ []) ≡ true
-space_in true c t d e f r = both_true _ _ (named_head _ t e) refl
-space_in false true t d e f r = both_true _ _ (named_head _ t f) refl
+space_in true c t d e f r = and_both _ _ (named_head _ t e) refl
+space_in false true t d e f r = and_both _ _ (named_head _ t f) refl
 space_in false false t d e f r = absurd (none-some _ r)
 
 space_heads : (us : List Token) (d : Declared) → space_of us ≡ Some d → heads us ≡ true
@@ -359,7 +353,7 @@ space_heads (t ∷ y ∷ us) d e = absurd (none-some _ e)
 
 ordering_heads : (us : List Token) (d : Declared) → ordering_of us ≡ Some d → heads us ≡ true
 ordering_heads [] d e = refl
-ordering_heads (t ∷ []) d e = both_true _ _ (named_head _ t (held_true _ _ d e)) refl
+ordering_heads (t ∷ []) d e = and_both _ _ (named_head _ t (held_true _ _ d e)) refl
 ordering_heads (t ∷ y ∷ us) d e = absurd (none-some _ e)
 
 copying_heads : (us : List Token) (d : Declared) → copying_of us ≡ Some d → heads us ≡ true
@@ -369,8 +363,8 @@ copying_heads (a ∷ c ∷ []) d e = absurd (none-some _ e)
 copying_heads (a ∷ c ∷ b ∷ []) d e =
     let p = and_parts (is_named (codes "no-preserve") a) _ (held_true _ _ d e) in
     let q = and_parts (fits_key key.Comma c) (is_named (codes "no-inherit") b) p.1 in
-    both_true _ _ (named_head _ a p.0)
-    (both_true _ _ (key_head key.Comma c refl q.0) (both_true _ _ (named_head _ b q.1) refl))
+    and_both _ _ (named_head _ a p.0)
+    (and_both _ _ (key_head key.Comma c refl q.0) (and_both _ _ (named_head _ b q.1) refl))
 copying_heads (a ∷ c ∷ b ∷ y ∷ us) d e = absurd (none-some _ e)
 
 setting_heads : (us : List Token) (d : Declared) → setting_of us ≡ Some d → heads us ≡ true
@@ -378,7 +372,7 @@ setting_heads [] d e = refl
 setting_heads (n ∷ []) d e = absurd (none-some _ e)
 setting_heads (n ∷ t ∷ []) d e =
     let p = and_parts (fits_name n) (fits_quoted t) (held_true _ _ d e) in
-    both_true _ _ (name_head n p.0) (both_true _ _ (quoted_head t p.1) refl)
+    and_both _ _ (name_head n p.0) (and_both _ _ (quoted_head t p.1) refl)
 setting_heads (n ∷ t ∷ y ∷ us) d e = absurd (none-some _ e)
 
 pub short_heads : (o : Opening) (us : List Token) (d : Declared) → short_of o us ≡ Some d

@@ -6,3 +6,4 @@ pub mod Residue
 pub mod Steps
 pub mod Run
 pub mod Operands
+pub mod QueryPlaces

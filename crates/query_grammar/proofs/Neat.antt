@@ -2,29 +2,28 @@
 use Rattle.std.proofs.Common.{◌≡◌, ℕ, zero, suc, Bool, true, false, cond, ◌&&◌}
 use Rattle.std.proofs.Common.{List, [], ◌∷◌, refl, ◌∙◌, ap, subst}
 use Rattle.std.proofs.lemmas.Bool.{and_parts}
-use Rattle.expr_terms.specs.declared.keys.Key.{Key}
-use Rattle.expr_terms.specs.declared.keys.Key.TheVariants as key
-use Rattle.expr_terms.specs.declared.tokens.Token.{Token}
-use Rattle.expr_terms.specs.declared.tokens.Token.TheVariants as token
-use Rattle.expr_terms.specs.declared.productions.Class.{Class}
-use Rattle.expr_terms.specs.declared.productions.Class.TheVariants as class
-use Rattle.expr_terms.specs.declared.productions.Language.{Language}
-use Rattle.expr_terms.specs.declared.productions.Level.TheVariants.{Ors as ors}
-use Rattle.expr_terms.specs.declared.productions.Nonterminal.{Nonterminal}
-use Rattle.expr_terms.specs.declared.productions.Nonterminal.TheVariants as n
-use Rattle.expr_terms.specs.declared.productions.Symbol.{Symbol}
-use Rattle.expr_terms.specs.declared.productions.Symbol.TheVariants as s
-use Rattle.expr_terms.specs.declared.productions.Production.{Production}
-use Rattle.expr_terms.specs.declared.productions.Production.TheVariants as p
+use Rattle.expr_keys.specs.declared.keys.Key.{Key}
+use Rattle.expr_keys.specs.declared.keys.Key.TheVariants as key
+use Rattle.expr_keys.specs.declared.tokens.Token.{Token}
+use Rattle.expr_keys.specs.declared.tokens.Token.TheVariants as token
+use Rattle.expr_keys.specs.declared.productions.Class.{Class}
+use Rattle.expr_keys.specs.declared.productions.Class.TheVariants as class
+use Rattle.expr_keys.specs.declared.productions.Language.{Language}
+use Rattle.expr_keys.specs.declared.productions.Level.TheVariants.{Or as or_level}
+use Rattle.expr_keys.specs.declared.productions.Nonterminal.{Nonterminal}
+use Rattle.expr_keys.specs.declared.productions.Nonterminal.TheVariants as n
+use Rattle.expr_keys.specs.declared.productions.Symbol.{Symbol}
+use Rattle.expr_keys.specs.declared.productions.Symbol.TheVariants as s
+use Rattle.expr_keys.specs.declared.productions.Production.{Production}
+use Rattle.expr_keys.specs.declared.productions.Production.TheVariants as p
 use Rattle.expr_terms.specs.declared.raws.Raw.{Raw}
-use Rattle.expr_terms.specs.Productions.{fits, body, head}
+use Rattle.expr_keys.specs.Classes.{fits}
+use Rattle.expr_terms.specs.Productions.{body, head}
 use Rattle.expr_grammar.specs.Grammar.{Derives, by, Seq, end, taken, next, without, with, stop}
 use Rattle.expr_grammar.specs.Grammar.{again, bare, given, SpellsType}
 use Rattle.expr_grammar.proofs.Tables.{is_key}
 use Rattle.query_grammar.proofs.Tokens.{in_type, type_class, class_type}
-
-never : {P : Type 0} → false ≡ true → P
-never e = cc
+use Rattle.xt_names.proofs.BoolLemmas.{never}
 
 -- from so many open parentheses to none
 pub data Neat : ℕ → List Token → List Token → Type 0 where
@@ -45,14 +44,14 @@ is_close (class.Key key.CloseParen) = true
 is_close _ = false
 
 -- the nonterminals of types
-abbrev of_types : Nonterminal → Bool
+abbrev pub of_types : Nonterminal → Bool
 of_types n.WholeType = true
-of_types n.SeqType = true
+of_types n.SequenceType = true
 of_types n.ItemType = true
 of_types n.KindTest = true
 of_types n.PiArgument = true
 of_types n.NamedArgument = true
-of_types n.Occurrence = true
+of_types n.OccurrenceIndicator = true
 of_types _ = false
 
 abbrev shut : (ℕ → Bool) → ℕ → Bool
@@ -75,8 +74,8 @@ flat (s.Many m ∷ ss) j = false
 flat (s.Longest m ∷ ss) j = of_types m && flat ss j
 
 flat_body : (q : Production) → cond (of_types (head q)) (flat (body q) 0) true ≡ true
-flat_body (p.Chain ors) = refl
-flat_body (p.Operated ors) = refl
+flat_body (p.OperatorChain or_level) = refl
+flat_body (p.OperatorTail or_level) = refl
 flat_body _ = refl
 
 abbrev up : ℕ → ℕ → ℕ

@@ -3,19 +3,19 @@ use Rattle.std.proofs.Common.{◌≡◌, ℕ, Bool, true, false, cond, codes, Li
 use Rattle.std.proofs.Common.{◌∙◌, ap, subst, Option, Some, None, is_some}
 use Rattle.std.proofs.Common.{option_and_then}
 use Rattle.std.specs.Str.{bytes_eq}
-use Rattle.expr_terms.specs.declared.keys.Key.TheVariants as key
-use Rattle.expr_terms.specs.declared.tokens.Token.{Token}
-use Rattle.expr_terms.specs.declared.tokens.Token.TheVariants as token
+use Rattle.expr_keys.specs.declared.keys.Key.TheVariants as key
+use Rattle.expr_keys.specs.declared.tokens.Token.{Token}
+use Rattle.expr_keys.specs.declared.tokens.Token.TheVariants as token
 use Rattle.expr_terms.specs.declared.choices.Second.{Second}
 use Rattle.expr_terms.specs.declared.choices.Second.TheVariants as second
-use Rattle.expr_terms.specs.declared.productions.Language.TheVariants.{Xquery as xquery}
-use Rattle.expr_terms.specs.declared.productions.Production.TheVariants.{Top as top}
-use Rattle.expr_terms.specs.Tokens.{fits_key}
+use Rattle.expr_keys.specs.declared.productions.Language.TheVariants.{Xquery as xquery}
+use Rattle.expr_keys.specs.declared.productions.Production.TheVariants.{WholeExpr as whole_expr}
+use Rattle.expr_keys.specs.Tokens.{fits_key}
 use Rattle.expr_terms.specs.Choices.{second_of}
 use Rattle.expr_grammar.specs.Machine.{Frame, advance, start, deep}
-use Rattle.query_places.specs.Places.{wants_operand, is_lone_slash}
-use Rattle.query_places.proofs.Operands.{taken}
-use Rattle.query_places.proofs.Apart.{uncompared_where, alone_behind}
+use Rattle.query_grammar.specs.QueryPlaces.Places.{wants_operand, is_lone_slash}
+use Rattle.query_grammar.proofs.QueryPlaces.Operands.{taken}
+use Rattle.query_grammar.proofs.QueryPlaces.Apart.{uncompared_where, alone_behind}
 use Rattle.query_grammar.specs.declared.declared.Opening.{Opening}
 use Rattle.query_grammar.specs.declared.declared.Typed.{Typed}
 use Rattle.query_grammar.specs.declared.declared.Declared.{Declared}
@@ -29,9 +29,7 @@ use Rattle.query_grammar.specs.Machine.{to_value, to_inner, to_closed, whole_of,
 use Rattle.query_grammar.specs.Machine.{inner_start, function_of, is_head}
 use Rattle.query_grammar.proofs.Residue.{Ready, ready_on, ready_top, Valid}
 use Rattle.query_grammar.proofs.Steps.{Steps, steps}
-
-never : {P : Type 0} → false ≡ true → P
-never e = cc
+use Rattle.xt_names.proofs.BoolLemmas.{never}
 
 -- what is led to is valid
 valid_onto : (m n : Mode) (t : Token) (ts : List Token) (u : Turn) → u ≡ machine.onto n
@@ -54,18 +52,18 @@ nothing_led None e = refl
 nothing_led (Some fs) e = never (sym e)
 
 no_outer : (p n : List ℕ) (s : Second) (fs : List Frame) → wants_operand fs ≡ false
-    → advance xquery (token.Outer p n) s fs ≡ None
+    → advance xquery (token.StartTagOpen p n) s fs ≡ None
 no_outer p n s fs e = nothing_led _ (taken p n s fs ∙ e)
 
--- a word is a value, and no operand stands behind it
+-- a word is a value, and no operand comes after it
 word_stops : (n p m : List ℕ) (s : Second)
-    → option_and_then (advance xquery (token.Outer p m) s)
-    (advance xquery (token.Name n) second.Alone (start top)) ≡ None
+    → option_and_then (advance xquery (token.StartTagOpen p m) s)
+    (advance xquery (token.Name n) second.Alone (start whole_expr)) ≡ None
 unfolding deep
 word_stops n p m s = refl
 
 held_none : (a b : Bool) (n p m : List ℕ) (s : Second)
-    → held_step (token.Name n) second.Alone (token.Outer p m) s (cond a None (cond b None None))
+    → held_step (token.Name n) second.Alone (token.StartTagOpen p m) s (cond a None (cond b None None))
     ≡ machine.refused
 held_none true b n p m s = ap (to_mode machine.body) (word_stops n p m s)
 held_none false true n p m s = ap (to_mode machine.body) (word_stops n p m s)
@@ -73,15 +71,15 @@ held_none false false n p m s = ap (to_mode machine.body) (word_stops n p m s)
 
 held_outer : (a : Token) (r : Second) (p m : List ℕ) (s : Second) → r ≡ second.Alone
     → may_open a ≡ true
-    → held_step a r (token.Outer p m) s (opening_of a (token.Outer p m)) ≡ machine.refused
+    → held_step a r (token.StartTagOpen p m) s (opening_of a (token.StartTagOpen p m)) ≡ machine.refused
 held_outer (token.Name n) r p m s e f =
-    ap (λ x. held_step (token.Name n) x (token.Outer p m) s
-    (opening_of (token.Name n) (token.Outer p m))) e
+    ap (λ x. held_step (token.Name n) x (token.StartTagOpen p m) s
+    (opening_of (token.Name n) (token.StartTagOpen p m))) e
     ∙ held_none (bytes_eq n (codes "declare")) (bytes_eq n (codes "xquery")) n p m s
 held_outer _ r p m s e f = never f
 
-outer_at : (m : Mode) (p n : List ℕ) (ts : List Token) → Valid m (token.Outer p n ∷ ts)
-    → wants m ≡ false → step m (token.Outer p n) (second_of ts) ≡ machine.refused
+outer_at : (m : Mode) (p n : List ℕ) (ts : List Token) → Valid m (token.StartTagOpen p n ∷ ts)
+    → wants m ≡ false → step m (token.StartTagOpen p n) (second_of ts) ≡ machine.refused
 outer_at machine.front p n ts v w = never (sym w)
 outer_at (machine.held a r) p n ts v w = held_outer a r p n (second_of ts) v.0 v.1
 outer_at (machine.head o us) p n ts v w = refl
@@ -90,7 +88,7 @@ outer_at (machine.body fs) p n ts v w = ap (to_mode machine.body)
 outer_at (machine.value x fs) p n ts v w =
     ap (to_mode (machine.value x)) (no_outer p n (second_of ts) fs w)
 outer_at (machine.inner q fs) p n ts v w =
-    ap (inner_step q fs (token.Outer p n)) (no_outer p n (second_of ts) fs w)
+    ap (inner_step q fs (token.StartTagOpen p n)) (no_outer p n (second_of ts) fs w)
 outer_at (machine.closed d) p n ts v w = refl
 
 no_less : (s : Second) (fs : List Frame) → Ready fs → wants_operand fs ≡ true
@@ -100,7 +98,7 @@ no_less s fs r w a = uncompared_where s fs r.is_start r.reached w a
 less_at : (m : Mode) (ts : List Token) → Valid m (token.Key key.Less ∷ ts) → wants m ≡ true
     → is_lone m ≡ false → step m (token.Key key.Less) (second_of ts) ≡ machine.refused
 less_at machine.front ts v w a =
-    ap (to_mode machine.body) (no_less (second_of ts) (start top) ready_top refl refl)
+    ap (to_mode machine.body) (no_less (second_of ts) (start whole_expr) ready_top refl refl)
 less_at (machine.held b r) ts v w a = never w
 less_at (machine.head o us) ts v w a = never w
 less_at (machine.body fs) ts v w a = ap (to_mode machine.body) (no_less (second_of ts) fs v w a)
@@ -145,7 +143,7 @@ closed_slashed t None = tt
 closed_slashed t (Some d) = λ a. never a
 
 held_slashed : (a t : Token) (ts : List Token) (r : Second) (x : Option Opening)
-    (o : Option (List Frame)) → r ≡ second_of (t ∷ ts) → advance xquery a r (start top) ≡ o
+    (o : Option (List Frame)) → r ≡ second_of (t ∷ ts) → advance xquery a r (start whole_expr) ≡ o
     → Slashed t (held_step a r t (second_of ts) x)
 held_slashed a t ts r (Some z) o e f = λ b. never b
 held_slashed a t ts r None None e f =
@@ -153,7 +151,7 @@ held_slashed a t ts r None None e f =
     (advance xquery t (second_of ts)) z)))
     (sym f) tt
 held_slashed a t ts r None (Some fs) e f =
-    let g = ap (λ z. advance xquery a z (start top)) (sym e) ∙ f in
+    let g = ap (λ z. advance xquery a z (start whole_expr)) (sym e) ∙ f in
     subst (λ z. Slashed t (to_mode machine.body (option_and_then
     (advance xquery t (second_of ts)) z)))
     (sym f)
@@ -172,7 +170,7 @@ slashed : (m : Mode) (t : Token) (ts : List Token) → Valid m (t ∷ ts)
     → Slashed t (step m t (second_of ts))
 slashed machine.front t ts v =
     cond_slashed (may_open t) t _ _ (λ a. never a)
-    (frames_lone machine.body (λ gs. refl) t ts (start top) _ ready_top refl)
+    (frames_lone machine.body (λ gs. refl) t ts (start whole_expr) _ ready_top refl)
 slashed (machine.held a r) t ts v = held_slashed a t ts r (opening_of a t) _ v.0 refl
 slashed (machine.head o us) t ts v =
     cond_slashed (is_head t) t _ _ (λ a. never a)
@@ -197,8 +195,8 @@ slash_of t n (machine.onto x) e s a = s (ap is_lone (same e) ∙ a)
     same : {x y : Mode} → machine.onto x ≡ machine.onto y → x ≡ y
     same e = cc
 
-pub outer_refused : (m : Mode) (p n : List ℕ) (ts : List Token) → Leads m (token.Outer p n ∷ ts)
-    → wants m ≡ false → step m (token.Outer p n) (second_of ts) ≡ machine.refused
+pub outer_refused : (m : Mode) (p n : List ℕ) (ts : List Token) → Leads m (token.StartTagOpen p n ∷ ts)
+    → wants m ≡ false → step m (token.StartTagOpen p n) (second_of ts) ≡ machine.refused
 outer_refused m p n ts l w = outer_at m p n ts (valid l) w
 
 pub less_refused : (m : Mode) (ts : List Token) → Leads m (token.Key key.Less ∷ ts)

@@ -4,21 +4,21 @@ use Rattle.std.proofs.Common.{List, [], ◌∷◌, ◌++◌, refl, sym, ◌∙�
 use Rattle.std.proofs.Common.{Option, Some, None, option_and_then}
 use Rattle.std.proofs.lemmas.Option.{none-some, same_Some}
 use Rattle.std.specs.Str.{bytes_eq}
-use Rattle.expr_terms.specs.declared.keys.Key.{Key}
-use Rattle.expr_terms.specs.declared.keys.Key.TheVariants as key
-use Rattle.expr_terms.specs.Keys.{same_key}
-use Rattle.expr_terms.specs.declared.tokens.Token.{Token}
-use Rattle.expr_terms.specs.declared.tokens.Token.TheVariants as token
+use Rattle.expr_keys.specs.declared.keys.Key.{Key}
+use Rattle.expr_keys.specs.declared.keys.Key.TheVariants as key
+use Rattle.expr_keys.specs.Keys.{same_key}
+use Rattle.expr_keys.specs.declared.tokens.Token.{Token}
+use Rattle.expr_keys.specs.declared.tokens.Token.TheVariants as token
 use Rattle.expr_terms.specs.declared.raws.Raw.{Raw}
 use Rattle.expr_terms.specs.declared.raws.Raw.TheVariants as raw
 use Rattle.expr_terms.specs.declared.choices.Second.{Second}
 use Rattle.expr_terms.specs.declared.choices.Second.TheVariants as second
-use Rattle.expr_terms.specs.declared.productions.Language.{Language}
-use Rattle.expr_terms.specs.declared.productions.Language.TheVariants.{Xquery as xquery}
-use Rattle.expr_terms.specs.declared.productions.Production.TheVariants.{Top as top}
-use Rattle.expr_terms.specs.declared.productions.Production.TheVariants.{ItemAfter as item_after}
-use Rattle.expr_terms.specs.declared.productions.Nonterminal.TheVariants.{Single as single}
-use Rattle.expr_terms.specs.declared.productions.Symbol.TheVariants.{One as one}
+use Rattle.expr_keys.specs.declared.productions.Language.{Language}
+use Rattle.expr_keys.specs.declared.productions.Language.TheVariants.{Xquery as xquery}
+use Rattle.expr_keys.specs.declared.productions.Production.TheVariants.{WholeExpr as whole_expr}
+use Rattle.expr_keys.specs.declared.productions.Production.TheVariants.{NextExprSingle as next_expr_single}
+use Rattle.expr_keys.specs.declared.productions.Nonterminal.TheVariants.{ExprSingle as expr_single}
+use Rattle.expr_keys.specs.declared.productions.Symbol.TheVariants.{One as one}
 use Rattle.expr_terms.specs.Choices.{second_of, open_next}
 use Rattle.expr_terms.specs.Raws.{build}
 use Rattle.expr_grammar.specs.Grammar.{Derives, Seq, next, end, Spells}
@@ -27,8 +27,8 @@ use Rattle.expr_grammar.proofs.Keys.{same}
 use Rattle.expr_grammar.proofs.Residue as residue
 use Rattle.expr_grammar.proofs.Steps as expr
 use Rattle.expr_grammar.proofs.Run.{run_finds, run_found, spells_runs, runs_spells}
-use Rattle.query_places.specs.Places.{start_single, IsStart, production, single_alone}
-use Rattle.query_places.specs.Places.{Reached, began, onward}
+use Rattle.query_grammar.specs.QueryPlaces.Places.{start_single, IsStart, production, single_alone}
+use Rattle.query_grammar.specs.QueryPlaces.Places.{Reached, began, onward}
 use Rattle.query_grammar.specs.declared.declared.Opening.{Opening}
 use Rattle.query_grammar.specs.declared.declared.Opening.TheVariants as opening
 use Rattle.query_grammar.specs.declared.declared.Typed.{Typed}
@@ -40,9 +40,7 @@ use Rattle.query_grammar.specs.Machine as machine
 use Rattle.query_grammar.specs.declared.declared.Signature.{Signature}
 use Rattle.query_grammar.specs.Machine.{Mode, function_of}
 use Rattle.query_grammar.proofs.Tokens.{heads}
-
-never : {P : Type 0} → false ≡ true → P
-never e = cc
+use Rattle.xt_names.proofs.BoolLemmas.{never}
 
 -- the open productions of an expression
 pub record Ready (fs : List Frame) : Type 0 where
@@ -51,7 +49,7 @@ pub record Ready (fs : List Frame) : Type 0 where
   pub reached : Reached xquery from fs
 
 some_raw : Raw
-some_raw = raw.Leaf token.Enter
+some_raw = raw.Leaf token.EnclosedOpen
 
 sound_start : {from : List Frame} → IsStart from → residue.IsSound from
 sound_start (production p) = (residue.ok_body p, tt)
@@ -77,22 +75,22 @@ pub ready_on : {fs gs : List Frame} (t : Token) (ts : List Token) → Ready fs
 ready_on t ts r e =
     record { from = r.from; is_start = r.is_start; reached = onward t ts r.reached e }
 
-pub ready_top : Ready (start top)
-ready_top = record { from = start top; is_start = production top; reached = began }
+pub ready_top : Ready (start whole_expr)
+ready_top = record { from = start whole_expr; is_start = production whole_expr; reached = began }
 
 pub ready_single : Ready start_single
 ready_single = record { from = start_single; is_start = single_alone; reached = began }
 
 -- an expression, and a single one
 pub spelled : {ts : List Token} {v : Raw} → Spells xquery ts v
-    → residue.Rest xquery v (start top) ts
-spelled {ts = ts} {v = v} s = run_found xquery v ts (start top) (sound ready_top) (spells_runs s)
+    → residue.Rest xquery v (start whole_expr) ts
+spelled {ts = ts} {v = v} s = run_found xquery v ts (start whole_expr) (sound ready_top) (spells_runs s)
 
-pub spells : {ts : List Token} {v : Raw} → residue.Rest xquery v (start top) ts
+pub spells : {ts : List Token} {v : Raw} → residue.Rest xquery v (start whole_expr) ts
     → Spells xquery ts v
-spells {ts = ts} {v = v} r = runs_spells (run_finds xquery v ts (start top) (sound ready_top) r)
+spells {ts = ts} {v = v} r = runs_spells (run_finds xquery v ts (start whole_expr) (sound ready_top) r)
 
-pub alone_rest : {ts : List Token} {v : Raw} → Derives xquery single ts v []
+pub alone_rest : {ts : List Token} {v : Raw} → Derives xquery expr_single ts v []
     → residue.Rest xquery v start_single ts
 alone_rest {v = v} d =
     record { values = v ∷ []; mid = []; first = next d end; after = residue.over }
@@ -101,15 +99,15 @@ over_end : {w v : Raw} {ts : List Token} → residue.Feeds xquery w [] v ts → 
 over_end residue.over = (refl, refl)
 
 only_one : {ts mid : List Token} {vs : List Raw} {w : Raw}
-    → Seq xquery (one single ∷ []) ts vs mid
-    → residue.Feeds xquery w [] (build item_after ([] ++ vs)) mid → Derives xquery single ts w []
+    → Seq xquery (one expr_single ∷ []) ts vs mid
+    → residue.Feeds xquery w [] (build next_expr_single ([] ++ vs)) mid → Derives xquery expr_single ts w []
 only_one {ts = ts} (next {v = v} d end) f =
     let o = over_end f in
-    subst (λ x. Derives xquery single ts x []) o.0
-    (subst (λ x. Derives xquery single ts v x) o.1 d)
+    subst (λ x. Derives xquery expr_single ts x []) o.0
+    (subst (λ x. Derives xquery expr_single ts v x) o.1 d)
 
 pub rest_alone : {ts : List Token} {w : Raw} → residue.Rest xquery w start_single ts
-    → Derives xquery single ts w []
+    → Derives xquery expr_single ts w []
 rest_alone a = only_one a.first a.after
 
 -- a token leads on exactly where the rest does
@@ -118,7 +116,7 @@ pub stepped : {fs : List Frame} (v : Raw) (t : Token) (ts : List Token) (o : Opt
 stepped {fs = fs} v t ts o r e =
     subst (λ x. expr.Steps xquery v t ts fs x) e (expr.steps xquery v t ts fs (sound r))
 
--- what follows a semicolon or a brace tells nothing of what stands before it
+-- what follows a semicolon or a brace tells nothing of what comes before it
 pub second_semicolon : {more ts seg : List Token} → Cut (token.Key key.Semicolon) more ts seg
     → second_of ts ≡ second_of seg
 second_semicolon here = refl
@@ -179,7 +177,7 @@ Valid (machine.closed d) ts = Unit {0}
 -- no expression begins with two names
 names_stop : (b : Bool) (s : Second) (n m : List ℕ)
     → option_and_then (advance xquery (token.Name m) s)
-    (advance xquery (token.Name n) (cond b second.BeforeNamed second.Alone) (start top)) ≡ None
+    (advance xquery (token.Name n) (cond b second.BeforeNamed second.Alone) (start whole_expr)) ≡ None
 unfolding deep
 names_stop true second.Alone n m = refl
 names_stop true _ n m = refl
@@ -196,7 +194,7 @@ two_names : (n m : List ℕ) (ts : List Token)
 two_names n m ts =
     both_none (advance xquery (token.Name m) (second_of ts)) (run xquery ts)
     (advance xquery (token.Name n) (cond (open_next ts) second.BeforeNamed second.Alone)
-    (start top))
+    (start whole_expr))
     (names_stop (open_next ts) (second_of ts) n m)
 
 none_chosen : (a b : Bool) (o : Opening) → cond a None (cond b None None) ≡ Some o → ⊥
@@ -216,7 +214,7 @@ unopened a t e = go (is_named (codes "declare") a) (is_named (codes "xquery") a)
 -- .. nor with a name and `namespace`
 name_stops : (b : Bool) (s : Second) (n : List ℕ)
     → option_and_then (advance xquery (token.Key key.NamespaceWord) s)
-    (advance xquery (token.Name n) (cond b second.BeforeNamed second.Alone) (start top)) ≡ None
+    (advance xquery (token.Name n) (cond b second.BeforeNamed second.Alone) (start whole_expr)) ≡ None
 unfolding deep
 name_stops true second.Alone n = refl
 name_stops true _ n = refl
@@ -229,7 +227,7 @@ name_and_key n k ts e =
     subst (λ z. read_whole xquery (token.Name n ∷ token.Key z ∷ ts) ≡ None) e
     (both_none (advance xquery (token.Key key.NamespaceWord) (second_of ts)) (run xquery ts)
     (advance xquery (token.Name n) (cond (open_next ts) second.BeforeNamed second.Alone)
-    (start top))
+    (start whole_expr))
     (name_stops (open_next ts) (second_of ts) n))
 
 key_opens : (a b c : Bool) (o : Opening)

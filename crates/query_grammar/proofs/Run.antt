@@ -4,14 +4,14 @@ use Rattle.std.proofs.Common.{◌≡◌, Bool, true, false, cond, List, [], ◌�
 use Rattle.std.proofs.Common.{subst}
 use Rattle.std.proofs.Common.{Option, Some, None, option_map, option_and_then}
 use Rattle.std.proofs.lemmas.Option.{none-some, same_Some}
-use Rattle.expr_terms.specs.declared.keys.Key.TheVariants as key
-use Rattle.expr_terms.specs.declared.tokens.Token.{Token}
-use Rattle.expr_terms.specs.declared.tokens.Token.TheVariants as token
+use Rattle.expr_keys.specs.declared.keys.Key.TheVariants as key
+use Rattle.expr_keys.specs.declared.tokens.Token.{Token}
+use Rattle.expr_keys.specs.declared.tokens.Token.TheVariants as token
 use Rattle.expr_terms.specs.declared.raws.Raw.{Raw}
 use Rattle.expr_terms.specs.declared.choices.Second.{Second}
 use Rattle.expr_terms.specs.declared.choices.Second.TheVariants as second
-use Rattle.expr_terms.specs.declared.productions.Language.TheVariants.{Xquery as xquery}
-use Rattle.expr_terms.specs.declared.productions.Production.TheVariants.{Top as top}
+use Rattle.expr_keys.specs.declared.productions.Language.TheVariants.{Xquery as xquery}
+use Rattle.expr_keys.specs.declared.productions.Production.TheVariants.{WholeExpr as whole_expr}
 use Rattle.expr_terms.specs.Choices.{second_of}
 use Rattle.expr_grammar.specs.Machine.{advance, finish, start}
 use Rattle.expr_grammar.proofs.Run.{run_finds, run_found, spells_runs, runs_spells}
@@ -53,7 +53,7 @@ held_end a r e (body {v = v} s) =
     record {
       none = refl;
       value =
-          ap (λ x. option_and_then finish (advance xquery a x (start top))) e ∙ spells_runs s;
+          ap (λ x. option_and_then finish (advance xquery a x (start whole_expr))) e ∙ spells_runs s;
     }
 held_end a r e (declares c i q) = absurd (one_cut c i)
 
@@ -70,7 +70,7 @@ finds (machine.closed d) ds v x r = absurd (no_more r)
 found : (m : Mode) (v : Raw) → Valid m [] → ended m ≡ Some v → Rest m [] [] v
 found machine.front v x e = absurd (none-some _ e)
 found (machine.held a r) v x e =
-    body (runs_spells (ap (λ y. option_and_then finish (advance xquery a y (start top))) (sym x.0)
+    body (runs_spells (ap (λ y. option_and_then finish (advance xquery a y (start whole_expr))) (sym x.0)
     ∙ e))
 found (machine.head o us) v x e = absurd (none-some _ e)
 found (machine.body fs) v x e = (refl, run_found xquery v [] fs (sound x) e)

@@ -5,24 +5,24 @@ use Rattle.std.proofs.Common.{subst}
 use Rattle.std.proofs.Common.{Option, Some, None, option_map, option_and_then}
 use Rattle.std.proofs.lemmas.Bool.{and_parts}
 use Rattle.std.proofs.lemmas.Option.{none-some, same_Some}
-use Rattle.expr_terms.specs.declared.keys.Key.{Key}
-use Rattle.expr_terms.specs.declared.keys.Key.TheVariants as key
-use Rattle.expr_terms.specs.declared.tokens.Token.{Token}
-use Rattle.expr_terms.specs.declared.tokens.Token.TheVariants as token
+use Rattle.expr_keys.specs.declared.keys.Key.{Key}
+use Rattle.expr_keys.specs.declared.keys.Key.TheVariants as key
+use Rattle.expr_keys.specs.declared.tokens.Token.{Token}
+use Rattle.expr_keys.specs.declared.tokens.Token.TheVariants as token
 use Rattle.expr_terms.specs.declared.raws.Raw.{Raw}
 use Rattle.expr_terms.specs.declared.choices.Second.{Second}
-use Rattle.expr_terms.specs.declared.productions.Language.TheVariants.{Xquery as xquery}
-use Rattle.expr_terms.specs.declared.productions.Production.TheVariants.{Top as top}
-use Rattle.expr_terms.specs.declared.productions.Nonterminal.TheVariants.{Single as single}
-use Rattle.expr_terms.specs.Tokens.{fits_key}
+use Rattle.expr_keys.specs.declared.productions.Language.TheVariants.{Xquery as xquery}
+use Rattle.expr_keys.specs.declared.productions.Production.TheVariants.{WholeExpr as whole_expr}
+use Rattle.expr_keys.specs.declared.productions.Nonterminal.TheVariants.{ExprSingle as expr_single}
+use Rattle.expr_keys.specs.Tokens.{fits_key}
 use Rattle.expr_terms.specs.Choices.{second_of}
 use Rattle.expr_grammar.specs.Grammar.{Derives, Spells}
 use Rattle.expr_grammar.specs.Machine.{Frame, advance, finish, start}
 use Rattle.expr_grammar.proofs.Residue as residue
 use Rattle.expr_grammar.proofs.Run.{run_finds, run_found}
 use Rattle.expr_grammar.proofs.Tables.{is_key}
-use Rattle.query_places.specs.Places.{start_single}
-use Rattle.query_places.proofs.Ends as ends
+use Rattle.query_grammar.specs.QueryPlaces.Places.{start_single}
+use Rattle.query_grammar.proofs.QueryPlaces.Ends as ends
 use Rattle.query_grammar.specs.declared.declared.Opening.{Opening}
 use Rattle.query_grammar.specs.declared.declared.Opening.TheVariants as opening
 use Rattle.query_grammar.specs.declared.declared.Typed.{Typed}
@@ -42,7 +42,7 @@ use Rattle.query_grammar.specs.Machine.{value_start}
 use Rattle.query_grammar.specs.Machine.{inner_start, signature_of, whole_of, held_step, head_step}
 use Rattle.query_grammar.specs.Machine.{inner_step, outside_of, signature}
 use Rattle.query_grammar.proofs.Tokens.{heads}
-use Rattle.query_grammar.proofs.Cuts.{cut_at, cut_is, both_true, same_cut, no_heads}
+use Rattle.query_grammar.proofs.Cuts.{cut_at, cut_is, same_cut, no_heads}
 use Rattle.query_grammar.proofs.HeadLemmas.{typed_found, typed_is, typed_heads, signature_found}
 use Rattle.query_grammar.proofs.HeadLemmas.{signature_is, signature_heads, outside_found}
 use Rattle.query_grammar.proofs.HeadLemmas.{outside_is}
@@ -53,14 +53,9 @@ use Rattle.query_grammar.proofs.Residue.{second_semicolon}
 use Rattle.query_grammar.proofs.Residue.{second_brace, Declares, Valued, Defined, Shut, Rest}
 use Rattle.query_grammar.proofs.Residue.{Valid}
 use Rattle.query_grammar.proofs.Residue.{unopened, no_names}
+use Rattle.xt_names.proofs.BoolLemmas.{never, and_both}
 
-never : {P : Type 0} → false ≡ true → P
-never e = cc
-
-no : {b : Bool} {P : Type 0} → b ≡ true → b ≡ false → P
-no a b = cc
-
--- a declaration, and a query behind it
+-- a declaration, and a query after it
 pub record Ended (d : Declared) (ts : List Token) (ds : List Declared) (v : Raw) : Type 0 where
   pub rest : List Declared
   pub are : ds ≡ d ∷ rest
@@ -101,12 +96,12 @@ body_steps t ts fs (Some gs) r e = (
 as_body : (all : List Token) (ds : List Declared) (v : Raw)
     → ((more us : List Token) (d : Declared) → Cut (token.Key key.Semicolon) more all us
     → IsDeclaration us d → ⊥)
-    → IsQuery all ds v → Rest (machine.body (start top)) all ds v
+    → IsQuery all ds v → Rest (machine.body (start whole_expr)) all ds v
 as_body all ds v h (body s) = (refl, spelled s)
 as_body all ds v h (declares {us = us} {more = more} {d = d} c i q) = absurd (h more us d c i)
 
 from_body : (all : List Token) (ds : List Declared) (v : Raw)
-    → Rest (machine.body (start top)) all ds v → IsQuery all ds v
+    → Rest (machine.body (start whole_expr)) all ds v → IsQuery all ds v
 from_body all ds v r = subst (λ x. IsQuery all x v) (sym r.0) (body (spells r.1))
 
 unopened_at : (t : Token) (ts : List Token) → may_open t ≡ false → (more us : List Token)
@@ -123,15 +118,15 @@ unopened_by a t ts e more us d (there (there c)) (opened f i) = none-some _ (sym
 
 front_steps : (t : Token) (ts : List Token) (b : Bool) → may_open t ≡ b
     → Steps machine.front t ts (cond b (machine.onto (machine.held t (second_of ts)))
-    (to_mode machine.body (advance xquery t (second_of ts) (start top))))
+    (to_mode machine.body (advance xquery t (second_of ts) (start whole_expr))))
 front_steps t ts true e = ((λ ds v r. r), (λ ds v r. r), (refl, e))
 front_steps t ts false e =
-    via machine.front (machine.body (start top)) t ts _
+    via machine.front (machine.body (start whole_expr)) t ts _
     (λ ds v r. as_body (t ∷ ts) ds v (unopened_at t ts e) r)
     (λ ds v r. from_body (t ∷ ts) ds v r)
-    (body_steps t ts (start top) (advance xquery t (second_of ts) (start top)) ready_top refl)
+    (body_steps t ts (start whole_expr) (advance xquery t (second_of ts) (start whole_expr)) ready_top refl)
 
--- behind a word that may open a declaration
+-- after a word that may open a declaration
 opening_by : (a t : Token) (ts more us : List Token) (o : Opening) (d : Declared)
     (rest : List Declared) (v : Raw) → opening_of a t ≡ Some o → IsQuery more rest v
     → Cut (token.Key key.Semicolon) more (a ∷ t ∷ ts) us → IsDeclaration us d
@@ -166,15 +161,15 @@ opening_back a t ts o e ds v r =
     (declares (there (there r.cut)) (opened e r.is) r.query)
 
 held_body : (a t : Token) (ts : List Token) (r : Second) (o : Option (List Frame))
-    → r ≡ second_of (t ∷ ts) → opening_of a t ≡ None → advance xquery a r (start top) ≡ o
+    → r ≡ second_of (t ∷ ts) → opening_of a t ≡ None → advance xquery a r (start whole_expr) ≡ o
     → Steps (machine.held a r) t ts
     (to_mode machine.body (option_and_then (advance xquery t (second_of ts)) o))
 held_body a t ts r None e f g =
-    let h = ap (λ x. advance xquery a x (start top)) (sym e) ∙ g in
+    let h = ap (λ x. advance xquery a x (start whole_expr)) (sym e) ∙ g in
     λ ds v q. let b = as_body (a ∷ t ∷ ts) ds v (unopened_by a t ts f) q in
     stepped v a (t ∷ ts) None ready_top h b.1
 held_body a t ts r (Some gs) e f g =
-    let h = ap (λ x. advance xquery a x (start top)) (sym e) ∙ g in
+    let h = ap (λ x. advance xquery a x (start whole_expr)) (sym e) ∙ g in
     via (machine.held a r) (machine.body gs) t ts _
     (λ ds v q. let b = as_body (a ∷ t ∷ ts) ds v (unopened_by a t ts f) q in
     (b.0, (stepped v a (t ∷ ts) (Some gs) ready_top h).0 b.1))
@@ -187,14 +182,14 @@ held_steps : (a t : Token) (ts : List Token) (r : Second) (o : Option Opening)
     → r ≡ second_of (t ∷ ts) → opening_of a t ≡ o
     → Steps (machine.held a r) t ts (held_step a r t (second_of ts) o)
 held_steps a t ts r None e f =
-    held_body a t ts r (advance xquery a r (start top)) e f refl
+    held_body a t ts r (advance xquery a r (start whole_expr)) e f refl
 held_steps a t ts r (Some o) e f =
     ((λ ds v q. opening_cut a t ts o f ds v q), (λ ds v q. opening_back a t ts o f ds v q), refl)
 
 -- what may follow the tokens of a head
 data Beyond : Opening → List Token → Token → List Token → Declared → Type 0 where
   a_value : {us seg : List Token} {n : Typed} {w : Raw} → IsTyped us n
-      → Derives xquery single seg w []
+      → Derives xquery expr_single seg w []
       → Beyond opening.Variable us (token.Key key.Assign) seg (declared.Variable n (Some w))
   a_body : {us seg ts : List Token} {q : Token} {ps : List Typed} {k : Option Raw} {w : Raw}
       → IsSignature us q ps k → Cut (token.Key key.CloseBrace) [] seg ts → Spells xquery ts w
@@ -215,7 +210,7 @@ beyond us t seg h f e (valued {hd = hd} {ts = ts} {v = n} {w = w} c i d) =
     subst (λ x. Cut (token.Key key.Assign) ts x hd) e c in
     let s = same_cut us h (typed_heads i) f refl cut in
     let j = subst (λ x. IsTyped x n) s.heads_are i in
-    let k = subst (λ x. Derives xquery single x w []) s.rest_is d in
+    let k = subst (λ x. Derives xquery expr_single x w []) s.rest_is d in
     subst (λ x. Beyond opening.Variable us x seg (declared.Variable n (Some w))) s.tokens_are
     (a_value j k)
 beyond us t seg h f e (defined {hd = hd} {inside = all} {ts = ts} {q = q} {ps = ps} {k = k} {w =
@@ -237,11 +232,11 @@ within (a_body {us = us} {seg = seg} i c s) =
 -- a head that goes on
 heads_with : (us : List Token) (t : Token) → heads us ≡ true → is_head t ≡ true
     → heads (us ++ t ∷ []) ≡ true
-heads_with [] t h e = both_true _ _ e refl
+heads_with [] t h e = and_both _ _ e refl
 heads_with (u ∷ us) t h e =
-    let p = and_parts (is_head u) (heads us) h in both_true _ _ p.0 (heads_with us t p.1 e)
+    let p = and_parts (is_head u) (heads us) h in and_both _ _ p.0 (heads_with us t p.1 e)
 
--- A token within a declaration: what it is behind it is told by `f` and `g`.
+-- A token within a declaration: what it is after it is told by `f` and `g`.
 shifted : (P Q : List Token → Declared → Type 0) (t : Token) (ts more seg : List Token)
     (d : Declared) (ds rest : List Declared) (v : Raw)
     → (t ≡ token.Key key.Semicolon → (d : Declared) → P [] d → ⊥)
@@ -303,7 +298,7 @@ block : (P : List Token → Declared → Type 0) (t : Token) (ts : List Token) (
     → Declares P (t ∷ ts) ds v → ⊥
 block P t ts ds v h f r = blocked P t ts r.more r.seg r.first h f r.cut r.is
 
--- the semicolon behind a declaration
+-- the semicolon after a declaration
 ending : (P : List Token → Declared → Type 0) (ts more seg : List Token) (d e : Declared)
     (ds rest : List Declared) (v : Raw) → ((e : Declared) → P [] e → e ≡ d)
     → ((seg : List Token) (e : Declared) → P (token.Key key.Semicolon ∷ seg) e → ⊥)
@@ -458,7 +453,7 @@ head_value o us ts (Some n) h e = (
 -- the body of a function begins
 inner_found : {o : Opening} {us seg : List Token} {d : Declared}
     → Beyond o us (token.Key key.OpenBrace) seg d → (g : Signature) → inner_start o us ≡ Some g
-    → Defined g (start top) seg d
+    → Defined g (start whole_expr) seg d
 inner_found (a_body {ts = ts} {w = w} i c s) g e =
     let same = same_Some _ _ (sym (signature_found i) ∙ e) in
     record {
@@ -475,7 +470,7 @@ inner_none : {o : Opening} {us seg : List Token} {d : Declared}
 inner_none (a_body i c s) e = none-some _ (sym e ∙ signature_found i)
 
 inner_back : (o : Opening) (us seg : List Token) (d : Declared) (g : Signature)
-    → inner_start o us ≡ Some g → Defined g (start top) seg d
+    → inner_start o us ≡ Some g → Defined g (start whole_expr) seg d
     → Beyond o us (token.Key key.OpenBrace) seg d
 inner_back opening.Function us seg d g e x =
     subst (λ z. Beyond opening.Function us (token.Key key.OpenBrace) seg z) (sym x.is)
@@ -488,11 +483,11 @@ head_inner o us ts None h e = λ ds v r. block (Head o us) (token.Key key.OpenBr
     (λ f d i. no_semicolon (token.Key key.OpenBrace) refl f)
     (λ more seg d c i. inner_none (beyond us (token.Key key.OpenBrace) seg h refl refl i) e) r
 head_inner o us ts (Some g) h e = (
-  (λ ds v r. shift (Head o us) (Defined g (start top)) (token.Key key.OpenBrace) ts ds v
+  (λ ds v r. shift (Head o us) (Defined g (start whole_expr)) (token.Key key.OpenBrace) ts ds v
       (λ f d i. no_semicolon (token.Key key.OpenBrace) refl f)
       (λ more seg d c i. inner_found (beyond us
       (token.Key key.OpenBrace) seg h refl refl i) g e) r),
-  (λ ds v r. shift_back (Head o us) (Defined g (start top)) (token.Key key.OpenBrace) ts ds v
+  (λ ds v r. shift_back (Head o us) (Defined g (start whole_expr)) (token.Key key.OpenBrace) ts ds v
       (λ more seg d c i. within (inner_back o us seg d g e i)) r),
   ready_top,
 )
@@ -697,7 +692,7 @@ inner_steps : (q : Signature) (fs : List Frame) (t : Token) (ts : List Token)
 inner_steps q fs t ts None r e = inner_by q fs t ts (fits_key key.CloseBrace t) r e refl
 inner_steps q fs t ts (Some gs) r e = inner_on q fs gs t ts r e
 
--- behind the body of a function
+-- after the body of a function
 closed_steps : (d : Declared) (t : Token) (ts : List Token) (b : Bool)
     → fits_key key.Semicolon t ≡ b
     → Steps (machine.closed d) t ts (cond b (machine.ends d) machine.refused)

@@ -2,23 +2,21 @@
 use Rattle.std.proofs.Common.{◌≡◌, ◌⊎◌, inl, inr, ℕ, Bool, true, false, cond, not, ◌&&◌, ◌||◌}
 use Rattle.std.proofs.Common.{List, [], ◌∷◌, refl, subst}
 use Rattle.std.proofs.lemmas.Bool.{and_parts, or_cases}
-use Rattle.expr_terms.specs.declared.keys.Key.{Key}
-use Rattle.expr_terms.specs.declared.keys.Key.TheVariants as key
-use Rattle.expr_terms.specs.declared.tokens.Token.{Token}
-use Rattle.expr_terms.specs.declared.tokens.Token.TheVariants as token
-use Rattle.expr_terms.specs.declared.productions.Class.{Class}
-use Rattle.expr_terms.specs.declared.productions.Class.TheVariants as class
-use Rattle.expr_terms.specs.Keys.{is_worded, is_reserved}
-use Rattle.expr_terms.specs.Tokens.{fits_key, fits_name, fits_word, fits_function}
-use Rattle.expr_terms.specs.Productions.{fits, fits_any, fits_quoted, keys_of}
-use Rattle.expr_grammar.proofs.Tables.{is_key}
+use Rattle.expr_keys.specs.declared.keys.Key.{Key}
+use Rattle.expr_keys.specs.declared.keys.Key.TheVariants as key
+use Rattle.expr_keys.specs.declared.tokens.Token.{Token}
+use Rattle.expr_keys.specs.declared.tokens.Token.TheVariants as token
+use Rattle.expr_keys.specs.declared.productions.Class.{Class}
+use Rattle.expr_keys.specs.declared.productions.Class.TheVariants as class
+use Rattle.expr_keys.specs.Keys.{is_worded, is_reserved}
+use Rattle.expr_keys.specs.Tokens.{fits_key, fits_name, fits_word, fits_function}
+use Rattle.expr_keys.specs.Classes.{fits, fits_any, fits_quoted, keys_of}
+use Rattle.expr_grammar.proofs.Tables.{is_key, function_key}
 use Rattle.query_grammar.specs.Machine.{is_head, is_head_key}
 use Rattle.query_grammar.specs.Words.{is_named}
+use Rattle.xt_names.proofs.BoolLemmas.{never, is_false}
 
-never : {P : Type 0} → false ≡ true → P
-never e = cc
-
--- all of the tokens may stand in the head of a declaration
+-- all of the tokens may be in the head of a declaration
 abbrev pub heads : List Token → Bool
 heads [] = true
 heads (t ∷ ts) = is_head t && heads ts
@@ -40,10 +38,6 @@ pub word_head : (t : Token) → fits_word t ≡ true → is_head t ≡ true
 word_head (token.Key k) e = worded_heads k e
 word_head (token.Name n) e = refl
 word_head _ e = never e
-
-function_key : (b c : Bool) → cond b false c ≡ true → c ≡ true
-function_key true c e = never e
-function_key false c e = e
 
 pub function_head : (t : Token) → fits_function t ≡ true → is_head t ≡ true
 function_head (token.Key k) e = worded_heads k (function_key (is_reserved k) _ e)
@@ -150,15 +144,11 @@ type_head (token.Digits n) e = e
 type_head (token.Quoted cs) e = e
 type_head _ e = never e
 
-negated : (b : Bool) → not b ≡ true → b ≡ false
-negated true e = never e
-negated false e = refl
-
 pub type_parts : (t : Token) → in_type t ≡ true → (fits_key key.Comma t ≡ false)
     × (fits_key key.OpenParen t ≡ false) × (fits_key key.CloseParen t ≡ false)
 type_parts (token.Key k) e =
     let a = and_parts (is_head_key k) _ e in
     let b = and_parts (not (fits_key key.Comma (token.Key k))) _ a.1 in
     let c = and_parts (not (fits_key key.OpenParen (token.Key k))) _ b.1 in
-    (negated _ b.0, negated _ c.0, negated _ c.1)
+    (is_false _ b.0, is_false _ c.0, is_false _ c.1)
 type_parts _ e = (refl, refl, refl)

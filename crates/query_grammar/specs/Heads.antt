@@ -1,11 +1,11 @@
--- The declarations without expressions, and what stands before the expressions of the others.
+-- The declarations without expressions, and what comes before the expressions of the others.
 use Rattle.std.specs.Prelude.{ℕ, Bool, true, false, ◌&&◌, ◌||◌, codes}
 use Rattle.std.specs.Prelude.{List, [], ◌∷◌, Option, Some, None, if◌then◌else◌}
 use Rattle.std.specs.Str.{bytes_eq}
-use Rattle.expr_terms.specs.declared.tokens.Token.{Token}
-use Rattle.expr_terms.specs.declared.keys.Key.TheVariants as key
-use Rattle.expr_terms.specs.Tokens.{fits_key, fits_word, fits_name}
-use Rattle.expr_terms.specs.Productions.{fits_quoted}
+use Rattle.expr_keys.specs.declared.tokens.Token.{Token}
+use Rattle.expr_keys.specs.declared.keys.Key.TheVariants as key
+use Rattle.expr_keys.specs.Tokens.{fits_key, fits_word, fits_name}
+use Rattle.expr_keys.specs.Classes.{fits_quoted}
 use Rattle.query_grammar.specs.declared.declared.Opening.{Opening}
 use Rattle.query_grammar.specs.declared.declared.Opening.TheVariants as opening
 use Rattle.query_grammar.specs.declared.declared.Declared.{Declared}
@@ -78,7 +78,7 @@ setting_of (n ∷ t ∷ []) =
     if fits_name n && fits_quoted t then Some (declared.Setting n (text_of t)) else None
 setting_of _ = None
 
--- a declaration without an expression or a type, behind its two words
+-- a declaration without an expression or a type, after its two words
 abbrev pub short_of : Opening → List Token → Option Declared
 short_of opening.Version ts = version_of ts
 short_of opening.Namespace ts = namespace_of ts

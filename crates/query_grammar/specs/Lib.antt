@@ -2,3 +2,4 @@ pub mod Words
 pub mod Heads
 pub mod Prolog
 pub mod Machine
+pub mod QueryPlaces

@@ -2,19 +2,19 @@
 use Rattle.std.specs.Prelude.{◌≡◌, ℕ, zero, suc, Bool, true, false, ◌&&◌, not, codes}
 use Rattle.std.specs.Prelude.{List, [], ◌∷◌, ◌++◌, Option, Some, None, if◌then◌else◌}
 use Rattle.std.specs.Prelude.{option_map, option_and_then}
-use Rattle.expr_terms.specs.declared.tokens.Token.{Token}
-use Rattle.expr_terms.specs.declared.tokens.Token.TheVariants as token
-use Rattle.expr_terms.specs.declared.keys.Key.{Key}
-use Rattle.expr_terms.specs.declared.keys.Key.TheVariants as key
+use Rattle.expr_keys.specs.declared.tokens.Token.{Token}
+use Rattle.expr_keys.specs.declared.tokens.Token.TheVariants as token
+use Rattle.expr_keys.specs.declared.keys.Key.{Key}
+use Rattle.expr_keys.specs.declared.keys.Key.TheVariants as key
 use Rattle.expr_terms.specs.declared.raws.Raw.{Raw}
 use Rattle.expr_terms.specs.declared.choices.Second.{Second}
-use Rattle.expr_terms.specs.declared.productions.Language.TheVariants.{Xquery as xquery}
-use Rattle.expr_terms.specs.declared.productions.Production.TheVariants.{Top as top}
-use Rattle.expr_terms.specs.Keys.{same_key}
-use Rattle.expr_terms.specs.Tokens.{fits_key, fits_name, fits_function}
+use Rattle.expr_keys.specs.declared.productions.Language.TheVariants.{Xquery as xquery}
+use Rattle.expr_keys.specs.declared.productions.Production.TheVariants.{WholeExpr as whole_expr}
+use Rattle.expr_keys.specs.Keys.{same_key}
+use Rattle.expr_keys.specs.Tokens.{fits_key, fits_name, fits_function}
 use Rattle.expr_terms.specs.Choices.{second_of}
 use Rattle.expr_grammar.specs.Machine.{Frame, advance, finish, start, read_type}
-use Rattle.query_places.specs.Places.{start_single, wants_operand, is_lone_slash}
+use Rattle.query_grammar.specs.QueryPlaces.Places.{start_single, wants_operand, is_lone_slash}
 use Rattle.query_grammar.specs.declared.declared.Opening.{Opening}
 use Rattle.query_grammar.specs.declared.declared.Opening.TheVariants as opening
 use Rattle.query_grammar.specs.declared.declared.Typed.{Typed}
@@ -53,7 +53,7 @@ abbrev pub params_of : List Token → Option (List Typed)
 params_of [] = Some []
 params_of (t ∷ ts) = params_in [] (t ∷ ts)
 
--- what stands in parentheses, and what behind them
+-- what is in parentheses, and what after them
 abbrev pub inside : ℕ → List Token → List Token → Option (List Token × List Token)
 inside depth us [] = None
 inside zero us (t ∷ ts) =
@@ -94,7 +94,7 @@ outside_of ts =
     if is_outside ts then option_map (λ v. declared.Variable v None)
     (typed_of (but_last ts)) else None
 
--- a declaration without an expression, behind its two words
+-- a declaration without an expression, after its two words
 abbrev pub whole_of : Opening → List Token → Option Declared
 whole_of opening.Variable ts = outside_of ts
 whole_of o ts = short_of o ts
@@ -103,9 +103,9 @@ whole_of o ts = short_of o ts
 pub data Mode : Type 0 where
   -- at the front of a declaration or of the body
   front : Mode
-  -- behind a word that may open a declaration
+  -- after a word that may open a declaration
   held : Token → Second → Mode
-  -- behind the two words of a declaration and these tokens
+  -- after the two words of a declaration and these tokens
   head : Opening → List Token → Mode
   -- in the body of the query
   body : List Frame → Mode
@@ -113,7 +113,7 @@ pub data Mode : Type 0 where
   value : Typed → List Frame → Mode
   -- in the body of a function
   inner : Signature → List Frame → Mode
-  -- behind it
+  -- after it
   closed : Declared → Mode
 
 -- what a token leads to
@@ -132,10 +132,10 @@ to_end (Some d) = ends d
 
 abbrev pub held_step : Token → Second → Token → Second → Option Opening → Turn
 held_step a r t s None =
-    to_mode body (option_and_then (advance xquery t s) (advance xquery a r (start top)))
+    to_mode body (option_and_then (advance xquery t s) (advance xquery a r (start whole_expr)))
 held_step a r t s (Some o) = onto (head o [])
 
--- a key that may stand before the expression of a declaration
+-- a key that may come before the expression of a declaration
 abbrev pub is_head_key : Key → Bool
 is_head_key k =
     not (same_key key.Semicolon k) && (not (same_key key.Assign k)
@@ -165,7 +165,7 @@ to_value (Some v) = onto (value v start_single)
 
 abbrev pub to_inner : Option Signature → Turn
 to_inner None = refused
-to_inner (Some q) = onto (inner q (start top))
+to_inner (Some q) = onto (inner q (start whole_expr))
 
 abbrev pub head_step : Opening → List Token → Token → Turn
 head_step o us t =
@@ -190,7 +190,7 @@ inner_step q fs t (Some gs) = onto (inner q gs)
 
 abbrev pub step : Mode → Token → Second → Turn
 step front t s =
-    if may_open t then onto (held t s) else to_mode body (advance xquery t s (start top))
+    if may_open t then onto (held t s) else to_mode body (advance xquery t s (start whole_expr))
 step (held a r) t s = held_step a r t s (opening_of a t)
 step (head o us) t s = head_step o us t
 step (body fs) t s = to_mode body (advance xquery t s fs)
@@ -203,7 +203,7 @@ step (closed d) t s = if fits_key key.Semicolon t then ends d else refused
 
 -- the value of the body, where the query may end here
 abbrev pub ended : Mode → Option Raw
-ended (held a r) = option_and_then finish (advance xquery a r (start top))
+ended (held a r) = option_and_then finish (advance xquery a r (start whole_expr))
 ended (body fs) = finish fs
 ended _ = None
 

@@ -1,14 +1,14 @@
 -- The grammar of queries over tokens (XQuery 1.0, A.1): their declarations, each with a semicolon
--- behind it, and an expression.
+-- after it, and an expression.
 use Rattle.std.specs.Prelude.{◌≡◌, Bool, true, false, ◌&&◌, codes, if◌then◌else◌}
 use Rattle.std.specs.Prelude.{List, [], ◌∷◌, Option, Some, None}
-use Rattle.expr_terms.specs.declared.tokens.Token.{Token}
-use Rattle.expr_terms.specs.declared.tokens.Token.TheVariants as token
-use Rattle.expr_terms.specs.declared.keys.Key.TheVariants as key
+use Rattle.expr_keys.specs.declared.tokens.Token.{Token}
+use Rattle.expr_keys.specs.declared.tokens.Token.TheVariants as token
+use Rattle.expr_keys.specs.declared.keys.Key.TheVariants as key
 use Rattle.expr_terms.specs.declared.raws.Raw.{Raw}
-use Rattle.expr_terms.specs.declared.productions.Language.TheVariants.{Xquery as xquery}
-use Rattle.expr_terms.specs.declared.productions.Nonterminal.TheVariants.{Single as single}
-use Rattle.expr_terms.specs.Tokens.{fits_key, fits_name, fits_function}
+use Rattle.expr_keys.specs.declared.productions.Language.TheVariants.{Xquery as xquery}
+use Rattle.expr_keys.specs.declared.productions.Nonterminal.TheVariants.{ExprSingle as expr_single}
+use Rattle.expr_keys.specs.Tokens.{fits_key, fits_name, fits_function}
 use Rattle.expr_grammar.specs.Grammar.{Derives, Spells, SpellsType}
 use Rattle.query_grammar.specs.declared.declared.Opening.TheVariants as opening
 use Rattle.query_grammar.specs.declared.declared.Opening.{Opening}
@@ -57,7 +57,7 @@ pub data IsSignature : List Token → Token → List Typed → Option Raw → Ty
       → Cut (token.Key key.CloseParen) ts inside us → MayBeParams us ps → IsTyping ts k
       → IsSignature (q ∷ o ∷ inside) q ps k
 
--- what may stand behind the two words of a declaration
+-- what may come after the two words of a declaration
 pub data IsBehind : Opening → List Token → Declared → Type 0 where
   short : {o : Opening} {us : List Token} {d : Declared} → short_of o us ≡ Some d →
       IsBehind o us d
@@ -66,7 +66,7 @@ pub data IsBehind : Opening → List Token → Declared → Type 0 where
       → is_named (codes "external") x ≡ true
       → IsBehind opening.Variable us (declared.Variable v None)
   valued : {us hd ts : List Token} {v : Typed} {w : Raw} → Cut (token.Key key.Assign) ts us hd
-      → IsTyped hd v → Derives xquery single ts w []
+      → IsTyped hd v → Derives xquery expr_single ts w []
       → IsBehind opening.Variable us (declared.Variable v (Some w))
   -- FunctionDecl = "declare" "function" .. "{" Expr "}"
   defined : {us hd inside ts : List Token} {q : Token} {ps : List Typed} {k : Option Raw} {w : Raw}
@@ -85,7 +85,7 @@ pub data IsQuery : List Token → List Declared → Raw → Type 0 where
       → Cut (token.Key key.Semicolon) more ts us → IsDeclaration us d → IsQuery more ds v
       → IsQuery ts (d ∷ ds) v
 
--- namespaces and setters stand before variables, functions and options
+-- namespaces and setters come before variables, functions and options
 abbrev pub is_late : Declared → Bool
 is_late (declared.Setting n t) = true
 is_late (declared.Variable v w) = true

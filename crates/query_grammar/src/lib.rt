@@ -1,20 +1,21 @@
 //! The grammar of queries over tokens (XQuery 1.0, 4 and A.1). Definitions and laws alone.
 //!
-//! `specs/Prolog` has the relation: a query is its declarations, each with a semicolon behind it,
-//! and an expression; what may stand in one is the grammar of expressions'. `specs/Machine` has a
+//! `specs/Prolog` has the relation: a query is its declarations, each with a semicolon after it,
+//! and an expression; what may be in one is the grammar of expressions'. `specs/Machine` has a
 //! reader, token by token, as a pure function. The laws say that the two are one.
 #![tactic(auto)]
 
 ghost use Rattle.std.specs.Prelude.{◌≡◌, ◌↔◌, ℕ, List, ◌∷◌, Some, None, true, false};
-ghost use Rattle.expr_terms.specs.declared.tokens.Token.{Token};
+ghost use Rattle.expr_keys.specs.declared.tokens.Token.{Token};
 ghost use Rattle.query_grammar.specs.Prolog.{SpellsQuery};
-ghost use Rattle.expr_terms.specs.declared.tokens.Token.TheVariants.{Key as key, Outer as outer};
-ghost use Rattle.expr_terms.specs.declared.keys.Key.TheVariants.{Less as less, Slash as slash};
+ghost use Rattle.expr_keys.specs.declared.tokens.Token.TheVariants.{Key as key, StartTagOpen as start_tag_open};
+ghost use Rattle.expr_keys.specs.declared.keys.Key.TheVariants.{Less as less, Slash as slash};
 ghost use Rattle.expr_terms.specs.Choices.{second_of};
 ghost use Rattle.query_grammar.specs.Machine.{read_query, Mode, step, wants, is_lone, Leads};
 ghost use Rattle.query_grammar.specs.Machine.{refused, onto};
 
 mod declared;
+pub mod query_places;
 
 pub use declared::{Declared, Opening, RawQuery, Signature, Typed};
 
@@ -34,11 +35,11 @@ pub fn spells_one()
 
 /// Where no operand may come next the reader takes no front of a direct element.
 pub fn elements_are_operands()
-    ensures { (m : Mode) (p n : List ℕ) (ts : List Token) → Leads m (outer p n ∷ ts)
-        → wants m ≡ false → step m (outer p n) (second_of ts) ≡ refused }
+    ensures { (m : Mode) (p n : List ℕ) (ts : List Token) → Leads m (start_tag_open p n ∷ ts)
+        → wants m ≡ false → step m (start_tag_open p n) (second_of ts) ≡ refused }
 {}
 
-/// Where one may come next it takes no `<`, but behind a `/` that may stand alone.
+/// Where one may come next it takes no `<`, but after a `/` that may stand alone.
 pub fn no_operand_is_compared()
     ensures { (m : Mode) (ts : List Token) → Leads m (key less ∷ ts) → wants m ≡ true
         → is_lone m ≡ false → step m (key less) (second_of ts) ≡ refused }

@@ -12,7 +12,7 @@ unfolding word_and
 word_first ws [] vs = append_assoc ws [] vs
 word_first ws (c ∷ cs) vs = append_assoc ws ((c ∷ cs) ∷ []) vs
 
--- behind white space a new word begins
+-- after white space a new word begins
 pub white_char : (ws more : List (List ℕ)) (w v : List ℕ) (c : ℕ) (cs : List ℕ) → is_white c ≡ true
     → more ≡ ws ++ word_and w [] → v ≡ [] → more ++ words_in v cs ≡ ws ++ words_in w (c ∷ cs)
 white_char ws more w v c cs e m n = rw (e, m, n) (word_first ws w (words_in [] cs))
@@ -24,7 +24,7 @@ other_char ws more w v c cs e m n = rw (e, m, n) refl
 
 pub ruleset turns = (white_char, other_char)
 
-true_is_false : true ≡ false → ⊥
+pub true_is_false : true ≡ false → ⊥
 true_is_false e = cc
 
 pub empty_word : (ws : List (List ℕ)) (w v : List ℕ) (b : Bool) → v ≡ w → b ≡ is_empty_text v

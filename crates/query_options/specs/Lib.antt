@@ -1,4 +1,4 @@
 pub mod Words
 pub mod Spaces
 pub mod Options
-pub use Rattle.expr_meant.specs as ExprMeant
+pub use Rattle.expr_rules.specs as ExprRules

@@ -5,8 +5,8 @@ use Rattle.xt_names.specs.declared.names.Binding.{Binding}
 use Rattle.xt_names.specs.declared.names.ExprName.{ExprName}
 use Rattle.xt_names.specs.declared.codes.Code.{Code}
 use Rattle.expr_names.specs.Names.{undeclared_in, expr_name}
-use Rattle.expr_meant.specs.ExprTerms.declared.tokens.Token.{Token}
-use Rattle.expr_meant.specs.Names.{written_in}
+use Rattle.expr_keys.specs.declared.tokens.Token.{Token}
+use Rattle.expr_rules.specs.ExprMeant.Names.{written_in}
 use Rattle.query_options.specs.Spaces.{not_taken, space_broken, space_meant}
 use Rattle.query_options.specs.declared.effects.Effect.{Effect}
 use Rattle.query_options.specs.declared.effects.Effect.TheVariants as effect
@@ -41,7 +41,7 @@ effect_broken bound seen text effect.Space = twice_broken seen.has_space ++ spac
 effect_broken bound seen text effect.Declaration = twice_broken seen.omit ++ omit_broken text
 effect_broken bound seen text effect.Nothing = []
 
--- the rules that an option breaks behind others
+-- the rules that an option breaks after others
 abbrev pub option_broken : List Binding → Options → Token → List ℕ → List Code
 option_broken bound seen name text =
     undeclared_in bound (written_in name)

@@ -15,7 +15,7 @@ mod tests_of_words;
 mod words;
 
 pub use effects::{Effect, effect_of};
-pub use expr_meant;
+pub use expr_rules;
 pub use options::{Options, no_options, with_option};
 pub use rules::space_rules;
 pub use tests_of_words::written_test;

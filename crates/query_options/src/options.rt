@@ -1,5 +1,5 @@
 ghost use Rattle.std.specs.Prelude.{◌≡◌, ◌++◌, []};
-ghost use Rattle.expr_meant.specs.Names.{written_in};
+ghost use Rattle.expr_rules.specs.ExprMeant.Names.{written_in};
 ghost use Rattle.expr_names.specs.Answers.{Answers};
 ghost use Rattle.expr_names.specs.Names.{undeclared_in, expr_name};
 ghost use Rattle.query_options.specs.Options.{no_options, twice_broken, omit_broken};
@@ -9,10 +9,10 @@ ghost use Rattle.query_options.specs.Options.{with_effect, with_option};
 use crate::effects::{Effect, effect_of};
 use crate::rules::{refused, space_rules};
 use bound_prefixes::BoundPrefixes;
-use expr_meant::expr_terms::Token;
-use expr_meant::written_in;
 use expr_names::xt_types::SpaceRule;
 use expr_names::{ResolveFault, expr_name, no_text};
+use expr_rules::expr_meant::written_in;
+use expr_rules::expr_terms::Token;
 use std::alloc::Global;
 use xt_names::{ExprName, List, Text, is_ascii_text};
 

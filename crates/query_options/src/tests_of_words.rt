@@ -1,8 +1,7 @@
 // Name tests of their texts.
 ghost use Rattle.std.specs.Prelude.{◌≡◌, IfOk};
 ghost use Rattle.std.specs.Str.{chars};
-ghost use Rattle.query_options.specs.Spaces.{bare_test, test_of_any, test_of_prefix};
-ghost use Rattle.query_options.specs.Spaces.{parted_test, written_test};
+ghost use Rattle.query_options.specs.Spaces.{bare_test, test_of_any, test_of_prefix, parted_test, written_test};
 
 use expr_names::{Written, WrittenTest, no_text};
 use std::alloc::{AllocError, Global};
@@ -10,7 +9,7 @@ use text_operations::split_at_first;
 use xt_names::{Text, is_ascii_text, is_ncname};
 
 /// The name test that the word writes (XPath 2.0, 3.2.1.2), where it writes one.
-#[tactic(auto, using(crate::proofs::TextLemmas::colon_chars), unfolding(crate::specs::Spaces::written_test))]
+#[tactic(auto, using(xt_names::proofs::TextLemmas::colon_chars), unfolding(crate::specs::Spaces::written_test))]
 pub fn written_test(alloc: Global, text: &str) -> Result<Option<WrittenTest>, AllocError>
     ensures { IfOk result (λ test. test ≡ written_test (chars text.now)) }
 {

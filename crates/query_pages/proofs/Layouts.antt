@@ -3,13 +3,13 @@ use Rattle.std.proofs.Common.{◌≡◌, ◌<◌, ◌≤◌, ℕ, ◌-◌, zero,
 use Rattle.std.proofs.Common.{refl, ap}
 use Rattle.std.proofs.lemmas.List.{get_or_default, get_or_past}
 use Rattle.std.specs.List.{list_all}
-use Rattle.xpath_lex.specs.Classes.{is_space}
-use Rattle.expr_terms.specs.declared.tokens.Token.{Token}
-use Rattle.token_texts.specs.Texts.{is_gap, IsLayout, text_of}
+use Rattle.expr_keys.specs.declared.tokens.Token.{Token}
+use Rattle.query_pages.specs.TokenTexts.Texts.{is_gap, IsLayout, text_of}
 use Rattle.query_pages.specs.declared.gaps.Gap.{Gap}
 use Rattle.query_pages.specs.declared.gaps.Gap.TheVariants as gap
 use Rattle.query_pages.specs.Gaps.{spaces, gap_text}
 use Rattle.query_pages.specs.Laid.{gap_at, laid, IsTextOf}
+use Rattle.xt_names.specs.Characters.{is_space}
 
 all_spaces : (n : ℕ) → list_all is_space (spaces n) ≡ true
 unfolding is_space

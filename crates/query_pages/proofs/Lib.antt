@@ -1,2 +1,4 @@
 pub mod Pushed
 pub mod Layouts
+pub mod TokenTexts
+pub mod TokenWriter

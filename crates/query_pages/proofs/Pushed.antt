@@ -1,4 +1,4 @@
--- A token that is put onto a page stands before the others.
+-- A token that is put onto a page comes before the others.
 use Rattle.std.proofs.Common.{◌≡◌, List, [], ◌∷◌, ◌++◌, map, ap}
 use Rattle.std.proofs.lemmas.List.{reverse-append}
 use Rattle.query_pages.specs.declared.placed.Placed.{Placed}

@@ -1,4 +1,4 @@
--- What stands before a token: a space, or a new line and spaces.
+-- What comes before a token: a space, or a new line and spaces.
 use Rattle.std.specs.Prelude.{ℕ, zero, suc, List, [], ◌∷◌}
 use Rattle.query_pages.specs.declared.gaps.Gap.{Gap}
 use Rattle.query_pages.specs.declared.gaps.Gap.TheVariants as gap

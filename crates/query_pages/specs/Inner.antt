@@ -1,10 +1,10 @@
 -- The front of an element as one within the content of another.
 use Rattle.std.specs.Prelude.{List, [], ◌∷◌}
-use Rattle.expr_terms.specs.declared.tokens.Token.{Token}
-use Rattle.expr_terms.specs.declared.tokens.Token.TheVariants as token
+use Rattle.expr_keys.specs.declared.tokens.Token.{Token}
+use Rattle.expr_keys.specs.declared.tokens.Token.TheVariants as token
 
 abbrev pub inner : Token → Token
-inner (token.Outer p n) = token.Inner p n
+inner (token.StartTagOpen p n) = token.ChildTagOpen p n
 inner t = t
 
 -- .. where it is the first of the tokens

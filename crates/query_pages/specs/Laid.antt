@@ -1,8 +1,8 @@
--- The text of tokens where it is told what stands before each of them, and that a text is one of
+-- The text of tokens where it is told what comes before each of them, and that a text is one of
 -- the texts of tokens (XQuery 1.0, A.2).
 use Rattle.std.specs.Prelude.{◌≡◌, ℕ, ◌-◌, List, length, get_or}
-use Rattle.expr_terms.specs.declared.tokens.Token.{Token}
-use Rattle.token_texts.specs.Texts.{Layout, IsLayout, text_of}
+use Rattle.expr_keys.specs.declared.tokens.Token.{Token}
+use Rattle.query_pages.specs.TokenTexts.Texts.{Layout, IsLayout, text_of}
 use Rattle.query_pages.specs.declared.gaps.Gap.{Gap}
 use Rattle.query_pages.specs.declared.gaps.Gap.TheVariants as gap
 use Rattle.query_pages.specs.Gaps.{gap_text}

@@ -1,6 +1,6 @@
 // What tokens and pieces do to what is open.
 ghost use Rattle.std.specs.Prelude.{◌≡◌};
-ghost use Rattle.token_texts.specs.Texts.{token_change, piece_change};
+ghost use Rattle.query_pages.specs.TokenTexts.Texts.{token_change, piece_change};
 
 use expr_terms::{Key, Token};
 use query_pieces::{Change, Context, Quote};
@@ -10,7 +10,7 @@ pub(crate) fn token_change(token: &Token) -> Change
     ensures { result ≡ token_change token.now }
 {
     match token {
-        Token::Outer(_, _) => Change::Enters(Context::Tag),
+        Token::StartTagOpen(_, _) => Change::Enters(Context::Tag),
         Token::Key(Key::OpenBrace) => Change::Enters(Context::Enclosed),
         Token::Key(Key::CloseBrace) => Change::Leaves,
         _ => Change::Stays,
@@ -22,13 +22,13 @@ pub(crate) fn piece_change(token: &Token) -> Change
     ensures { result ≡ piece_change token.now }
 {
     match token {
-        Token::Inner(_, _) => Change::Enters(Context::Tag),
+        Token::ChildTagOpen(_, _) => Change::Enters(Context::Tag),
         Token::Attribute(_, _) => Change::Enters(Context::Attribute(Quote::Double)),
-        Token::Unquote => Change::Leaves,
+        Token::AttributeEnd => Change::Leaves,
         Token::TagEnd => Change::Becomes(Context::Content),
         Token::EmptyEnd => Change::Leaves,
-        Token::Shut(_, _) => Change::Leaves,
-        Token::Enter => Change::Enters(Context::Enclosed),
+        Token::EndTag(_, _) => Change::Leaves,
+        Token::EnclosedOpen => Change::Enters(Context::Enclosed),
         _ => Change::Stays,
     }
 }

@@ -1,11 +1,11 @@
-// What stands before a token.
+// What comes before a token.
 ghost use Rattle.std.specs.Prelude.{◌≡◌, ◌++◌, OnOk};
 ghost use Rattle.query_pages.specs.Gaps.{spaces, gap_text};
 
 use std::alloc::AllocError;
 use xt_names::TextBuilder;
 
-/// What stands before a token of expressions.
+/// What comes before a token of expressions.
 #[derive(Clone, Copy)]
 pub enum Gap {
     /// One space.
@@ -27,7 +27,7 @@ fn push_spaces(out: &mut TextBuilder, count: u8) -> Result<(), AllocError>
     Ok(())
 }
 
-/// Writes what stands before a token.
+/// Writes what comes before a token.
 pub(crate) fn push_gap(out: &mut TextBuilder, gap: Gap) -> Result<(), AllocError>
     ensures { OnOk result (out.new ≡ out.old ++ gap_text gap) }
 {

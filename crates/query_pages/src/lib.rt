@@ -3,7 +3,7 @@
 //! A page is filled from its end: each token is put before those that are there, as the definition
 //! of the tokens of an expression has it. With a token stands what is wanted before it: a space, a
 //! space where a line may end, or a new line. In the text lines end where they are told to and,
-//! where they may, before they would pass some hundred columns. Whatever stands between them, the
+//! where they may, before they would pass some hundred columns. Whatever is between them, the
 //! text is one of the texts of the tokens.
 //!
 //! Example: `)`, `1` and `(`, put onto an empty page in this order, are the text `( 1 )`.
@@ -16,6 +16,8 @@ mod pages;
 mod placed;
 mod stacks;
 mod texts;
+pub mod token_texts;
+pub mod token_writer;
 
 pub use gaps::Gap;
 pub use pages::Page;

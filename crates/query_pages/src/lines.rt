@@ -36,27 +36,27 @@ fn width(token: &Token) -> usize {
         Token::AnyPrefix(n) => text_width(n).saturating_add(2),
         Token::Digits(n) => number_width(*n),
         Token::Quoted(text) => text_width(text).saturating_add(2),
-        Token::Outer(p, n) => text_width(p)
+        Token::StartTagOpen(p, n) => text_width(p)
             .saturating_add(text_width(n))
             .saturating_add(2),
-        Token::Inner(p, n) => text_width(p)
+        Token::ChildTagOpen(p, n) => text_width(p)
             .saturating_add(text_width(n))
             .saturating_add(2),
         Token::Attribute(p, n) => text_width(p)
             .saturating_add(text_width(n))
             .saturating_add(4),
-        Token::Shut(p, n) => text_width(p)
+        Token::EndTag(p, n) => text_width(p)
             .saturating_add(text_width(n))
             .saturating_add(4),
         Token::Chars(text, _) => text_width(text),
         Token::EmptyEnd => 2,
-        Token::Unquote => 1,
+        Token::AttributeEnd => 1,
         Token::TagEnd => 1,
-        Token::Enter => 1,
+        Token::EnclosedOpen => 1,
     }
 }
 
-/// What stands before a token of this width, where so many columns are full.
+/// What comes before a token of this width, where so many columns are full.
 fn settled(gap: Gap, column: usize, width: usize) -> Gap {
     match gap {
         Gap::Space => Gap::Space,
@@ -71,7 +71,7 @@ fn settled(gap: Gap, column: usize, width: usize) -> Gap {
     }
 }
 
-/// How many columns are full behind the token.
+/// How many columns are full after the token.
 fn behind(gap: Gap, column: usize, width: usize) -> usize {
     match gap {
         Gap::Line(indent) => usize::from(indent).saturating_add(width),
@@ -80,7 +80,7 @@ fn behind(gap: Gap, column: usize, width: usize) -> usize {
     }
 }
 
-/// What stands before each token, the first token first.
+/// What comes before each token, the first token first.
 pub(crate) fn gaps_of(alloc: Global, items: &[Placed]) -> Result<Vec<Gap>, AllocError> {
     let mut gaps = Vec::with_capacity(alloc, items.len())?;
     let mut column = 0;

@@ -1,6 +1,6 @@
 // Pages.
 ghost use Rattle.std.specs.Prelude.{◌≡◌, ◌∷◌, [], OnOk, IfOk, MatchOption};
-ghost use Rattle.expr_terms.specs.declared.tokens.Token.TheVariants as token_of;
+ghost use Rattle.expr_keys.specs.declared.tokens.Token.TheVariants as token_of;
 ghost use Rattle.query_pages.specs.Inner.{inner, with_inner};
 ghost use Rattle.query_pages.specs.Laid.{IsTextOf};
 
@@ -22,7 +22,7 @@ pub struct Page {
 
 impl Model for Page {
     ghost use Rattle.std.specs.Prelude.{List};
-    ghost use Rattle.expr_terms.specs.declared.tokens.Token.{Token};
+    ghost use Rattle.expr_keys.specs.declared.tokens.Token.{Token};
     ghost use Rattle.query_pages.specs.Placed.{tokens_of};
 
     ghost Value = { List Token };
@@ -35,7 +35,7 @@ fn inner(token: Token) -> Token
     ensures { result ≡ inner token }
 {
     match token {
-        Token::Outer(prefix, local) => Token::Inner(prefix, local),
+        Token::StartTagOpen(prefix, local) => Token::ChildTagOpen(prefix, local),
         other => other,
     }
 }

@@ -1,7 +1,7 @@
 // What is open where a text is written.
 ghost use Rattle.std.specs.Prelude.{◌≡◌, ◌∷◌, [], OnOk, MatchOption};
 ghost use Rattle.query_pieces.specs.Points.{changed, outside, in_expression};
-ghost use Rattle.token_texts.specs.Texts.{innermost};
+ghost use Rattle.query_pages.specs.TokenTexts.Texts.{innermost};
 
 use query_pieces::{Change, Context};
 use std::alloc::{AllocError, Global};

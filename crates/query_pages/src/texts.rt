@@ -1,7 +1,7 @@
 // The text of tokens.
 ghost use Rattle.std.specs.Prelude.{◌≡◌, ◌++◌, IfOk, OnOk, length};
-ghost use Rattle.token_texts.specs.Spellings.{token_text};
-ghost use Rattle.token_texts.specs.Texts.{text_of, behind_token};
+ghost use Rattle.query_pages.specs.TokenTexts.Spellings.{token_text};
+ghost use Rattle.query_pages.specs.TokenTexts.Texts.{text_of, behind_token};
 ghost use Rattle.query_pages.specs.Gaps.{gap_text};
 ghost use Rattle.query_pages.specs.Laid.{gap_at, laid, IsTextOf};
 ghost use Rattle.query_pages.specs.Nexts.{next_text, next_open};
@@ -11,9 +11,9 @@ use crate::changes::{piece_change, token_change};
 use crate::gaps::{Gap, push_gap};
 use crate::placed::Placed;
 use crate::stacks::Stack;
+use crate::token_writer::{push_piece, push_token};
 use expr_terms::Token;
 use std::alloc::{AllocError, Global};
-use token_writer::{push_piece, push_token};
 use xt_names::{Text, TextBuilder};
 
 /// The gap at the place; a space where there is none.
@@ -43,7 +43,7 @@ fn push_first(
     Ok(())
 }
 
-/// Writes a token with what stands before it, or a piece.
+/// Writes a token with what comes before it, or a piece.
 fn push_next(
     alloc: Global,
     out: &mut TextBuilder,

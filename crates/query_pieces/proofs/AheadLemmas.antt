@@ -1,4 +1,4 @@
--- What is left behind the tokens of a text.
+-- What is left after the tokens of a text.
 use Rattle.std.proofs.Common.{◌≡◌, ℕ, ◌+◌, List, [], ◌∷◌, ◌++◌, length, length-append, take, drop}
 use Rattle.std.proofs.Common.{Bool, true, false, refl, sym, ap, ◌∙◌, append_assoc, arith}
 use Rattle.std.proofs.Math.Seq.{drop-append_seam}
@@ -15,7 +15,7 @@ scalars_behind : (front rest : List ℕ) → all_scalars (front ++ rest) ≡ tru
 scalars_behind [] rest h = h
 scalars_behind (c ∷ cs) rest h = scalars_behind cs rest (and_parts _ _ h).1
 
--- the bytes that stand behind the first characters are a text
+-- the bytes that come after the first characters are a text
 pub record Cut (text rest : List ℕ) (to : ℕ) : Type 0 where
   pub bytes : drop to text ≡ encode_utf8_all rest
   pub boundary : IsCharBoundary text to
@@ -62,7 +62,7 @@ gap_front (comment {rest = rest} c g) =
           ∙ sym (append_assoc x.0 y.0 rest)),
     )
 
--- what stands before the rest that a token leaves
+-- what comes before the rest that a token leaves
 pub token_front : (total : ℕ) (b : Bool) (ts rest : List ℕ) (u : Placed)
     → TokenAt total b ts u rest → (front : List ℕ) × (ts ≡ front ++ rest)
 token_front total b ts rest u at =

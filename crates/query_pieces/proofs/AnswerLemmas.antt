@@ -1,15 +1,14 @@
 -- What the reader tells of the point where it stands.
 use Rattle.std.proofs.Common.{◌≡◌, ℕ, List, [], ◌∷◌, Bool, true, false, ◌==◌, Some, None, Result}
 use Rattle.std.proofs.Common.{Ok, Err, IfOk, refl, sym, ap, ◌∙◌}
-use Rattle.xpath_lex.specs.Classes.{is_space, starts_name}
 use Rattle.xt_names.specs.Classes.{is_in_ranges}
 use Rattle.xpath_lex.specs.Gaps.{Gap, space, comment}
 use Rattle.xpath_lex.specs.Readings.{Placed, size, TokenAt, IsOver, FaultAt}
-use Rattle.xpath_lex.proofs.CharacterFacts.{no, open_name}
+use Rattle.xpath_lex.proofs.CharacterFacts.{open_name}
 use Rattle.xpath_lex.proofs.ReadingLemmas.{token_not_over, fault_no_token, fault_not_over}
 use Rattle.xpath_lex.specs.declared.lexing.TokenKind.{TokenKind}
-use Rattle.expr_terms.specs.declared.tokens.Token.{Token}
-use Rattle.expr_terms.specs.declared.tokens.Token.TheVariants as token
+use Rattle.expr_keys.specs.declared.tokens.Token.{Token}
+use Rattle.expr_keys.specs.declared.tokens.Token.TheVariants as token
 use Rattle.query_pieces.specs.Points.{Context, tag, Before, integer, slash_key, other, Change}
 use Rattle.query_pieces.specs.Points.{enters, Point, is_enclosed, in_expression, change_of, moved}
 use Rattle.query_pieces.specs.Fronts.{name_at}
@@ -20,8 +19,9 @@ use Rattle.query_pieces.specs.Answers.{IsStuck, Answers, Stays}
 use Rattle.query_pieces.specs.declared.pieces.Found.{Found}
 use Rattle.query_pieces.specs.declared.pieces.Found.TheVariants as found
 use Rattle.std.proofs.lemmas.Bool.{eqb-true}
-use Rattle.query_pieces.proofs.FrontLemmas.{either}
 use Rattle.query_pieces.proofs.ReadingLemmas.{outside_elements, next_one, same_opens}
+use Rattle.xt_names.specs.Characters.{is_space, starts_name}
+use Rattle.xt_names.proofs.BoolLemmas.{no, either}
 
 space_name : (c : ℕ) → is_space c ≡ true → starts_name c ≡ false
 unfolding is_space starts_name is_in_ranges
@@ -123,7 +123,7 @@ stuck_piece operand p x xs l h f = record {
       let top : x ≡ c = cc in
       let pieces : None ≡ Some d = sym f ∙ ap (λ v. piece_at v p.rest) top ∙ z in cc
 
--- where the code went behind a token
+-- where the code went after a token
 
 abbrev pub Went : {E : Type 0} → Result Found E → Point → Point → Token → Change → List ℕ → Type 0
 Went r p q t change rest = IfOk r (λ f. (f ≡ found.Token t) × (q ≡ moved p t change rest))
@@ -148,7 +148,7 @@ spell_stuck p kind cs rest f operand u n k c o = stuck_token operand p u rest n 
     (← k, ← c) s))
 
 pub open_goes : {E : Type 0} (r : Result Found E) (p q : Point) (prefix local : List ℕ)
-    (rest left : List ℕ) → Went r p q (token.Outer prefix local) (enters tag) left
+    (rest left : List ℕ) → Went r p q (token.StartTagOpen prefix local) (enters tag) left
     → name_at rest ≡ Some (record { prefix = prefix; local = local; rest = left })
     → IfOk r (λ f. (operand : Bool) (u : Placed) → IsNext p u rest
     → opens operand p.before u.characters rest ≡ true → Answers operand p f q)

@@ -4,15 +4,13 @@ use Rattle.std.proofs.Common.{◌≡◌, ℕ, List, [], ◌∷◌, Bool, true, f
 use Rattle.std.proofs.Common.{subst, Option, Some, None}
 use Rattle.std.specs.Prelude.{codes}
 use Rattle.std.specs.Str.{bytes_eq, chars}
-use Rattle.xpath_lex.specs.Classes.{starts_name}
 use Rattle.xpath_lex.specs.Readings.{Placed, size, TokenAt, IsOver, FaultAt}
-use Rattle.xpath_lex.proofs.CharacterFacts.{no}
 use Rattle.xpath_lex.proofs.ReadingLemmas.{token_one, token_not_over, fault_no_token}
 use Rattle.xpath_lex.specs.declared.lexing.TokenKind.{TokenKind}
 use Rattle.expr_terms.specs.Choices.{second_of}
 use Rattle.expr_terms.specs.declared.choices.Second.{Second}
 use Rattle.expr_terms.specs.declared.choices.Second.TheVariants.{Alone as alone}
-use Rattle.expr_terms.specs.declared.tokens.Token.{Token}
+use Rattle.expr_keys.specs.declared.tokens.Token.{Token}
 use Rattle.query_pieces.specs.Points.{Context, Before, Point, in_expression, is_enclosed}
 use Rattle.query_pieces.specs.Fronts.{begins}
 use Rattle.query_pieces.specs.Aheads.{Leads, Sees}
@@ -22,6 +20,8 @@ use Rattle.query_pieces.specs.Readings.{may_open, opens, IsNext, Reads, spelled,
 use Rattle.query_pieces.specs.Readings.{Splits}
 use Rattle.query_pieces.proofs.AnswerLemmas.{point}
 use Rattle.query_pieces.proofs.PlainLemmas.{element_alone, second_over, second_fault, second_found}
+use Rattle.xt_names.specs.Characters.{starts_name}
+use Rattle.xt_names.proofs.BoolLemmas.{no}
 
 -- what is seen at the point, by what the code holds of it
 pub seen : (p : Point) (s : List Context) (b : Before) (ts : List ℕ) (a d : Ahead)
@@ -71,7 +71,7 @@ pub told_found : (n : Second) (cs rest : List ℕ) (kind : TokenKind)
 told_found n cs rest kind f p us i l split =
     second_found p p.contexts p.before p.rest rest cs kind us n refl i l f split
 
--- `<` comes next and directly behind it a name
+-- `<` comes next and directly after it a name
 abbrev pub fronts : List ℕ → List ℕ → Bool
 fronts cs rest = bytes_eq cs (codes "<") && begins starts_name rest
 

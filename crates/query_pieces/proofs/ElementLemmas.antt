@@ -1,7 +1,7 @@
 -- Runs of characters that stand for themselves, and what stands where there is none.
 use Rattle.std.proofs.Common.{◌≡◌, ℕ, List, [], ◌∷◌, Bool, true, false, Option, Some, None, Result}
 use Rattle.std.proofs.Common.{Ok, Err, IfOk, slice_get, refl, sym, subst}
-use Rattle.expr_terms.specs.declared.tokens.Token.{Token}
+use Rattle.expr_keys.specs.declared.tokens.Token.{Token}
 use Rattle.query_pieces.specs.Points.{Change}
 use Rattle.query_pieces.specs.Fronts.{run_of, rest_of}
 use Rattle.query_pieces.specs.Elements.{Piece, literal, run_or, Finds}

@@ -3,15 +3,14 @@ use Rattle.std.proofs.Common.{◌≡◌, ◌≤◌, ◌<◌, ℕ, List, [], ◌�
 use Rattle.std.proofs.Common.{◌==◌, Option, Some, None, MatchOption, OnSome, refl, sym, ap, ◌∙◌}
 use Rattle.std.proofs.Common.{append_assoc, append-nil, arith}
 use Rattle.std.proofs.lemmas.Bool.{eqb-true, false_from_ne_true}
-use Rattle.xpath_lex.specs.Classes.{is_name_char}
 use Rattle.query_pieces.specs.Fronts.{run_of, rest_of, eaten}
 use Rattle.query_pieces.specs.References.{decimal, hexadecimal, is_digit_of, closed, number_from}
 use Rattle.query_pieces.specs.References.{reference_from, reference_at}
 use Rattle.query_pieces.specs.Literals.{is_said, Says, over, itself, reference, line, return}
 use Rattle.query_pieces.specs.Literals.{Turns}
 use Rattle.query_pieces.specs.Elements.{line_end}
-use Rattle.xpath_lex.proofs.CharacterFacts.{no}
-use Rattle.query_pieces.proofs.FrontLemmas.{either}
+use Rattle.xt_names.specs.Characters.{is_name_char}
+use Rattle.xt_names.proofs.BoolLemmas.{no, either}
 
 -- what is still to be read completes the whole, and only so
 pub record Keeps (whole made now : List ℕ) : Type 0 where
@@ -62,7 +61,7 @@ pub keeps_none : (whole made now : List ℕ) → Keeps whole made now → ((said
     → Says now said → ⊥) → (said : List ℕ) → Says whole said → ⊥
 keeps_none whole made now k n said s = let b = k.back said s in n b.0 b.1
 
--- what stands behind a run is of another class
+-- what comes after a run is of another class
 pub rest_first : (p : ℕ → Bool) (old ts : List ℕ) (c : ℕ) → c ∷ ts ≡ rest_of p old → p c ≡ false
 rest_first p [] ts c e = cc
 rest_first p (d ∷ ds) ts c e =

@@ -2,8 +2,8 @@
 use Rattle.std.proofs.Common.{◌≡◌, ℕ, List, [], true, Some, None, refl}
 use Rattle.std.proofs.lemmas.Str.{chars-nil}
 use Rattle.std.specs.Str.{chars}
-use Rattle.xpath_lex.specs.Classes.{starts_name, is_name_char}
 use Rattle.query_pieces.specs.Fronts.{run_of, rest_of, begins, local_at, name_at}
+use Rattle.xt_names.specs.Characters.{starts_name, is_name_char}
 
 pub name_alone : (old mid new first : List ℕ) → begins starts_name old ≡ true
     → first ≡ run_of is_name_char old → mid ≡ rest_of is_name_char old → local_at mid ≡ None

@@ -1,13 +1,12 @@
 -- Numbers of references, digit by digit.
 use Rattle.std.proofs.Common.{◌≡◌, ◌≤◌, ◌<◌, ℕ, ◌+◌, ◌*◌, List, [], ◌∷◌, ◌++◌, Bool, true, false}
-use Rattle.std.proofs.Common.{◌&&◌, nat_le, Option, Some, None, refl, sym, ap, arith, inl, inr}
+use Rattle.std.proofs.Common.{◌&&◌, nat_le, Option, Some, None, refl, sym, ap, arith, inr}
 use Rattle.std.proofs.Common.{slice_get}
 use Rattle.std.proofs.lemmas.Bool.{lt-leb}
 use Rattle.std.specs.Char.{OutOfScalarRange}
-use Rattle.xt_names.specs.Classes.{is_in_ranges}
-use Rattle.xpath_lex.specs.Classes.{is_char}
 use Rattle.query_pieces.specs.References.{Base, decimal, hexadecimal, base_of, digit, value}
 use Rattle.query_pieces.specs.References.{char_of, numbered}
+use Rattle.xt_names.proofs.CharacterLemmas.{no_scalar}
 
 value-push : (b : Base) (n : ℕ) (cs : List ℕ) (c : ℕ)
     → value b n (cs ++ c ∷ []) ≡ value b n cs * base_of b + digit c
@@ -71,32 +70,6 @@ above a b n h = rw (lt-leb n b h) (no_second (nat_le a n)) where
   no_second : (x : Bool) → (x && false) ≡ false
   no_second true = refl
   no_second false = refl
-
--- a number that is no scalar value is no character
-pub no_scalar : (n : ℕ) → OutOfScalarRange n → is_char n ≡ false
-unfolding is_char is_in_ranges
-no_scalar n (inl h) =
-    rw (
-      above 0x9 0x9 n (omega arith),
-      above 0xA 0xA n (omega arith),
-      above 0xD 0xD n
-          (omega arith),
-      above 0x20 0xD7FF n (omega arith),
-      below 0xE000 0xFFFD n
-          (omega arith),
-      below 0x1_0000 0x10_FFFF n (omega arith),
-    ) refl
-no_scalar n (inr h) =
-    rw (
-      above 0x9 0x9 n (omega arith),
-      above 0xA 0xA n (omega arith),
-      above 0xD 0xD n
-          (omega arith),
-      above 0x20 0xD7FF n (omega arith),
-      above 0xE000 0xFFFD n
-          (omega arith),
-      above 0x1_0000 0x10_FFFF n (omega arith),
-    ) refl
 
 pub no_char : (n : ℕ) → OutOfScalarRange n → None ≡ char_of n
 no_char n h = rw (no_scalar n h) refl

@@ -1,14 +1,12 @@
 -- A piece of a direct element tells nothing of a word before it.
 use Rattle.std.proofs.Common.{◌≡◌, ℕ, List, [], ◌∷◌, Bool, true, false, ◌==◌, Option, Some, None}
 use Rattle.std.proofs.Common.{if◌then◌else◌, refl, sym}
-use Rattle.xpath_lex.specs.Classes.{is_space}
 use Rattle.xpath_lex.specs.Readings.{IsOver, FaultAt, TokenAt, Placed, size}
 use Rattle.xpath_lex.specs.declared.lexing.TokenKind.{TokenKind}
-use Rattle.xpath_lex.proofs.CharacterFacts.{no}
 use Rattle.expr_terms.specs.Choices.{second_of}
 use Rattle.expr_terms.specs.declared.choices.Second.{Second}
 use Rattle.expr_terms.specs.declared.choices.Second.TheVariants.{Alone as alone}
-use Rattle.expr_terms.specs.declared.tokens.Token.{Token}
+use Rattle.expr_keys.specs.declared.tokens.Token.{Token}
 use Rattle.query_pieces.specs.Fronts.{run_of, rest_of, begins, eaten, spaces, NameAt, name_at}
 use Rattle.query_pieces.specs.Points.{Quote, Context, enclosed, tag, attribute, content, Before}
 use Rattle.query_pieces.specs.Points.{Point, in_expression}
@@ -24,8 +22,9 @@ use Rattle.query_pieces.specs.Readings.{touches, IsNext, Reads, spelled, opened,
 use Rattle.query_pieces.specs.Readings.{over, reads}
 use Rattle.query_pieces.specs.Answers.{IsStuck}
 use Rattle.query_pieces.proofs.AnswerLemmas.{stuck_touch}
-use Rattle.query_pieces.proofs.FrontLemmas.{either}
 use Rattle.query_pieces.proofs.SecondLemmas.{Tells, over_alone, fault_alone}
+use Rattle.xt_names.specs.Characters.{is_space}
+use Rattle.xt_names.proofs.BoolLemmas.{no, either}
 
 abbrev Plain : Option Piece → Type 0
 Plain None = Unit {0}

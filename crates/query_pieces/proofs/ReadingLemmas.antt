@@ -5,19 +5,18 @@ use Rattle.std.proofs.lemmas.Bool.{and_parts}
 use Rattle.std.proofs.lemmas.Slice.Eq.{bytes_eq-Decides}
 use Rattle.std.specs.Prelude.{codes}
 use Rattle.std.specs.Str.{bytes_eq}
-use Rattle.xpath_lex.specs.Classes.{starts_name, is_single}
+use Rattle.xpath_lex.specs.Classes.{is_single}
 use Rattle.xpath_lex.specs.Tokens.{Begins, Longest}
 use Rattle.xpath_lex.specs.Tokens as lex
 use Rattle.xpath_lex.proofs.KindLemmas.{longest_one}
 use Rattle.xpath_lex.specs.declared.lexing.TokenKind.TheVariants.{Symbol}
-use Rattle.expr_terms.specs.declared.keys.Key.TheVariants as key
+use Rattle.expr_keys.specs.declared.keys.Key.TheVariants as key
 use Rattle.expr_tokens.specs.Terms.{term_of}
 use Rattle.xpath_lex.specs.Readings.{Placed, size}
-use Rattle.xpath_lex.proofs.CharacterFacts.{no}
 use Rattle.xpath_lex.proofs.ReadingLemmas.{token_one, token_not_over}
 use Rattle.xpath_lex.specs.declared.lexing.TokenKind.{TokenKind}
-use Rattle.expr_terms.specs.declared.tokens.Token.{Token}
-use Rattle.expr_terms.specs.declared.tokens.Token.TheVariants as token
+use Rattle.expr_keys.specs.declared.tokens.Token.{Token}
+use Rattle.expr_keys.specs.declared.tokens.Token.TheVariants as token
 use Rattle.query_pieces.specs.Points.{Context, enclosed, tag, attribute, content, Before, integer}
 use Rattle.query_pieces.specs.Points.{slash_key, other, enters, Point, is_enclosed, in_expression}
 use Rattle.query_pieces.specs.Points.{change_of, moved}
@@ -27,6 +26,8 @@ use Rattle.query_pieces.specs.Spellings.{is_literal, Spells, literal, others}
 use Rattle.query_pieces.specs.Elements.{Piece, piece_at}
 use Rattle.query_pieces.specs.Readings.{may_open, opens, IsNext, Reads, spelled, opened, parted}
 use Rattle.query_pieces.specs.Readings.{IsEnd}
+use Rattle.xt_names.specs.Characters.{starts_name}
+use Rattle.xt_names.proofs.BoolLemmas.{no}
 
 abbrev first_of : Option (ℕ × List ℕ) → ℕ
 first_of None = 0
@@ -65,7 +66,7 @@ spells_one k cs t u (literal h s e) (others g f) = no h g
 spells_one k cs t u (others h e) (literal g r f) = no g h
 spells_one k cs t u (others h e) (others g f) = let same : Some t ≡ Some u = sym e ∙ f in cc
 
--- no piece of a direct element stands between tokens of expressions
+-- no piece of a direct element is between tokens of expressions
 no_piece : (c : Context) (ts : List ℕ) (a : Piece) → is_enclosed c ≡ true
     → piece_at c ts ≡ Some a → ⊥
 no_piece enclosed ts a h e = cc
@@ -103,13 +104,13 @@ spelled_same p t u q r x y m n a b s z e f =
 
 opened_same : (p : Point) (t u : Token) (q r : Point) (x y : Placed) (m n : List ℕ)
     (v w : NameAt) → IsNext p x m → IsNext p y n → name_at m ≡ Some v → name_at n ≡ Some w
-    → t ≡ token.Outer v.prefix v.local → u ≡ token.Outer w.prefix w.local
+    → t ≡ token.StartTagOpen v.prefix v.local → u ≡ token.StartTagOpen w.prefix w.local
     → q ≡ moved p t (enters tag) v.rest → r ≡ moved p u (enters tag) w.rest → (t ≡ u) × (q ≡ r)
 opened_same p t u q r x y m n v w a b s z g h e f =
     let one = next_one p x y m n a b in
     let names : Some v ≡ Some w = sym s ∙ ap name_at one.1 ∙ z in
     let name : v ≡ w = cc in
-    let same : t ≡ u = g ∙ ap (λ (i : NameAt). token.Outer i.prefix i.local) name ∙ sym h in (
+    let same : t ≡ u = g ∙ ap (λ (i : NameAt). token.StartTagOpen i.prefix i.local) name ∙ sym h in (
       same,
       e ∙ ap (λ i. moved p i (enters tag) v.rest) same
           ∙ ap (λ (i : NameAt). moved p u (enters tag) i.rest) name ∙ sym f,
@@ -211,7 +212,7 @@ more_open b cs rest h =
     rw (slash_opens b parts.0, parts.1) refl
 
 pub reads_modes : (p : Point) (t u : Token) (q r : Point) → Reads true p t q → Reads false p u r
-    → ((t ≡ u) × (q ≡ r)) ⊎ ((prefix local : List ℕ) × (t ≡ token.Outer prefix local)
+    → ((t ≡ u) × (q ≡ r)) ⊎ ((prefix local : List ℕ) × (t ≡ token.StartTagOpen prefix local)
     × (u ≡ token.Key key.Less))
 reads_modes p t u q r (spelled {u = x} {rest = m} a o s e) (spelled {u = y} {rest = n} b k z f) =
     inl (spelled_same p t u q r x y m n a b s z e f)

@@ -2,21 +2,20 @@
 use Rattle.std.proofs.Common.{◌≡◌, ℕ, ℤ, List, [], ◌∷◌, Bool, true, false, Option, Some, None}
 use Rattle.std.proofs.Common.{option_map, refl, sym, ap, ◌∙◌}
 use Rattle.xpath_lex.specs.Readings.{Placed, size, TokenAt, IsOver, FaultAt}
-use Rattle.xpath_lex.proofs.CharacterFacts.{no}
 use Rattle.xpath_lex.proofs.ReadingLemmas.{token_not_over, fault_no_token}
 use Rattle.xpath_lex.specs.declared.lexing.TokenKind.{TokenKind}
 use Rattle.xpath_lex.specs.declared.lexing.TokenKind.TheVariants.{Integer, Literal, Word, QWord}
 use Rattle.xpath_lex.specs.declared.lexing.TokenKind.TheVariants.{AnyLocal, AnyPrefix, Symbol}
-use Rattle.expr_terms.specs.Keys.{is_worded}
-use Rattle.expr_terms.specs.Tokens.{fits_name, fits_key}
+use Rattle.expr_keys.specs.Keys.{is_worded}
+use Rattle.expr_keys.specs.Tokens.{fits_name, fits_key}
 use Rattle.expr_terms.specs.Choices.{second_key, second_token, open_next, second_of}
 use Rattle.expr_terms.specs.declared.choices.Second.{Second}
 use Rattle.expr_terms.specs.declared.choices.Second.TheVariants.{Alone as alone}
 use Rattle.expr_terms.specs.declared.choices.Second.TheVariants.{BeforeNamed as before_named}
-use Rattle.expr_terms.specs.declared.keys.Key.{Key}
-use Rattle.expr_terms.specs.declared.keys.Key.TheVariants as key
-use Rattle.expr_terms.specs.declared.tokens.Token.{Token}
-use Rattle.expr_terms.specs.declared.tokens.Token.TheVariants as token
+use Rattle.expr_keys.specs.declared.keys.Key.{Key}
+use Rattle.expr_keys.specs.declared.keys.Key.TheVariants as key
+use Rattle.expr_keys.specs.declared.tokens.Token.{Token}
+use Rattle.expr_keys.specs.declared.tokens.Token.TheVariants as token
 use Rattle.expr_tokens.specs.Terms.{qname_parts, word_or_name}
 use Rattle.expr_tokens.specs.Words.{key_of_word, key_of_symbol}
 use Rattle.query_pieces.specs.Points.{Context, other, stays, Point, in_expression, change_of_key}
@@ -26,6 +25,7 @@ use Rattle.query_pieces.specs.Seconds.{key_of, worded, is_name, second_by, is_br
 use Rattle.query_pieces.specs.Readings.{IsNext, Reads, spelled, opened, parted, Splits, over}
 use Rattle.query_pieces.specs.Readings.{reads}
 use Rattle.query_pieces.proofs.ReadingLemmas.{outside_elements, next_one, opens_less}
+use Rattle.xt_names.proofs.BoolLemmas.{no}
 
 -- whether the token is a name, and what it tells alone
 pub record Tells (t : Token) (b : Bool) (s : Second) : Type 0 where
@@ -164,7 +164,7 @@ brace_found s ts rest cs kind us b w (u, at, k, c) e f i split =
     let here : is_brace (second_by (key_of kind cs)) ≡ open_next us = rw (k, c) at told in
     e ∙ ap is_brace f ∙ here
 
--- nothing stands at a place where no token begins, nor at the end
+-- nothing is at a place where no token begins, nor at the end
 
 no_read : (p : Point) → ((u : Placed) (rest : List ℕ) → IsNext p u rest → ⊥)
     → in_expression p.contexts ≡ true → (operand : Bool) (t : Token) (q : Point)

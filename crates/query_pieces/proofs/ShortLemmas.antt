@@ -1,10 +1,9 @@
 -- Each token and piece takes something of the text.
 use Rattle.std.proofs.Common.{◌≡◌, ◌<◌, ◌≤◌, ℕ, List, [], ◌∷◌, length, Bool, true, false, ◌==◌}
 use Rattle.std.proofs.Common.{◌&&◌, Option, Some, None, if◌then◌else◌, refl, ap, arith}
-use Rattle.xpath_lex.specs.Classes.{is_space, starts_name, is_name_char}
 use Rattle.xpath_lex.specs.Readings.{size}
 use Rattle.xpath_lex.proofs.PlaceLemmas.{token_shorter}
-use Rattle.expr_terms.specs.declared.tokens.Token.{Token}
+use Rattle.expr_keys.specs.declared.tokens.Token.{Token}
 use Rattle.query_pieces.specs.Fronts.{run_of, rest_of, begins, eaten, spaces, NameAt, local_at}
 use Rattle.query_pieces.specs.Fronts.{name_with, name_at}
 use Rattle.query_pieces.specs.Points.{Quote, Context, enclosed, tag, attribute, content, Point}
@@ -17,11 +16,12 @@ use Rattle.query_pieces.specs.Elements.{equals_from, attribute_from, empty_end, 
 use Rattle.query_pieces.specs.Elements.{tag_mark, tag_piece, piece_at}
 use Rattle.query_pieces.specs.Elements as piece
 use Rattle.query_pieces.specs.Readings.{Reads, spelled, opened, parted}
-use Rattle.query_pieces.proofs.FrontLemmas.{either}
 use Rattle.query_pieces.proofs.LiteralLemmas.{rest_length, eaten_length, line_length}
 use Rattle.query_pieces.proofs.LiteralLemmas.{reference_length}
+use Rattle.xt_names.specs.Characters.{is_space, starts_name, is_name_char}
+use Rattle.xt_names.proofs.BoolLemmas.{either}
 
--- what is left behind a piece is no longer, or shorter
+-- what is left after a piece is no longer, or shorter
 abbrev Within : List ℕ → Option Piece → Type 0
 Within ts None = Unit {0}
 Within ts (Some a) = length a.rest ≤ length ts

@@ -1,7 +1,7 @@
 -- Literals as tokens.
 use Rattle.std.proofs.Common.{◌≡◌, ℕ, List, true, ◌∙◌, refl}
 use Rattle.xpath_lex.specs.declared.lexing.TokenKind.{TokenKind}
-use Rattle.expr_terms.specs.declared.tokens.Token.TheVariants as token
+use Rattle.expr_keys.specs.declared.tokens.Token.TheVariants as token
 use Rattle.expr_tokens.specs.Literals.{unquoted}
 use Rattle.query_pieces.specs.Literals.{Says}
 use Rattle.query_pieces.specs.Spellings.{is_literal, Spells, literal}

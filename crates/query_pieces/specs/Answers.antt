@@ -1,6 +1,6 @@
 -- What the reader of a query's text tells.
 use Rattle.std.specs.Prelude.{◌≡◌, Bool}
-use Rattle.expr_terms.specs.declared.tokens.Token.{Token}
+use Rattle.expr_keys.specs.declared.tokens.Token.{Token}
 use Rattle.query_pieces.specs.Points.{Point}
 use Rattle.query_pieces.specs.Readings.{Reads, IsEnd}
 use Rattle.query_pieces.specs.declared.pieces.Found.{Found}

@@ -5,15 +5,15 @@
 -- and a line end are a piece each. Pieces of any size mean the same.
 use Rattle.std.specs.Prelude.{◌≡◌, ℕ, List, [], ◌∷◌, Bool, true, false, not, ◌&&◌, ◌||◌, ◌==◌}
 use Rattle.std.specs.Prelude.{Option, Some, None, if◌then◌else◌}
-use Rattle.xpath_lex.specs.Classes.{is_space, is_char}
-use Rattle.expr_terms.specs.declared.tokens.Token.{Token}
-use Rattle.expr_terms.specs.declared.tokens.Token.TheVariants as token
+use Rattle.expr_keys.specs.declared.tokens.Token.{Token}
+use Rattle.expr_keys.specs.declared.tokens.Token.TheVariants as token
 use Rattle.query_pieces.specs.Fronts.{run_of, rest_of, begins, eaten, spaces, NameAt, name_at}
 use Rattle.query_pieces.specs.Points.{Quote, single, double, Context, enclosed, tag, attribute}
 use Rattle.query_pieces.specs.Points.{content, Change, stays, enters, becomes, leaves}
 use Rattle.query_pieces.specs.References.{reference_at}
+use Rattle.xt_names.specs.Characters.{is_space, is_char}
 
--- a piece, what it does to what is open, and what is left behind it
+-- a piece, what it does to what is open, and what is left after it
 pub record Piece : Type 0 where
   pub token : Token
   pub change : Change
@@ -36,7 +36,7 @@ of_reference (Some r) = Some (referred r)
 
 -- '{{' is a brace, and '{' begins an enclosed expression
 abbrev pub opened : Option (List ℕ) → List ℕ → Piece
-opened None ts = record { token = token.Enter; change = enters enclosed; rest = ts }
+opened None ts = record { token = token.EnclosedOpen; change = enters enclosed; rest = ts }
 opened (Some rest) ts = literal (123 ∷ []) rest
 
 -- '}}' is a brace, and '}' alone does not stand here
@@ -56,7 +56,7 @@ abbrev pub run_or : List ℕ → List ℕ → Option Piece → Option Piece
 run_or [] rest piece = piece
 run_or (c ∷ cs) rest piece = Some (literal (c ∷ cs) rest)
 
--- what is left behind the line feed that belongs to a carriage return (XML 1.0, 2.11)
+-- what is left after the line feed that belongs to a carriage return (XML 1.0, 2.11)
 abbrev pub behind_return : Option (List ℕ) → List ℕ → List ℕ
 behind_return None ts = ts
 behind_return (Some rest) ts = rest
@@ -69,11 +69,11 @@ line_end c ts = if c == 13 then behind_return (eaten 10 ts) ts else ts
 unfoldable pub is_content : ℕ → Bool
 is_content c = is_char c && not (c == 60 || c == 38 || c == 123 || c == 125 || c == 13)
 
--- an end tag, behind its name
+-- an end tag, after its name
 abbrev pub shut : NameAt → Option (List ℕ) → Option Piece
 shut n None = None
 shut n (Some rest) = Some (record {
-  token = token.Shut n.prefix n.local;
+  token = token.EndTag n.prefix n.local;
   change = leaves;
   rest =
       rest;
@@ -86,9 +86,9 @@ shut_from (Some n) = shut n (eaten 62 (spaces n.rest))
 abbrev pub inner_from : Option NameAt → Option Piece
 inner_from None = None
 inner_from (Some n) =
-    Some (record { token = token.Inner n.prefix n.local; change = enters tag; rest = n.rest })
+    Some (record { token = token.ChildTagOpen n.prefix n.local; change = enters tag; rest = n.rest })
 
--- '</' QName S? '>', or '<' QName, behind the '<'
+-- '</' QName S? '>', or '<' QName, after the '<'
 abbrev pub tag_from : Option (List ℕ) → List ℕ → Option Piece
 tag_from None ts = inner_from (name_at ts)
 tag_from (Some more) ts = shut_from (name_at more)
@@ -112,7 +112,7 @@ is_value q c =
 
 -- the quote doubled is a quote, and alone it ends the value
 abbrev pub quoted : ℕ → Option (List ℕ) → List ℕ → Piece
-quoted q None ts = record { token = token.Unquote; change = leaves; rest = ts }
+quoted q None ts = record { token = token.AttributeEnd; change = leaves; rest = ts }
 quoted q (Some rest) ts = literal (q ∷ []) rest
 
 -- white space is a space (XML 1.0, 3.3.3)
@@ -171,7 +171,7 @@ abbrev pub empty_or : Option (List ℕ) → Option Piece → Option Piece
 empty_or None other = other
 empty_or (Some ts) other = empty_end (eaten 62 ts)
 
--- '>', '/>', or behind white space an attribute
+-- '>', '/>', or after white space an attribute
 abbrev pub tag_mark : Bool → List ℕ → Option Piece
 tag_mark spaced ts =
     full_or (eaten 62 ts)
@@ -181,7 +181,7 @@ tag_mark spaced ts =
 abbrev pub tag_piece : List ℕ → Option Piece
 tag_piece ts = tag_mark (begins is_space ts) (spaces ts)
 
--- the piece that stands at the front of the text, in this context
+-- the piece that is at the front of the text, in this context
 abbrev pub piece_at : Context → List ℕ → Option Piece
 piece_at enclosed ts = None
 piece_at tag ts = tag_piece ts

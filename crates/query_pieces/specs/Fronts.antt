@@ -1,14 +1,14 @@
--- What stands at the front of a text, and what is left behind it.
+-- What is at the front of a text, and what is left after it.
 use Rattle.std.specs.Prelude.{ℕ, List, [], ◌∷◌, Bool, false, ◌==◌, ◌&&◌, Option, Some, None}
 use Rattle.std.specs.Prelude.{if◌then◌else◌}
-use Rattle.xpath_lex.specs.Classes.{is_space, starts_name, is_name_char}
+use Rattle.xt_names.specs.Characters.{is_space, starts_name, is_name_char}
 
 -- the characters of the class that come first
 abbrev pub run_of : (ℕ → Bool) → List ℕ → List ℕ
 run_of p [] = []
 run_of p (c ∷ ts) = if p c then c ∷ run_of p ts else []
 
--- .. and what is left behind them
+-- .. and what is left after them
 abbrev pub rest_of : (ℕ → Bool) → List ℕ → List ℕ
 rest_of p [] = []
 rest_of p (c ∷ ts) = if p c then rest_of p ts else c ∷ ts
@@ -18,7 +18,7 @@ abbrev pub begins : (ℕ → Bool) → List ℕ → Bool
 begins p [] = false
 begins p (c ∷ ts) = p c
 
--- what is left behind the character, if it comes first
+-- what is left after the character, if it comes first
 abbrev pub eaten : ℕ → List ℕ → Option (List ℕ)
 eaten c [] = None
 eaten c (d ∷ ts) = if d == c then Some ts else None
@@ -32,7 +32,7 @@ pub record NameAt : Type 0 where
   pub local : List ℕ
   pub rest : List ℕ
 
--- what is left behind a colon that a name directly follows
+-- what is left after a colon that a name directly follows
 abbrev pub local_at : List ℕ → Option (List ℕ)
 local_at [] = None
 local_at (c ∷ ts) = if c == 58 && begins starts_name ts then Some ts else None

@@ -1,13 +1,13 @@
 -- Where a reading of a query's text stands (XQuery 1.0, 3.7.1 and A.2).
 use Rattle.std.specs.Prelude.{ℕ, List, [], ◌∷◌, Bool, true, false}
-use Rattle.expr_terms.specs.declared.keys.Key.{Key}
-use Rattle.expr_terms.specs.declared.keys.Key.TheVariants.{
+use Rattle.expr_keys.specs.declared.keys.Key.{Key}
+use Rattle.expr_keys.specs.declared.keys.Key.TheVariants.{
   OpenBrace as open_brace,
   CloseBrace as close_brace,
   Slash as slash,
 }
-use Rattle.expr_terms.specs.declared.tokens.Token.{Token}
-use Rattle.expr_terms.specs.declared.tokens.Token.TheVariants as token
+use Rattle.expr_keys.specs.declared.tokens.Token.{Token}
+use Rattle.expr_keys.specs.declared.tokens.Token.TheVariants as token
 pub use Rattle.query_pieces.specs.declared.contexts.Quote.{Quote}
 pub use Rattle.query_pieces.specs.declared.contexts.Quote.TheVariants.{
   Single as single,
@@ -86,7 +86,7 @@ before_of (token.Key k) = before_of_key k
 before_of (token.Digits n) = integer
 before_of _ = other
 
--- behind the token, which left so much of the text
+-- after the token, which left so much of the text
 abbrev pub moved : Point → Token → Change → List ℕ → Point
 moved p t change rest = record {
   contexts = changed change p.contexts;

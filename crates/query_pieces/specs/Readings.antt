@@ -3,17 +3,17 @@
 -- 3.7.1 and A.2).
 use Rattle.std.specs.Prelude.{◌≡◌, ℕ, List, [], ◌∷◌, Bool, true, false, ◌&&◌, Some, codes}
 use Rattle.std.specs.Str.{bytes_eq}
-use Rattle.xpath_lex.specs.Classes.{starts_name}
 use Rattle.xpath_lex.specs.Readings.{Placed, size, TokenAt, IsOver}
-use Rattle.expr_terms.specs.declared.tokens.Token.{Token}
-use Rattle.expr_terms.specs.declared.tokens.Token.TheVariants as token
+use Rattle.expr_keys.specs.declared.tokens.Token.{Token}
+use Rattle.expr_keys.specs.declared.tokens.Token.TheVariants as token
 use Rattle.query_pieces.specs.Points.{Context, tag, Before, integer, slash_key, enters, Point}
 use Rattle.query_pieces.specs.Points.{in_expression, change_of, moved}
 use Rattle.query_pieces.specs.Fronts.{begins, NameAt, name_at}
 use Rattle.query_pieces.specs.Spellings.{Spells}
 use Rattle.query_pieces.specs.Elements.{Piece, piece_at}
+use Rattle.xt_names.specs.Characters.{starts_name}
 
--- no name begins directly behind digits
+-- no name begins directly after digits
 abbrev pub touches : Before → List ℕ → Bool
 touches integer ts = begins starts_name ts
 touches _ ts = false
@@ -29,7 +29,7 @@ abbrev pub opens : Bool → Before → List ℕ → List ℕ → Bool
 opens operand before token rest =
     may_open operand before && (bytes_eq token (codes "<") && begins starts_name rest)
 
--- behind white space and comments this token of expressions comes next, and this is left behind it
+-- after white space and comments this token of expressions comes next, and this is left after it
 pub record IsNext (p : Point) (u : Placed) (rest : List ℕ) : Type 0 where
   pub inside : in_expression p.contexts ≡ true
   pub apart : touches p.before p.rest ≡ false
@@ -37,7 +37,7 @@ pub record IsNext (p : Point) (u : Placed) (rest : List ℕ) : Type 0 where
 
 -- Where the text is read at the first point, this token or piece may come next, and the second
 -- point
--- is behind it. The truth value says whether an operand may stand there: it tells the operator `<`
+-- is after it. The truth value says whether an operand may be there: it tells the operator `<`
 -- from the front of a direct element, and nothing else.
 pub data Reads (operand : Bool) (p : Point) (t : Token) (behind : Point) : Type 0 where
   -- a token of expressions
@@ -47,7 +47,7 @@ pub data Reads (operand : Bool) (p : Point) (t : Token) (behind : Point) : Type 
   -- '<' QName
   opened : {u : Placed} {rest : List ℕ} {n : NameAt} → IsNext p u rest
       → opens operand p.before u.characters rest ≡ true → name_at rest ≡ Some n
-      → t ≡ token.Outer n.prefix n.local → behind ≡ moved p t (enters tag) n.rest
+      → t ≡ token.StartTagOpen n.prefix n.local → behind ≡ moved p t (enters tag) n.rest
       → Reads operand p t behind
   -- a piece of a direct element
   parted : {c : Context} {cs : List Context} {a : Piece} → p.contexts ≡ c ∷ cs

@@ -2,13 +2,14 @@
 use Rattle.std.specs.Prelude.{ℕ, ◌+◌, ◌*◌, ◌-◌, List, [], ◌∷◌, Bool, ◌&&◌, ◌||◌, nat_le, Option}
 use Rattle.std.specs.Prelude.{Some, None, if◌then◌else◌, codes}
 use Rattle.std.specs.Str.{bytes_eq}
-use Rattle.xpath_lex.specs.Classes.{is_char, is_name_char, is_digit}
+use Rattle.xpath_lex.specs.Classes.{is_digit}
 use Rattle.query_pieces.specs.Fronts.{run_of, rest_of, eaten}
 pub use Rattle.query_pieces.specs.declared.references.Base.{Base}
 pub use Rattle.query_pieces.specs.declared.references.Base.TheVariants.{
   Decimal as decimal,
   Hexadecimal as hexadecimal,
 }
+use Rattle.xt_names.specs.Characters.{is_char, is_name_char}
 
 -- the character that the predefined entity is
 abbrev pub entity : List ℕ → Option ℕ
@@ -35,7 +36,7 @@ is_digit_of hexadecimal c = is_hexadecimal c
 unfoldable pub digit : ℕ → ℕ
 digit c = if nat_le c 57 then c - 48 else if nat_le c 70 then c - 55 else c - 87
 
--- the number of the digits, behind what stands before them
+-- the number of the digits, after what comes before them
 unfoldable pub value : Base → ℕ → List ℕ → ℕ
 value base n [] = n
 value base n (c ∷ cs) = value base (n * base_of base + digit c) cs
@@ -54,11 +55,11 @@ closed (Some c) (Some rest) = Some (c, rest)
 closed (Some c) None = None
 closed None rest = None
 
--- PredefinedEntityRef ::= "&" ("lt" | "gt" | "amp" | "quot" | "apos") ";", behind its '&'
+-- PredefinedEntityRef ::= "&" ("lt" | "gt" | "amp" | "quot" | "apos") ";", after its '&'
 abbrev pub entity_at : List ℕ → Option (ℕ × List ℕ)
 entity_at ts = closed (entity (run_of is_name_char ts)) (eaten 59 (rest_of is_name_char ts))
 
--- CharRef ::= "&#" [0-9]+ ";" | "&#x" [0-9a-fA-F]+ ";", behind '&#' or '&#x'
+-- CharRef ::= "&#" [0-9]+ ";" | "&#x" [0-9a-fA-F]+ ";", after '&#' or '&#x'
 abbrev pub number_at : Base → List ℕ → Option (ℕ × List ℕ)
 number_at base ts =
     closed (numbered base (run_of (is_digit_of base) ts)) (eaten 59 (rest_of
@@ -72,6 +73,6 @@ abbrev pub reference_from : Option (List ℕ) → List ℕ → Option (ℕ × Li
 reference_from None ts = entity_at ts
 reference_from (Some more) ts = number_from (eaten 120 more) more
 
--- PredefinedEntityRef | CharRef, behind its '&': the character that it is, and what is left
+-- PredefinedEntityRef | CharRef, after its '&': the character that it is, and what is left
 abbrev pub reference_at : List ℕ → Option (ℕ × List ℕ)
 reference_at ts = reference_from (eaten 35 ts) ts

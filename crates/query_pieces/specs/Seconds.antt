@@ -2,9 +2,9 @@
 use Rattle.std.specs.Prelude.{ℕ, List, Bool, true, false, Option, Some, None}
 use Rattle.xpath_lex.specs.declared.lexing.TokenKind.{TokenKind}
 use Rattle.xpath_lex.specs.declared.lexing.TokenKind.TheVariants.{Word, QWord, Symbol}
-use Rattle.expr_terms.specs.Keys.{is_worded}
+use Rattle.expr_keys.specs.Keys.{is_worded}
 use Rattle.expr_terms.specs.Choices.{second_key}
-use Rattle.expr_terms.specs.declared.keys.Key.{Key}
+use Rattle.expr_keys.specs.declared.keys.Key.{Key}
 use Rattle.expr_terms.specs.declared.choices.Second.{Second}
 use Rattle.expr_terms.specs.declared.choices.Second.TheVariants.{
   Alone as alone,

@@ -9,7 +9,7 @@ use xpath_lex::{TokenKind, token_at};
 /// What stands next between tokens of expressions.
 #[derive(Clone, Copy)]
 pub enum Ahead<'a> {
-    /// A token, its text and what is left behind it.
+    /// A token, its text and what is left after it.
     Token(TokenKind, &'a str, &'a str),
     /// The end of the text.
     Over,
@@ -17,7 +17,7 @@ pub enum Ahead<'a> {
     Fault,
 }
 
-/// What is left of the text behind so many bytes.
+/// What is left of the text after so many bytes.
 fn behind(text: &str, to: usize) -> &str
     requires { (front : List ℕ) × (rest : List ℕ)
         × (chars text.now ≡ front ++ rest) × (to + size rest ≡ length text.now) }
@@ -27,7 +27,7 @@ fn behind(text: &str, to: usize) -> &str
     &text[to..]
 }
 
-/// What stands at the front of the text.
+/// What is at the front of the text.
 pub(crate) fn next_of(text: &str) -> Ahead<'_>
     ensures { Leads (chars text.now) result }
 {

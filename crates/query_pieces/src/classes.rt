@@ -1,28 +1,19 @@
 // The classes of characters that a run is read by.
 ghost use Rattle.std.specs.Prelude.{◌≡◌};
-ghost use Rattle.xpath_lex.specs.Classes.{is_space, is_char, starts_name, is_name_char, is_digit};
+ghost use Rattle.xpath_lex.specs.Classes.{is_digit};
+ghost use Rattle.xt_names.specs.Characters.{is_space, is_char, starts_name, is_name_char};
 ghost use Rattle.query_pieces.specs.References.{is_hexadecimal};
 ghost use Rattle.query_pieces.specs.Literals.{is_said};
 ghost use Rattle.query_pieces.specs.Elements.{is_content, is_value, mark_of};
 
 use crate::contexts::Quote;
+use text_scan::Class;
 use xt_names::{is_ncname_char, is_ncname_start, is_xml_char};
-
-/// A class of characters.
-pub(crate) trait Class {
-    ghost use Rattle.std.specs.Prelude.{ℕ, Bool};
-
-    /// Which characters are of the class.
-    ghost class: { ℕ → Bool };
-
-    fn has(c: char) -> bool
-        ensures { result ≡ class c };
-}
 
 /// White space.
 pub(crate) struct Space;
 
-/// What may stand in a name without a colon.
+/// What may be in a name without a colon.
 pub(crate) struct NameChar;
 
 /// A decimal digit.
@@ -44,7 +35,7 @@ pub(crate) struct InSingle;
 pub(crate) struct InDouble;
 
 impl Class for Space {
-    ghost use Rattle.xpath_lex.specs.Classes.{is_space};
+    ghost use Rattle.xt_names.specs.Characters.{is_space};
 
     ghost class = { is_space };
 
@@ -54,11 +45,11 @@ impl Class for Space {
 }
 
 impl Class for NameChar {
-    ghost use Rattle.xpath_lex.specs.Classes.{is_name_char};
+    ghost use Rattle.xt_names.specs.Characters.{is_name_char};
 
     ghost class = { is_name_char };
 
-    #[tactic(auto, unfolding(xpath_lex::specs::Classes::is_name_char))]
+    #[tactic(auto, unfolding(xt_names::specs::Characters::is_name_char))]
     fn has(c: char) -> bool {
         is_ncname_char(c)
     }
@@ -141,21 +132,21 @@ impl Quote {
     }
 }
 
-#[tactic(auto, unfolding(xpath_lex::specs::Classes::is_space))]
+#[tactic(auto, unfolding(xt_names::specs::Characters::is_space))]
 pub(crate) fn is_space(c: char) -> bool
     ensures { result ≡ is_space c }
 {
     matches!(c, ' ' | '\t' | '\n' | '\r')
 }
 
-#[tactic(auto, unfolding(xpath_lex::specs::Classes::is_char))]
+#[tactic(auto, unfolding(xt_names::specs::Characters::is_char))]
 pub(crate) fn is_char(c: char) -> bool
     ensures { result ≡ is_char c }
 {
     is_xml_char(c)
 }
 
-#[tactic(auto, unfolding(xpath_lex::specs::Classes::starts_name))]
+#[tactic(auto, unfolding(xt_names::specs::Characters::starts_name))]
 pub(crate) fn starts_name(c: char) -> bool
     ensures { result ≡ starts_name c }
 {

@@ -12,7 +12,7 @@ pub enum Quote {
 pub enum Context {
     /// Braces: tokens of expressions stand in them.
     Enclosed,
-    /// A tag, behind its name.
+    /// A tag, after its name.
     Tag,
     /// The value of an attribute.
     Attribute(Quote),
@@ -23,9 +23,9 @@ pub enum Context {
 /// The token that was read last, where it tells what may come next.
 #[derive(Clone, Copy)]
 pub enum Before {
-    /// Digits, directly behind which no name begins (XPath 2.0, A.2.4).
+    /// Digits, directly after which no name begins (XPath 2.0, A.2.4).
     Integer,
-    /// `/`, behind which `<` begins an element where a name follows it (XQuery 1.0, 3.2).
+    /// `/`, after which `<` begins an element where a name follows it (XQuery 1.0, 3.2).
     Slash,
     Other,
 }

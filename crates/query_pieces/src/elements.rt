@@ -46,7 +46,7 @@ fn character(alloc: Global, c: char) -> Read
     Ok(Some((Token::Chars(text, true), Change::Stays)))
 }
 
-/// A reference, behind its `&`.
+/// A reference, after its `&`.
 fn reference(alloc: Global, scan: &mut Scan<'_>) -> Read
     ensures { IfOk result (λ found. Finds found (of_reference (reference_at scan.old)) scan.new) }
 {
@@ -59,7 +59,7 @@ fn reference(alloc: Global, scan: &mut Scan<'_>) -> Read
     }
 }
 
-/// `{{`, or the front of an enclosed expression, behind the first brace.
+/// `{{`, or the front of an enclosed expression, after the first brace.
 fn opened(alloc: Global, scan: &mut Scan<'_>) -> Read
     ensures { IfOk result (λ found.
         Finds found (Some (opened (eaten 123 scan.old) scan.old)) scan.new) }
@@ -67,11 +67,11 @@ fn opened(alloc: Global, scan: &mut Scan<'_>) -> Read
     if scan.eat('{') {
         character(alloc, '{')
     } else {
-        Ok(Some((Token::Enter, Change::Enters(Context::Enclosed))))
+        Ok(Some((Token::EnclosedOpen, Change::Enters(Context::Enclosed))))
     }
 }
 
-/// `}}`, behind the first brace.
+/// `}}`, after the first brace.
 fn closed(alloc: Global, scan: &mut Scan<'_>) -> Read
     ensures { IfOk result (λ found. Finds found (closed (eaten 125 scan.old)) scan.new) }
 {
@@ -82,7 +82,7 @@ fn closed(alloc: Global, scan: &mut Scan<'_>) -> Read
     }
 }
 
-/// What stands behind this character in content and in a value alike.
+/// What comes after this character in content and in a value alike.
 fn marked(alloc: Global, scan: &mut Scan<'_>, c: char) -> Read
     ensures { IfOk result (λ found. Finds found (marked c scan.old) scan.new) }
 {
@@ -133,7 +133,7 @@ impl<'a> Scan<'a> {
     }
 }
 
-/// An end tag, behind its `</`.
+/// An end tag, after its `</`.
 fn shut(alloc: Global, scan: &mut Scan<'_>) -> Read
     ensures { IfOk result (λ found. Finds found (shut_from (name_at scan.old)) scan.new) }
 {
@@ -145,13 +145,13 @@ fn shut(alloc: Global, scan: &mut Scan<'_>) -> Read
             }
             let prefix = Text::make(alloc, prefix)?;
             let local = Text::make(alloc, local)?;
-            Ok(Some((Token::Shut(prefix, local), Change::Leaves)))
+            Ok(Some((Token::EndTag(prefix, local), Change::Leaves)))
         }
         None => Ok(None),
     }
 }
 
-/// The front of an element within another one, behind its `<`.
+/// The front of an element within another one, after its `<`.
 fn inner(alloc: Global, scan: &mut Scan<'_>) -> Read
     ensures { IfOk result (λ found. Finds found (inner_from (name_at scan.old)) scan.new) }
 {
@@ -159,13 +159,16 @@ fn inner(alloc: Global, scan: &mut Scan<'_>) -> Read
         Some((prefix, local)) => {
             let prefix = Text::make(alloc, prefix)?;
             let local = Text::make(alloc, local)?;
-            Ok(Some((Token::Inner(prefix, local), Change::Enters(Context::Tag))))
+            Ok(Some((
+                Token::ChildTagOpen(prefix, local),
+                Change::Enters(Context::Tag),
+            )))
         }
         None => Ok(None),
     }
 }
 
-/// A tag in content, behind its `<`.
+/// A tag in content, after its `<`.
 fn tag(alloc: Global, scan: &mut Scan<'_>) -> Read
     ensures { IfOk result (λ found.
         Finds found (tag_from (eaten 47 scan.old) scan.old) scan.new) }
@@ -177,7 +180,7 @@ fn tag(alloc: Global, scan: &mut Scan<'_>) -> Read
     }
 }
 
-/// What stands in content where no character stands for itself.
+/// What is in content where no character stands for itself.
 fn content_mark(alloc: Global, scan: &mut Scan<'_>) -> Read
     ensures { IfOk result (λ found. Finds found (content_mark scan.old) scan.new) }
 {
@@ -207,7 +210,7 @@ fn content_piece(alloc: Global, scan: &mut Scan<'_>) -> Read
     }
 }
 
-/// The quote doubled, or the end of a value, behind the first quote.
+/// The quote doubled, or the end of a value, after the first quote.
 fn quoted(alloc: Global, scan: &mut Scan<'_>, quote: char) -> Read
     ensures { IfOk result (λ found.
         Finds found (Some (quoted quote (eaten quote scan.old) scan.old)) scan.new) }
@@ -215,11 +218,11 @@ fn quoted(alloc: Global, scan: &mut Scan<'_>, quote: char) -> Read
     if scan.eat(quote) {
         character(alloc, quote)
     } else {
-        Ok(Some((Token::Unquote, Change::Leaves)))
+        Ok(Some((Token::AttributeEnd, Change::Leaves)))
     }
 }
 
-/// What stands in a value where no character stands for itself.
+/// What is in a value where no character stands for itself.
 fn value_mark(alloc: Global, scan: &mut Scan<'_>, quote: char) -> Read
     ensures { IfOk result (λ found. Finds found (value_mark quote scan.old) scan.new) }
 {
@@ -249,7 +252,7 @@ fn value_piece(alloc: Global, scan: &mut Scan<'_>, quote: Quote) -> Read
     }
 }
 
-/// The front of an attribute, behind white space.
+/// The front of an attribute, after white space.
 fn attribute(alloc: Global, scan: &mut Scan<'_>) -> Read
     ensures { IfOk result (λ found. Finds found (attribute_from (name_at scan.old)) scan.new) }
 {
@@ -274,7 +277,7 @@ fn attribute(alloc: Global, scan: &mut Scan<'_>) -> Read
     }
 }
 
-/// The end of the start tag of an empty element, behind its `/`.
+/// The end of the start tag of an empty element, after its `/`.
 fn empty_end(scan: &mut Scan<'_>) -> Option<(Token, Change)>
     ensures { Finds result (empty_end (eaten 62 scan.old)) scan.new }
 {
@@ -285,7 +288,7 @@ fn empty_end(scan: &mut Scan<'_>) -> Option<(Token, Change)>
     }
 }
 
-/// A piece of a start tag, behind its name.
+/// A piece of a start tag, after its name.
 fn tag_piece(alloc: Global, scan: &mut Scan<'_>) -> Read
     ensures { IfOk result (λ found. Finds found (tag_piece scan.old) scan.new) }
 {
@@ -303,7 +306,7 @@ fn tag_piece(alloc: Global, scan: &mut Scan<'_>) -> Read
     attribute(alloc, scan)
 }
 
-/// The piece that stands at the front of the text, in this context.
+/// The piece that is at the front of the text, in this context.
 pub(crate) fn piece_at(alloc: Global, scan: &mut Scan<'_>, context: Context) -> Read
     ensures { IfOk result (λ found. Finds found (piece_at context scan.old) scan.new) }
 {

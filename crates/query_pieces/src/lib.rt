@@ -6,7 +6,7 @@
 //! and line ends are line feeds. Within direct elements tags, characters and braces are pieces, by
 //! the contexts that are open; a million of them, one inside the other, take no stack of the
 //! machine. Whether `<` before a name is an operator or the front of an element is for the reader
-//! of the grammar to say, which knows whether an operand may stand there. specs/Readings.antt says
+//! of the grammar to say, which knows whether an operand may be there. specs/Readings.antt says
 //! what may be read where.
 //!
 //! Example: `<a b="1">{2}</a>` is the front of `a`, the front of its attribute `b`, the characters

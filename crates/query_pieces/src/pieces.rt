@@ -1,16 +1,11 @@
 // The text of a query, read token by token.
-ghost use Rattle.std.specs.Prelude.{◌≡◌, ◌∷◌, List, Bool, ℕ, true, false, IfOk, slice_get, Some};
-ghost use Rattle.std.specs.Prelude.{codes};
+ghost use Rattle.std.specs.Prelude.{◌≡◌, ◌∷◌, List, Bool, ℕ, true, false, IfOk, slice_get, Some, codes};
 ghost use Rattle.std.specs.Str.{chars, bytes_eq};
-ghost use Rattle.xpath_lex.specs.Classes.{starts_name};
+ghost use Rattle.xt_names.specs.Characters.{starts_name};
 ghost use Rattle.xpath_lex.specs.Readings.{Placed, IsOver};
-ghost use Rattle.query_pieces.specs.Points.{start, is_enclosed, in_expression, change_of};
-ghost use Rattle.query_pieces.specs.Points.{change_of_key};
-ghost use Rattle.query_pieces.specs.Points.{before_of, before_of_key};
+ghost use Rattle.query_pieces.specs.Points.{start, is_enclosed, in_expression, change_of, change_of_key, before_of, before_of_key, moved, Point};
 ghost use Rattle.query_pieces.specs.Fronts.{begins};
-ghost use Rattle.query_pieces.specs.Points.{moved, Point};
-ghost use Rattle.query_pieces.specs.Readings.{touches, may_open, opens, IsNext};
-ghost use Rattle.query_pieces.specs.Readings.{Reads, Splits};
+ghost use Rattle.query_pieces.specs.Readings.{touches, may_open, opens, IsNext, Reads, Splits};
 ghost use Rattle.query_pieces.specs.Answers.{Answers, Stays};
 ghost use Rattle.query_pieces.specs.Aheads.{Leads, Sees};
 ghost use Rattle.expr_terms.specs.Choices.{open_next, second_of};
@@ -116,7 +111,7 @@ fn begins_name(text: &str) -> bool
     Scan::new(text).begins_name()
 }
 
-/// Whether a name begins directly behind digits.
+/// Whether a name begins directly after digits.
 fn touches(before: Before, text: &str) -> bool
     ensures { result ≡ touches before (chars text.now) }
 {
@@ -154,7 +149,7 @@ impl<'a> Pieces<'a> {
         }
     }
 
-    /// Goes behind the token, which left so much of the text.
+    /// Goes after the token, which left so much of the text.
     fn go(&mut self, token: Token, change: Change, rest: &'a str) -> Result<Found, AllocError>
         ensures { IfOk result (λ found. (found ≡ Found.Token token)
             × (self.new ≡ moved self.old token change (chars rest.now))) }
@@ -179,7 +174,7 @@ impl<'a> Pieces<'a> {
             Some((prefix, local)) => {
                 let prefix = Text::make(alloc, prefix)?;
                 let local = Text::make(alloc, local)?;
-                let token = Token::Outer(prefix, local);
+                let token = Token::StartTagOpen(prefix, local);
                 self.go(token, Change::Enters(Context::Tag), scan.rest())
             }
             None => Ok(Found::Nothing),
@@ -268,7 +263,7 @@ impl<'a> Pieces<'a> {
     }
 
     /// Takes the token or piece that stands next, of which this is seen. `operand` says whether an
-    /// operand may stand there: where one may, `<` directly before a name begins a direct element
+    /// operand may be there: where one may, `<` directly before a name begins a direct element
     /// (XQuery 1.0, 3.7.1). End is told where the text is over, and Nothing where no token and no
     /// piece may be read; then the reading stays where it is.
     #[tactic(auto, using(crate::proofs::AnswerLemmas::staying))]
@@ -315,7 +310,7 @@ impl<'a> Pieces<'a> {
 }
 
 /// What the tokens that come next, of which this is seen, tell of the one before them: that `(`,
-/// `::`, `$`, `{`, or a name and `{` stands there, or none of these.
+/// `::`, `$`, `{`, or a name and `{` is there, or none of these.
 pub fn second(ahead: Option<Ahead<'_>>) -> Second
     ensures { (p : Point) (ts : List Token) → Sees p ahead.entry → Splits p ts
         → result ≡ second_of ts }
@@ -328,8 +323,8 @@ pub fn second(ahead: Option<Ahead<'_>>) -> Second
     }
 }
 
-/// Whether `<` comes next and directly behind it a name, where this is seen. Elsewhere it does not
-/// matter whether an operand may stand there.
+/// Whether `<` comes next and directly after it a name, where this is seen. Elsewhere it does not
+/// matter whether an operand may be there.
 pub fn asks(ahead: Option<Ahead<'_>>) -> bool
     ensures { result ≡ false → (p : Point) → Sees p ahead.entry → (a b : Bool) (t : Token)
         (q : Point) → Reads a p t q → Reads b p t q }
@@ -355,7 +350,7 @@ fn opens_brace(text: &str) -> bool
     }
 }
 
-/// What the token, and what is left behind it, tell of the word before.
+/// What the token, and what is left after it, tell of the word before.
 fn second_at(kind: TokenKind, text: &str, rest: &str) -> Second
     ensures { (p : Point) (u : Placed) (ts : List Token) → IsNext p u (chars rest.now)
         → u.kind ≡ kind → u.characters ≡ chars text.now → Splits p ts → result ≡ second_of ts }

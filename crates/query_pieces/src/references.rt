@@ -110,7 +110,7 @@ fn numbered(base: Base, digits: &str) -> Option<char>
 }
 
 impl<'a> Scan<'a> {
-    /// Takes the name of a predefined entity and the `;` behind it.
+    /// Takes the name of a predefined entity and the `;` after it.
     fn entity(&mut self) -> Option<char>
         ensures { MatchOption result (entity_at self.old ≡ None)
             (λ c. entity_at self.old ≡ Some (c, self.new)) }
@@ -130,7 +130,7 @@ impl<'a> Scan<'a> {
         }
     }
 
-    /// Takes a number and the `;` behind it.
+    /// Takes a number and the `;` after it.
     fn number(&mut self, base: Base) -> Option<char>
         ensures { MatchOption result (number_at base self.old ≡ None)
             (λ c. number_at base self.old ≡ Some (c, self.new)) }
@@ -140,7 +140,7 @@ impl<'a> Scan<'a> {
         if self.eat(';') { Some(c) } else { None }
     }
 
-    /// Takes a reference behind its `&`: the character that it is.
+    /// Takes a reference after its `&`: the character that it is.
     pub(crate) fn reference(&mut self) -> Option<char>
         ensures { MatchOption result (reference_at self.old ≡ None)
             (λ c. reference_at self.old ≡ Some (c, self.new)) }

@@ -2,3 +2,5 @@ pub mod Prologs
 pub mod Spells
 pub mod TestLemmas
 pub mod TokenLemmas
+pub mod PrologDrafts
+pub mod PrintableQueries

@@ -1,4 +1,4 @@
--- The tokens of declarations, one list of them behind another.
+-- The tokens of declarations, one list of them after another.
 use Rattle.std.proofs.Common.{◌≡◌, List, [], ◌∷◌, ◌++◌, map, true, ◌&&◌}
 use Rattle.std.proofs.Common.{refl, sym, ap, subst, ◌∙◌}
 use Rattle.std.proofs.lemmas.Bool.{and_parts}
@@ -8,15 +8,15 @@ use Rattle.xt_syntax.specs.declared.prefixes.Prefixes.{Prefixes}
 use Rattle.xt_syntax.specs.declared.queries.Query.{Query}
 use Rattle.xt_syntax.specs.declared.queries.QueryVar.{QueryVar}
 use Rattle.xt_syntax.specs.declared.queries.QueryFunction.{QueryFunction}
-use Rattle.expr_terms.specs.declared.keys.Key.TheVariants as key
-use Rattle.expr_terms.specs.declared.tokens.Token.{Token}
-use Rattle.expr_terms.specs.declared.tokens.Token.TheVariants as token
+use Rattle.expr_keys.specs.declared.keys.Key.TheVariants as key
+use Rattle.expr_keys.specs.declared.tokens.Token.{Token}
+use Rattle.expr_keys.specs.declared.tokens.Token.TheVariants as token
 use Rattle.expr_raws.specs.Raws.{form_of, tokens_of}
-use Rattle.query_raws.specs.Prologs.{DeclaredForm, version, namespace, preserved}
-use Rattle.query_raws.specs.Prologs.{space_option, omit_option}
-use Rattle.query_raws.specs.Declarations.{variable, function, is_clean}
-use Rattle.query_raws.specs.Queries.{prefixes_of, options, late, declarations, prolog_tokens}
-use Rattle.query_raws.specs.Queries.{query_tokens, all_can, can_print}
+use Rattle.printed_laws.specs.QueryRaws.Prologs.{DeclaredForm, version, namespace, preserved}
+use Rattle.printed_laws.specs.QueryRaws.Prologs.{space_option, omit_option}
+use Rattle.printed_laws.specs.QueryRaws.Declarations.{variable, function, is_clean}
+use Rattle.printed_laws.specs.QueryRaws.Queries.{prefixes_of, options, late, declarations, prolog_tokens}
+use Rattle.printed_laws.specs.QueryRaws.Queries.{query_tokens, all_can, can_print}
 
 pub prolog_append : (fs gs : List DeclaredForm) (ts : List Token)
     → prolog_tokens (fs ++ gs) ts ≡ prolog_tokens fs (prolog_tokens gs ts)
@@ -60,7 +60,7 @@ functions_can q c =
     (all_append (options q) (map (λ v. variable (prefixes_of q) v) q.variables
     ++ map (λ f. function (prefixes_of q) f) q.functions) (later q c))
 
--- the tokens of what stands behind the setters, part by part
+-- the tokens of what comes after the setters, part by part
 pub late_tokens : (q : Query) (ts : List Token) → prolog_tokens (late q) ts
     ≡ prolog_tokens (space_option (prefixes_of q) q.space)
     (prolog_tokens (omit_option (prefixes_of q) q.omit)
@@ -121,7 +121,7 @@ space_put q p rs ts s t =
     ap (λ (r : Prefixes). prolog_tokens (space_option r rs) ts) s
     ∙ ap (λ (ks : List SpaceRule). prolog_tokens (space_option (prefixes_of q) ks) ts) t
 
--- what stands behind the setters, put part by part
+-- what comes after the setters, put part by part
 pub late_made : (q : Query) (p : Prefixes) (fs : List QueryFunction) (vs : List QueryVar)
     (rs : List SpaceRule) (old a b d new : List Token) → p ≡ prefixes_of q → fs ≡ q.functions
     → vs ≡ q.variables → rs ≡ q.space

@@ -3,14 +3,14 @@ use Rattle.std.proofs.Common.{◌≡◌, ◌≤◌, ℕ, List, true, ◌&&◌, s
 use Rattle.std.proofs.lemmas.Bool.{and_parts, leb-true}
 use Rattle.xt_syntax.specs.declared.queries.Query.{Query}
 use Rattle.closed_queries.specs.Closed.{is_closed}
-use Rattle.written_tokens.specs.Fit.{are_fit}
+use Rattle.token_laws.specs.WrittenTokens.Fit.{are_fit}
 use Rattle.query_pages.specs.Laid.{IsTextOf}
-use Rattle.query_raws.specs.Queries.{query_tokens, can_print}
-use Rattle.printed_reads.specs.XquerySyntax.Spelled.{SpellsWithin}
+use Rattle.printed_laws.specs.QueryRaws.Queries.{query_tokens, can_print}
+use Rattle.printed_laws.specs.XquerySyntax.Spelled.{SpellsWithin}
 use Rattle.xt_names.specs.Allowed.{is_empty_text}
-use Rattle.printed_reads.specs.PrintedQueries.Keeps.{is_kept, has_own_prefixes, keeps_declarations}
-use Rattle.printed_reads.specs.Nests.{query_nest_of}
-use Rattle.printed_reads.proofs.TextsWithin.{text_within}
+use Rattle.printed_laws.specs.PrintedQueries.Keeps.{is_kept, has_own_prefixes, keeps_declarations}
+use Rattle.printed_laws.specs.PrintedReads.Nests.{query_nest_of}
+use Rattle.printed_laws.proofs.PrintedReads.TextsWithin.{text_within}
 use Rattle.query_printer.specs.Printable.{is_printable, nests_within, deepest}
 
 pub printable_can : (q : Query) → is_printable q ≡ true → can_print q ≡ true

@@ -4,8 +4,8 @@ use Rattle.std.proofs.Common.{refl}
 use Rattle.std.specs.List.{list_all}
 use Rattle.xt_names.specs.Allowed.{is_empty_text}
 use Rattle.xt_names.specs.Classes.{is_ncname_text, is_xml_text}
-use Rattle.xpath_lex.specs.Classes.{is_char}
-use Rattle.token_texts.specs.Written.{is_named}
+use Rattle.query_pages.specs.TokenTexts.Written.{is_named}
+use Rattle.xt_names.specs.Characters.{is_char}
 
 pub named_is : (p n : List ℕ)
     → is_named p n ≡ ((is_empty_text p || is_ncname_text p) && is_ncname_text n)

@@ -2,10 +2,10 @@
 use Rattle.std.specs.Prelude.{Bool, ◌&&◌, ℕ, nat_le}
 use Rattle.xt_syntax.specs.declared.queries.Query.{Query}
 use Rattle.closed_queries.specs.Closed.{is_closed}
-use Rattle.written_tokens.specs.Fit.{are_fit}
-use Rattle.query_raws.specs.Queries.{query_tokens}
-use Rattle.printed_reads.specs.PrintedQueries.Keeps.{is_kept}
-use Rattle.printed_reads.specs.Nests.{query_nest_of}
+use Rattle.token_laws.specs.WrittenTokens.Fit.{are_fit}
+use Rattle.printed_laws.specs.QueryRaws.Queries.{query_tokens}
+use Rattle.printed_laws.specs.PrintedQueries.Keeps.{is_kept}
+use Rattle.printed_laws.specs.PrintedReads.Nests.{query_nest_of}
 
 -- how deep a query nests at most that is printed
 abbrev pub deepest : ℕ

@@ -2,8 +2,8 @@
 ghost use Rattle.std.specs.Prelude.{◌≡◌, ◌||◌};
 ghost use Rattle.xt_names.specs.Allowed.{is_empty_text};
 ghost use Rattle.xt_names.specs.Classes.{is_ncname_text};
-ghost use Rattle.token_texts.specs.Written.{is_named};
-ghost use Rattle.written_tokens.specs.Fit.{is_fit, are_fit};
+ghost use Rattle.query_pages.specs.TokenTexts.Written.{is_named};
+ghost use Rattle.token_laws.specs.WrittenTokens.Fit.{is_fit, are_fit};
 
 use expr_terms::Token;
 use expr_tokens::key_of_word;
@@ -37,9 +37,9 @@ fn is_fit(token: &Token) -> bool
         Token::AnyLocal(n) | Token::AnyPrefix(n) => is_ncname(n.as_str()),
         Token::Digits(n) => *n >= 0,
         Token::Quoted(text) => is_xml_text(text.as_str()),
-        Token::Outer(p, n) | Token::Inner(p, n) => is_named(p, n),
-        Token::Attribute(p, n) | Token::Shut(p, n) => is_named(p, n),
-        Token::Key(_) | Token::Chars(_, _) | Token::Enter | Token::Unquote => true,
+        Token::StartTagOpen(p, n) | Token::ChildTagOpen(p, n) => is_named(p, n),
+        Token::Attribute(p, n) | Token::EndTag(p, n) => is_named(p, n),
+        Token::Key(_) | Token::Chars(_, _) | Token::EnclosedOpen | Token::AttributeEnd => true,
         Token::TagEnd | Token::EmptyEnd => true,
     }
 }

@@ -13,7 +13,9 @@
 
 mod fitness;
 mod printable;
+pub mod printable_queries;
 mod printing;
+pub mod prolog_drafts;
 
 pub use printable::is_printable;
 pub use printing::{print, print_expr};

@@ -1,14 +1,14 @@
 // Queries that can be printed.
 ghost use Rattle.std.specs.Prelude.{◌≡◌, true, IfOk};
-ghost use Rattle.written_tokens.specs.Fit.{are_fit};
-ghost use Rattle.query_raws.specs.Queries.{prefixes_of, query_tokens, can_print};
+ghost use Rattle.token_laws.specs.WrittenTokens.Fit.{are_fit};
+ghost use Rattle.printed_laws.specs.QueryRaws.Queries.{prefixes_of, query_tokens, can_print};
 ghost use Rattle.query_printer.specs.Printable.{is_printable};
 
 use crate::fitness::are_fit;
+use crate::printable_queries::{is_kept, nests_within, prefixes_in};
 use crate::printing::page_of;
 use closed_queries::query_closed;
-use name_prefixes::NamePrefixes;
-use printable_queries::{is_kept, nests_within, prefixes_in};
+use expr_drafts::name_prefixes::NamePrefixes;
 use std::alloc::{AllocError, Global};
 use xt_syntax::Query;
 

@@ -2,25 +2,25 @@
 ghost use Rattle.std.specs.Prelude.{◌≡◌, [], true, IfOk, OnOk};
 ghost use Rattle.expr_raws.specs.Raws.{tokens_of};
 ghost use Rattle.query_pages.specs.Laid.{IsTextOf};
-ghost use Rattle.query_raws.specs.Queries.{prefixes_of, late, can_print};
-ghost use Rattle.query_raws.specs.Queries.{prolog_tokens, query_tokens};
-ghost use Rattle.printed_reads.specs.XquerySyntax.Spelled.{SpellsWithin};
+ghost use Rattle.printed_laws.specs.QueryRaws.Queries.{prefixes_of, late, can_print};
+ghost use Rattle.printed_laws.specs.QueryRaws.Queries.{prolog_tokens, query_tokens};
+ghost use Rattle.printed_laws.specs.XquerySyntax.Spelled.{SpellsWithin};
 ghost use Rattle.query_printer.specs.Printable.{is_printable, deepest};
 
-use expr_drafts::{Draft, Spot};
-use expr_pages::{expr_page, settled};
-use name_prefixes::NamePrefixes;
-use printable_queries::prefixes_in;
-use printable_queries::prolog_drafts::{
+use crate::printable_queries::prefixes_in;
+use crate::prolog_drafts::{
     push_functions, push_namespaces, push_omit, push_preserved, push_space, push_variables,
     push_version,
 };
+use expr_drafts::name_prefixes::NamePrefixes;
+use expr_drafts::{Draft, Spot};
+use expr_pages::{expr_page, settled};
 use query_pages::Page;
 use std::alloc::{AllocError, Global};
 use xt_names::Text;
 use xt_syntax::{Expr, Prefixes, Query};
 
-/// The declarations behind the setters, before the tokens of the draft.
+/// The declarations after the setters, before the tokens of the draft.
 fn push_late<'a>(
     alloc: Global,
     draft: &mut Draft<'a>,

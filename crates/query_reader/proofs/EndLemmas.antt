@@ -2,19 +2,20 @@
 use Rattle.std.proofs.Common.{◌≡◌, Bool, true, false, cond, ◌&&◌, List, [], ◌∷◌, ◌++◌}
 use Rattle.std.proofs.Common.{refl, sym, ◌∙◌, ap, Option, Some, None, is_some}
 use Rattle.std.specs.List.{list_all}
-use Rattle.expr_terms.specs.declared.tokens.Token.{Token}
-use Rattle.expr_terms.specs.declared.productions.Production.{Production}
-use Rattle.expr_terms.specs.declared.productions.Symbol.{Symbol}
+use Rattle.expr_keys.specs.declared.tokens.Token.{Token}
+use Rattle.expr_keys.specs.declared.productions.Production.{Production}
+use Rattle.expr_keys.specs.declared.productions.Symbol.{Symbol}
 use Rattle.expr_terms.specs.declared.raws.Raw.{Raw}
 use Rattle.expr_terms.specs.Raws.{build}
 use Rattle.expr_grammar.specs.Machine as machine
 use Rattle.expr_grammar.specs.Machine.{skips, ended, finish}
 use Rattle.expr_reader.specs.declared.frames.Frame.{Frame}
-use Rattle.expr_reader.specs.declared.running.Reader.{Reader}
+use Rattle.expr_reader.specs.declared.running.ExprParser.{ExprParser}
 use Rattle.expr_reader.specs.View.{frame_of, frames_on, frames_of}
 use Rattle.expr_reader.specs.Tracks.{Tracks}
 use Rattle.expr_reader.proofs.Outline.{finish-outline}
 use Rattle.query_reader.specs.Wanted.{is_done}
+use Rattle.std.proofs.Math.Bool.{and-true}
 
 abbrev all_skip : List machine.Frame → Bool
 all_skip [] = true
@@ -60,10 +61,6 @@ on_filled : (f : machine.Frame) (below : List machine.Frame) (us : List Frame)
 on_filled f below [] = refl
 on_filled f below (u ∷ us) = on_filled (frame_of u) (f ∷ below) us
 
-and_true : (b : Bool) → (b && true) ≡ b
-and_true true = refl
-and_true false = refl
-
 pub none_done : false ≡ is_some (finish (frames_of []))
 none_done = refl
 
@@ -71,7 +68,7 @@ pub some_done : (u : Frame) (us : List Frame)
     → list_all is_done (u ∷ us) ≡ is_some (finish (frames_of (u ∷ us)))
 some_done u us = sym (finish_all (frames_of (u ∷ us))
     ∙ (ap (λ z. z && all_skip (frames_of (u ∷ us))) (on_filled (frame_of u) [] us)
-    ∙ (on_all [] (u ∷ us) ∙ and_true (list_all is_done (u ∷ us)))))
+    ∙ (on_all [] (u ∷ us) ∙ and-true (list_all is_done (u ∷ us)))))
 
 pub are_some : (us : List Frame) (b : Bool) → b ≡ list_all is_done us → (us ≡ [] → ⊥)
     → b ≡ is_some (finish (frames_of us))
@@ -81,7 +78,7 @@ are_some (u ∷ us) b e h = e ∙ some_done u us
 pub are_none : (us : List Frame) → us ≡ [] → false ≡ is_some (finish (frames_of us))
 are_none us e = ap (λ z. is_some (finish (frames_of z))) (sym e)
 
-pub tracked_end : (r : Reader) (fs : List machine.Frame) (ts : List Token) (b : Bool)
+pub tracked_end : (r : ExprParser) (fs : List machine.Frame) (ts : List Token) (b : Bool)
     → b ≡ is_some (finish (frames_of r.frames.items)) → Tracks r fs ts → b ≡ is_some (finish fs)
 tracked_end r fs ts b e t = e ∙ sym (finish-outline fs (frames_of r.frames.items) t.outlined)
 

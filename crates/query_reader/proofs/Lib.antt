@@ -1,2 +1,4 @@
 pub mod WantLemmas
 pub mod EndLemmas
+pub mod QueryHeads
+pub mod QuerySteps

@@ -2,17 +2,17 @@
 use Rattle.std.proofs.Common.{◌≡◌, ◌<◌, ◌≤◌, ℕ, zero, suc, ◌-◌, Bool}
 use Rattle.std.proofs.Common.{List, [], ◌∷◌, ◌++◌, length, take, drop, get_or, refl, sym, ◌∙◌, ap}
 use Rattle.std.proofs.Common.{arith, Option, Some, None, subst}
-use Rattle.expr_terms.specs.declared.tokens.Token.{Token}
+use Rattle.expr_keys.specs.declared.tokens.Token.{Token}
 use Rattle.expr_terms.specs.Productions.{body}
 use Rattle.expr_grammar.specs.Machine as machine
 use Rattle.expr_reader.specs.declared.frames.Frame.{Frame}
-use Rattle.expr_reader.specs.declared.running.Reader.{Reader}
+use Rattle.expr_reader.specs.declared.running.ExprParser.{ExprParser}
 use Rattle.expr_reader.specs.View.{frames_of}
 use Rattle.expr_reader.specs.Outline.{outline}
 use Rattle.expr_reader.specs.Tracks.{Tracks}
 use Rattle.expr_reader.proofs.ViewLemmas.{frames_of-append}
 use Rattle.expr_reader.proofs.PartLemmas.{drop_past}
-use Rattle.query_places.specs.Places.{wanted, wants_operand}
+use Rattle.query_grammar.specs.QueryPlaces.Places.{wanted, wants_operand}
 use Rattle.query_reader.specs.Wanted.{Decides}
 
 -- what has been read does not matter
@@ -24,7 +24,7 @@ outlined fs gs e = sym (plain fs) ∙ (ap wants_operand e ∙ plain gs)
     plain [] = refl
     plain (machine.doing p vs ss ∷ fs) = ap (wanted ss) (plain fs)
 
-pub tracked_want : (r : Reader) (fs : List machine.Frame) (ts : List Token) (b : Bool)
+pub tracked_want : (r : ExprParser) (fs : List machine.Frame) (ts : List Token) (b : Bool)
     → b ≡ wants_operand (frames_of r.frames.items) → Tracks r fs ts → b ≡ wants_operand fs
 tracked_want r fs ts b e t = e ∙ sym (outlined fs (frames_of r.frames.items) t.outlined)
 

@@ -1,10 +1,10 @@
 -- Whether an operand may come next where this is wanted, whatever is open below.
 use Rattle.std.specs.Prelude.{◌≡◌, Bool, List, Option, Some, None, drop}
-use Rattle.expr_terms.specs.declared.productions.Symbol.{Symbol}
+use Rattle.expr_keys.specs.declared.productions.Symbol.{Symbol}
 use Rattle.expr_terms.specs.Productions.{body}
 use Rattle.expr_grammar.specs.Machine.{skips}
 use Rattle.expr_reader.specs.declared.frames.Frame.{Frame}
-use Rattle.query_places.specs.Places.{wanted}
+use Rattle.query_grammar.specs.QueryPlaces.Places.{wanted}
 
 abbrev pub Decides : Option Bool → List Symbol → Type 0
 Decides None ss = (below : Bool) → wanted ss below ≡ below

@@ -1,14 +1,14 @@
 // Where an expression may end.
 ghost use Rattle.std.specs.Prelude.{◌≡◌, List, is_some, drop};
 ghost use Rattle.std.specs.List.{list_all};
-ghost use Rattle.expr_terms.specs.declared.tokens.Token.{Token};
+ghost use Rattle.expr_keys.specs.declared.tokens.Token.{Token};
 ghost use Rattle.expr_grammar.specs.Machine.{Frame as Open, skips, finish};
 ghost use Rattle.expr_reader.specs.Tracks.{Tracks};
 ghost use Rattle.expr_reader.specs.View.{frames_of};
 ghost use Rattle.query_reader.specs.Wanted.{is_done};
 
 use crate::places::behind;
-use expr_reader::{Frame, Reader};
+use expr_reader::{ExprParser, Frame};
 use expr_terms::Symbol;
 
 /// Whether nothing more is wanted.
@@ -51,7 +51,7 @@ fn ends_in(frames: &[Frame]) -> bool
 /// Whether the expression may end here: then a `}` closes what stands around it and is no part of
 /// it.
 #[tactic(auto, using(crate::proofs::EndLemmas::done))]
-pub fn may_end(reader: &Reader) -> bool
+pub fn may_end(reader: &ExprParser) -> bool
     ensures { (fs : List Open) (ts : List Token) → Tracks reader.now fs ts →
         result ≡ is_some (finish fs) }
 {

@@ -11,6 +11,8 @@
 
 mod ends;
 mod places;
+pub mod query_heads;
+pub mod query_steps;
 
 pub use ends::may_end;
 pub use places::wants_operand;

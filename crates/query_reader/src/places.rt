@@ -1,17 +1,18 @@
 // Where an operand may come next.
 ghost use Rattle.std.specs.Prelude.{◌≡◌, ◌-◌, List, take, drop};
-ghost use Rattle.expr_terms.specs.declared.tokens.Token.{Token};
-ghost use Rattle.expr_terms.specs.Productions.{body, is_after_root};
+ghost use Rattle.expr_keys.specs.declared.tokens.Token.{Token};
+ghost use Rattle.expr_keys.specs.Classes.{is_after_root};
+ghost use Rattle.expr_terms.specs.Productions.{body};
 ghost use Rattle.expr_grammar.specs.Machine.{Frame as Open};
 ghost use Rattle.expr_reader.specs.Tracks.{Tracks};
 ghost use Rattle.expr_reader.specs.View.{frames_of};
-ghost use Rattle.query_places.specs.Places.{begins_operand, is_outer, wants_operand};
+ghost use Rattle.query_grammar.specs.QueryPlaces.Places.{begins_operand, is_outer, wants_operand};
 ghost use Rattle.query_reader.specs.Wanted.{Decides};
 
-use expr_reader::{Frame, Reader};
+use expr_reader::{ExprParser, Frame};
 use expr_terms::{Class, Nonterminal, Production, Symbol, body};
 
-/// Whether an operand may stand at the front of the nonterminal.
+/// Whether an operand may be at the front of the nonterminal.
 fn begins_operand(nonterminal: Nonterminal) -> bool
     ensures { result ≡ begins_operand nonterminal }
 {
@@ -19,16 +20,16 @@ fn begins_operand(nonterminal: Nonterminal) -> bool
         Nonterminal::Whole => true,
         Nonterminal::Expr => true,
         Nonterminal::Arguments => true,
-        Nonterminal::Single => true,
-        Nonterminal::Spec => true,
+        Nonterminal::ExprSingle => true,
+        Nonterminal::OrderSpec => true,
         Nonterminal::Level(_) => true,
-        Nonterminal::Unary => true,
-        Nonterminal::Path => true,
+        Nonterminal::UnaryExpr => true,
+        Nonterminal::PathExpr => true,
         Nonterminal::AfterRoot => true,
-        Nonterminal::Relative => true,
-        Nonterminal::Step => true,
-        Nonterminal::Primary => true,
-        Nonterminal::Direct => true,
+        Nonterminal::RelativePathExpr => true,
+        Nonterminal::StepExpr => true,
+        Nonterminal::PrimaryExpr => true,
+        Nonterminal::DirElemConstructor => true,
         _ => false,
     }
 }
@@ -37,7 +38,7 @@ fn is_outer(class: Class) -> bool
     ensures { result ≡ is_outer class }
 {
     match class {
-        Class::Outer => true,
+        Class::StartTagOpen => true,
         _ => false,
     }
 }
@@ -119,7 +120,7 @@ fn wanted_in(frames: &[Frame]) -> bool
 /// Whether an operand may come next in the expression, so that `<` directly before a name begins a
 /// direct element there (XQuery 1.0, 3.7.1).
 #[tactic(auto, using(crate::proofs::WantLemmas::tracked))]
-pub fn wants_operand(reader: &Reader) -> bool
+pub fn wants_operand(reader: &ExprParser) -> bool
     ensures { (fs : List Open) (ts : List Token) → Tracks reader.now fs ts →
         result ≡ wants_operand fs }
 {

@@ -13,7 +13,7 @@ use Rattle.query_texts.specs.declared.readings.QueryReading.TheVariants as readi
 use Rattle.xquery_syntax.specs.Answers.{Answer, value, syntax, static, too_deep, answer}
 use Rattle.xquery_syntax.specs.Answers.{Gives}
 use Rattle.xquery_syntax.specs.Spelled.{Parsed, IsSettled}
-use Rattle.xquery_syntax.proofs.ParsedLemmas.{parsed_answer, parsed_nothing, parsed_deep}
+use Rattle.xquery_syntax.proofs.ParsedLemmas.{parsed_answer, parsed_nothing, parsed_deep, result_of}
 use Rattle.xquery_syntax.proofs.ParsedLemmas.{answered_once}
 use Rattle.query_readings.specs.Readings.{raw_query, answer_in, query_reading}
 use Rattle.query_readings.proofs.WrittenLemmas.{read_spelled, spelled_read}
@@ -54,13 +54,6 @@ by_query k text r (Some raw) e g =
 pub gives_parsed : (k : ℕ) (text : List ℕ) (r : Result Query ParseFault)
     → Gives r (query_reading k text) → Parsed r k text
 gives_parsed k text r g = by_query k text r (raw_query text) refl g
-
--- .. and back, since no other answer is right
-abbrev result_of : Answer → Result Query ParseFault
-result_of (value q) = Ok q
-result_of syntax = Err Syntax
-result_of (static c) = Err (Static c)
-result_of too_deep = Err TooDeep
 
 gives_itself : (a : Answer) → Gives (result_of a) a
 gives_itself (value q) = refl

@@ -6,9 +6,9 @@ use Rattle.query_grammar.specs.Machine.{read_query}
 use Rattle.query_grammar.proofs.Run.{spells_reads, reads_spells}
 use Rattle.query_texts.specs.Texts.{SpellsText, spelled}
 use Rattle.query_texts.proofs.OneLemmas.{text_one}
-use Rattle.query_partings.specs.Partings.{partings}
-use Rattle.query_partings.proofs.AmongLemmas.{Among, first, later, contains, among}
-use Rattle.query_partings.proofs.PartingLemmas.{parted_listed, listed_parted}
+use Rattle.query_readings.specs.QueryPartings.Partings.{partings}
+use Rattle.query_readings.proofs.QueryPartings.AmongLemmas.{Among, first, later, contains, among}
+use Rattle.query_readings.proofs.QueryPartings.PartingLemmas.{parted_listed, listed_parted}
 use Rattle.query_readings.specs.Readings.{or_else, first_of, raw_query}
 
 -- what is found is made of an element

@@ -2,7 +2,7 @@
 use Rattle.std.specs.Prelude.{ℕ, List, [], ◌∷◌, Option, Some, None}
 use Rattle.query_grammar.specs.declared.declared.RawQuery.{RawQuery}
 use Rattle.query_grammar.specs.Machine.{read_query}
-use Rattle.query_partings.specs.Partings.{partings}
+use Rattle.query_readings.specs.QueryPartings.Partings.{partings}
 use Rattle.xquery_syntax.specs.Answers.{Answer, syntax, answer_within}
 
 abbrev pub or_else : {B : Type 0} → Option B → Option B → Option B

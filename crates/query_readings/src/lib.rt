@@ -10,6 +10,7 @@
 
 mod laws;
 mod queries;
+pub mod query_partings;
 
 pub use laws::{answers_the_reading, reads_what_is_spelled, reads_what_is_written};
 pub use queries::parse_text;

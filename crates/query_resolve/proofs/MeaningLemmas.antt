@@ -12,9 +12,9 @@ use Rattle.xt_syntax.specs.declared.queries.QueryFunction.{QueryFunction}
 use Rattle.expr_names.specs.declared.fault.ResolveFault.{ResolveFault}
 use Rattle.expr_names.specs.declared.fault.ResolveFault.TheVariants.{Static, Memory}
 use Rattle.expr_names.specs.Answers.{first, Answers}
-use Rattle.prolog_rules.specs.declared.declarations.Declaration.{Declaration}
-use Rattle.prolog_rules.specs.Declarations.{query_broken}
-use Rattle.prolog_rules.specs.Setters.{nothing_seen, setters_broken}
+use Rattle.closed_queries.specs.declared.prolog_rules.declarations.Declaration.{Declaration}
+use Rattle.closed_queries.specs.PrologRules.Declarations.{query_broken}
+use Rattle.closed_queries.specs.PrologRules.Setters.{nothing_seen, setters_broken}
 use Rattle.expr_resolve.specs.declared.setting.Setting.{Setting}
 use Rattle.expr_resolve.specs.Folds.{broken_of, expr_meant}
 use Rattle.query_grammar.specs.declared.declared.Declared.{Declared}
@@ -22,7 +22,7 @@ use Rattle.query_grammar.specs.declared.declared.Declared.TheVariants as declare
 use Rattle.query_grammar.specs.declared.declared.RawQuery.{RawQuery}
 use Rattle.query_options.specs.Options.{no_options}
 use Rattle.query_options.specs.declared.options.Options.{Options}
-use Rattle.query_prologs.specs.Setters.{setters_of, version_broken}
+use Rattle.query_resolve.specs.QueryPrologs.Setters.{setters_of, version_broken}
 use Rattle.query_resolve.specs.Declarations.{variable_meant, function_meant}
 use Rattle.query_resolve.specs.Late.{declaration_in, options_behind, declarations_of, late_broken}
 use Rattle.query_resolve.specs.Late.{all_broken}

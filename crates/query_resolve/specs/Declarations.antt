@@ -8,9 +8,9 @@ use Rattle.xt_syntax.specs.declared.queries.QueryVar.{QueryVar}
 use Rattle.xt_syntax.specs.declared.queries.QueryFunction.{QueryFunction}
 use Rattle.xt_syntax.specs.declared.queries.QueryParam.{QueryParam}
 use Rattle.expr_names.specs.Names.{undeclared_in, expr_name}
-use Rattle.expr_terms.specs.declared.tokens.Token.{Token}
+use Rattle.expr_keys.specs.declared.tokens.Token.{Token}
 use Rattle.expr_terms.specs.declared.raws.Raw.{Raw}
-use Rattle.expr_meant.specs.Names.{written_in}
+use Rattle.expr_rules.specs.ExprMeant.Names.{written_in}
 use Rattle.expr_resolve.specs.declared.setting.Setting.{Setting}
 use Rattle.expr_resolve.specs.Folds.{broken_of, expr_meant, type_broken, type_meant}
 use Rattle.query_grammar.specs.declared.declared.Typed.{Typed}

@@ -1,8 +1,8 @@
 -- Variables, functions and options, one after another (XQuery 1.0, 4.14 to 4.16).
 use Rattle.std.specs.Prelude.{List, [], ◌∷◌, ◌++◌}
 use Rattle.xt_names.specs.declared.codes.Code.{Code}
-use Rattle.prolog_rules.specs.declared.declarations.Declaration.{Declaration}
-use Rattle.prolog_rules.specs.declared.declarations.Declaration.TheVariants as declaration
+use Rattle.closed_queries.specs.declared.prolog_rules.declarations.Declaration.{Declaration}
+use Rattle.closed_queries.specs.declared.prolog_rules.declarations.Declaration.TheVariants as declaration
 use Rattle.expr_resolve.specs.declared.setting.Setting.{Setting}
 use Rattle.query_grammar.specs.declared.declared.Declared.{Declared}
 use Rattle.query_grammar.specs.declared.declared.Declared.TheVariants as declared
@@ -24,7 +24,7 @@ unfoldable pub options_behind : Setting → Options → Declared → Options
 options_behind s o (declared.Setting name text) = with_option s.prefixes.bound o name text
 options_behind s o _ = o
 
--- the rules that a declaration breaks in how it is written, behind these options
+-- the rules that a declaration breaks in how it is written, after these options
 unfoldable pub late_broken : Setting → Options → Declared → List Code
 late_broken s o (declared.Setting name text) = option_broken s.prefixes.bound o name text
 late_broken s o (declared.Variable v value) = variable_broken s v value
@@ -42,7 +42,7 @@ abbrev pub declarations_of : Setting → List Declared → List Declaration
 declarations_of s [] = []
 declarations_of s (d ∷ ds) = declaration_in s d ++ declarations_of s ds
 
--- the options behind all declarations
+-- the options after all declarations
 abbrev pub all_options : Setting → Options → List Declared → Options
 all_options s o [] = o
 all_options s o (d ∷ ds) = all_options s (options_behind s o d) ds

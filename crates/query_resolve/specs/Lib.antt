@@ -2,3 +2,4 @@ pub mod Declarations
 pub mod Late
 pub mod Queries
 pub mod Meaning
+pub mod QueryPrologs

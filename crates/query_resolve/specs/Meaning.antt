@@ -6,9 +6,9 @@ use Rattle.xt_syntax.specs.declared.queries.QueryVar.{QueryVar}
 use Rattle.xt_syntax.specs.declared.queries.QueryFunction.{QueryFunction}
 use Rattle.expr_names.specs.declared.fault.ResolveFault.{ResolveFault}
 use Rattle.expr_names.specs.declared.fault.ResolveFault.TheVariants.{Static, Memory}
-use Rattle.prolog_rules.specs.Declarations.{query_broken}
-use Rattle.prolog_rules.specs.Setters.{nothing_seen, setters_broken}
-use Rattle.expr_terms.specs.declared.tokens.Token.{Token}
+use Rattle.closed_queries.specs.PrologRules.Declarations.{query_broken}
+use Rattle.closed_queries.specs.PrologRules.Setters.{nothing_seen, setters_broken}
+use Rattle.expr_keys.specs.declared.tokens.Token.{Token}
 use Rattle.expr_terms.specs.declared.raws.Raw.{Raw}
 use Rattle.expr_resolve.specs.declared.setting.Setting.{Setting}
 use Rattle.expr_resolve.specs.Folds.{broken_of, expr_meant}
@@ -18,8 +18,8 @@ use Rattle.query_grammar.specs.declared.declared.RawQuery.{RawQuery}
 use Rattle.query_grammar.specs.declared.declared.Typed.{Typed}
 use Rattle.query_options.specs.Options.{no_options}
 use Rattle.query_options.specs.declared.options.Options.{Options}
-use Rattle.query_prologs.specs.Setters.{setters_of, version_broken}
-use Rattle.query_prologs.specs.Prefixes.{declared_bindings, element_default}
+use Rattle.query_resolve.specs.QueryPrologs.Setters.{setters_of, version_broken}
+use Rattle.query_resolve.specs.QueryPrologs.Prefixes.{declared_bindings, element_default}
 use Rattle.query_resolve.specs.Declarations.{variable_meant, function_meant}
 use Rattle.query_resolve.specs.Late.{declaration_in, options_behind, late_broken, all_options}
 use Rattle.query_resolve.specs.Queries.{setting_of, late_of}
@@ -29,7 +29,7 @@ pub data Among (c : Code) : List Code → Type 0 where
   here : {cs : List Code} → Among c (c ∷ cs)
   there : {d : Code} {cs : List Code} → Among c cs → Among c (d ∷ cs)
 
--- one of the declarations breaks the rule of this code, behind the options before it
+-- one of the declarations breaks the rule of this code, after the options before it
 pub data BrokenIn (s : Setting) (c : Code) : Options → List Declared → Type 0 where
   by_first : {o : Options} {d : Declared} {ds : List Declared} → Among c (late_broken s o d)
       → BrokenIn s c o (d ∷ ds)

@@ -8,15 +8,15 @@ use Rattle.xt_syntax.specs.declared.queries.QueryFunction.{QueryFunction}
 use Rattle.expr_names.specs.Answers.{first}
 use Rattle.expr_names.specs.declared.fault.ResolveFault.{ResolveFault}
 use Rattle.expr_names.specs.declared.fault.ResolveFault.TheVariants.{Static, Memory}
-use Rattle.prolog_rules.specs.declared.declarations.Declaration.{Declaration}
-use Rattle.prolog_rules.specs.declared.declarations.Declaration.TheVariants as declaration
-use Rattle.prolog_rules.specs.declared.setters.Setter.{Setter}
-use Rattle.prolog_rules.specs.Declarations.{query_broken}
+use Rattle.closed_queries.specs.declared.prolog_rules.declarations.Declaration.{Declaration}
+use Rattle.closed_queries.specs.declared.prolog_rules.declarations.Declaration.TheVariants as declaration
+use Rattle.closed_queries.specs.declared.prolog_rules.setters.Setter.{Setter}
+use Rattle.closed_queries.specs.PrologRules.Declarations.{query_broken}
 use Rattle.expr_resolve.specs.declared.setting.Setting.{Setting}
 use Rattle.expr_resolve.specs.Folds.{broken_of, expr_meant}
 use Rattle.query_grammar.specs.declared.declared.RawQuery.{RawQuery}
-use Rattle.query_prologs.specs.Setters.{setters_of, first_part_broken}
-use Rattle.query_prologs.specs.Prefixes.{declared_bindings, is_stripped, prefixes_of}
+use Rattle.query_resolve.specs.QueryPrologs.Setters.{setters_of, first_part_broken}
+use Rattle.query_resolve.specs.QueryPrologs.Prefixes.{declared_bindings, is_stripped, prefixes_of}
 use Rattle.query_resolve.specs.declared.late.Late.{Late}
 use Rattle.query_options.specs.Options.{no_options}
 use Rattle.query_resolve.specs.Late.{late_meant, all_broken}
@@ -50,7 +50,7 @@ setting_of raw = setting_behind (setters_of raw.declared)
 abbrev pub late_of : RawQuery → Late
 late_of raw = late_meant (setting_of raw) raw.declared
 
--- the rules that are broken behind the setters: those on how the rest is written, and those on
+-- the rules that are broken after the setters: those on how the rest is written, and those on
 -- variables and functions that are not declared
 abbrev pub rest_broken : Setting → RawQuery → List Code
 rest_broken s raw =

@@ -3,7 +3,7 @@ ghost use Rattle.std.specs.Prelude.{◌≡◌, ◌++◌, [], option_map, List as
 ghost use Rattle.xt_names.specs.declared.codes.Code.{Code};
 ghost use Rattle.expr_names.specs.Answers.{Answers};
 ghost use Rattle.expr_names.specs.Names.{expr_name};
-ghost use Rattle.expr_meant.specs.Names.{written_in};
+ghost use Rattle.expr_rules.specs.ExprMeant.Names.{written_in};
 ghost use Rattle.expr_resolve.specs.Folds.{broken_of, expr_meant};
 ghost use Rattle.query_resolve.specs.Declarations.{name_broken, kind_broken, kind_meant};
 ghost use Rattle.query_resolve.specs.Declarations.{value_broken};
@@ -12,9 +12,9 @@ ghost use Rattle.query_resolve.specs.Declarations.{params_meant};
 ghost use Rattle.query_resolve.specs.Declarations.{variable_broken, variable_meant};
 ghost use Rattle.query_resolve.specs.Declarations.{function_broken, function_meant};
 
-use expr_meant::written_in;
 use expr_names::{ResolveFault, expr_name, no_text};
 use expr_resolve::{Setting, resolve, resolve_type};
+use expr_rules::expr_meant::written_in;
 use expr_terms::{Raw, Token};
 use query_grammar::Typed;
 use std::alloc::Global;

@@ -1,8 +1,8 @@
 // Variables, functions and options, one after another.
 ghost use Rattle.std.specs.Prelude.{◌≡◌, ◌++◌, ◌∷◌, [], List as Items};
 ghost use Rattle.xt_names.specs.declared.codes.Code.{Code};
-ghost use Rattle.prolog_rules.specs.declared.declarations.Declaration.{Declaration};
-ghost use Rattle.prolog_rules.specs.declared.declarations.Declaration.TheVariants as declaration;
+ghost use Rattle.closed_queries.specs.declared.prolog_rules.declarations.Declaration.{Declaration};
+ghost use Rattle.closed_queries.specs.declared.prolog_rules.declarations.Declaration.TheVariants as declaration;
 ghost use Rattle.expr_names.specs.Answers.{Answers};
 ghost use Rattle.query_options.specs.Options.{no_options, option_broken, with_option};
 ghost use Rattle.query_resolve.specs.Declarations.{variable_broken, variable_meant};
@@ -11,10 +11,10 @@ ghost use Rattle.query_resolve.specs.Late.{late_broken, late_behind, late_meant,
 ghost use Rattle.query_resolve.specs.Late.{declaration_in, options_behind};
 
 use crate::declarations::{function_of, variable_of};
+use closed_queries::prolog_rules::Declaration;
 use expr_names::ResolveFault;
 use expr_resolve::Setting;
 use expr_terms::Token;
-use prolog_rules::Declaration;
 use query_grammar::Declared;
 use query_options::{Options, no_options, with_option};
 use std::alloc::Global;

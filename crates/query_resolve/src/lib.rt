@@ -15,6 +15,7 @@ mod late;
 mod laws;
 mod parts;
 mod queries;
+pub mod query_prologs;
 
 pub use late::Late;
 pub use laws::{means_one, resolves_what_is_meant};

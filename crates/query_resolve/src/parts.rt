@@ -2,7 +2,7 @@
 ghost use Rattle.std.specs.Prelude.{◌≡◌, IfOk};
 ghost use Rattle.query_resolve.specs.Queries.{variables_in, functions_in};
 
-use prolog_rules::Declaration;
+use closed_queries::prolog_rules::Declaration;
 use std::alloc::{AllocError, Global};
 use xt_names::List;
 use xt_syntax::{QueryFunction, QueryVar};

@@ -7,18 +7,20 @@ ghost use Rattle.query_resolve.specs.declared.queries.Parts.{Parts};
 ghost use Rattle.query_resolve.specs.Late.{late_meant};
 ghost use Rattle.expr_names.specs.Answers.{Answers};
 ghost use Rattle.expr_resolve.specs.Folds.{broken_of, expr_meant};
-ghost use Rattle.prolog_rules.specs.Declarations.{query_broken};
+ghost use Rattle.closed_queries.specs.PrologRules.Declarations.{query_broken};
 ghost use Rattle.query_resolve.specs.Queries.{setting_behind, query_by, rest_broken};
 ghost use Rattle.query_resolve.specs.Meaning.{Resolved};
 ghost use Rattle.query_resolve.specs.Queries.{rules_broken, query_meant, resolved, Gives};
 
 use crate::late::{Late, late_of};
 use crate::parts::{functions_in, variables_in};
+use crate::query_prologs::{
+    answer_to, checked_setters, declared_bindings, is_stripped, prefixes_of,
+};
+use closed_queries::prolog_rules::{Declaration, Setter, broken_query};
 use expr_names::ResolveFault;
 use expr_resolve::{Setting, resolve};
-use prolog_rules::{Declaration, Setter, broken_query};
 use query_grammar::RawQuery;
-use query_prologs::{answer_to, checked_setters, declared_bindings, is_stripped, prefixes_of};
 use std::alloc::{AllocError, Global};
 use xt_names::List;
 use xt_syntax::{Expr, Query};
@@ -39,7 +41,7 @@ fn check_names(declarations: &List<Declaration>, body: &Expr) -> Result<(), Reso
     answer_to(found)
 }
 
-/// What stands behind the setters.
+/// What comes after the setters.
 #[derive(Drop)]
 struct Parts {
     late: Late,

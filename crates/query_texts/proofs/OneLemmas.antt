@@ -3,11 +3,11 @@ use Rattle.std.proofs.Common.{◌≡◌, ◌⊎◌, inl, inr, ℕ, Bool, true, f
 use Rattle.std.proofs.Common.{refl, sym, ◌∙◌, ap, subst, Option, Some, None, option_map}
 use Rattle.std.proofs.Common.{option_and_then}
 use Rattle.std.proofs.lemmas.Option.{none-some}
-use Rattle.expr_terms.specs.declared.keys.Key.TheVariants as key
-use Rattle.expr_terms.specs.declared.tokens.Token.{Token}
-use Rattle.expr_terms.specs.declared.tokens.Token.TheVariants as token
+use Rattle.expr_keys.specs.declared.keys.Key.TheVariants as key
+use Rattle.expr_keys.specs.declared.tokens.Token.{Token}
+use Rattle.expr_keys.specs.declared.tokens.Token.TheVariants as token
 use Rattle.expr_terms.specs.declared.choices.Second.TheVariants as second
-use Rattle.expr_terms.specs.Tokens.{fits_name}
+use Rattle.expr_keys.specs.Tokens.{fits_name}
 use Rattle.expr_terms.specs.Choices.{second_of, second_token, open_next}
 use Rattle.query_grammar.specs.declared.declared.RawQuery.{RawQuery}
 use Rattle.query_grammar.specs.Prolog.{SpellsQuery}
@@ -22,13 +22,14 @@ use Rattle.query_pieces.specs.Readings.{Reads, Splits, over, reads}
 use Rattle.query_pieces.proofs.ReadingLemmas.{reads_one, reads_ends, reads_modes}
 use Rattle.query_texts.specs.Texts.{SpellsText, spelled}
 use Rattle.query_texts.proofs.SuitLemmas.{Suits, suits, reads_before}
+use Rattle.xt_names.proofs.BoolLemmas.{never}
 
 -- the token tells nothing of the word before it
 record IsPlain (t : Token) : Type 0 where
   alone : (ts : List Token) → second_of (t ∷ ts) ≡ second.Alone
   shut : (ts : List Token) → open_next (t ∷ ts) ≡ false
 
-outer_plain : (t : Token) (p l : List ℕ) → t ≡ token.Outer p l → IsPlain t
+outer_plain : (t : Token) (p l : List ℕ) → t ≡ token.StartTagOpen p l → IsPlain t
 outer_plain t p l e =
     subst (λ z. IsPlain z) (sym e) (record { alone = λ ts. refl; shut = λ ts. refl })
 
@@ -42,7 +43,7 @@ data Two (t u : Token) (q r : Point) : Type 0 where
   plain : IsPlain t → IsPlain u → Two t u q r
 
 by_modes : (t u : Token) (q r : Point) → ((t ≡ u) × (q ≡ r)) ⊎ ((prefix local : List ℕ)
-    × (t ≡ token.Outer prefix local) × (u ≡ token.Key key.Less)) → Two t u q r
+    × (t ≡ token.StartTagOpen prefix local) × (u ≡ token.Key key.Less)) → Two t u q r
 by_modes t u q r (inl (e, f)) = same e f
 by_modes t u q r (inr (a, b, e, f)) = plain (outer_plain t a b e) (less_plain u f)
 
@@ -112,9 +113,6 @@ made : (f : RawQuery → RawQuery) (o : Option RawQuery) (a : RawQuery)
     → option_map f o ≡ Some a → Made o
 made f None a e = absurd (none-some a e)
 made f (Some q) a e = record { query = q; is = refl }
-
-never : {P : Type 0} → false ≡ true → P
-never e = cc
 
 one_on : (m : Mode) (t : Token) (q : Point) (ts us : List Token) (u : Turn) (a b : RawQuery)
     → step m t (second_of ts) ≡ u → step m t (second_of us) ≡ u → Leads m (t ∷ ts)

@@ -7,7 +7,7 @@ use Rattle.query_grammar.specs.declared.declared.Declared.{Declared}
 use Rattle.query_grammar.specs.declared.declared.Declared.TheVariants as declared
 use Rattle.query_grammar.specs.declared.declared.RawQuery.{RawQuery}
 use Rattle.query_grammar.specs.Machine.{behind, of_body}
-use Rattle.query_steps.specs.Stands.{nest_in}
+use Rattle.query_reader.specs.QuerySteps.Stands.{nest_in}
 use Rattle.query_texts.specs.declared.orders.Order.{Order}
 use Rattle.query_texts.specs.declared.orders.Order.TheVariants.{First, Early, Late}
 use Rattle.query_texts.specs.Orders.{placed, may_follow}
@@ -55,10 +55,6 @@ nest_append (e ∷ ds) d = let h = nest_append ds d in omega (arith, h)
 pub nest_all : (ds : List Declared) → declared_nest (ds ++ []) ≡ declared_nest ds
 nest_all [] = refl
 nest_all (e ∷ ds) = ap (max (nest_in e)) (nest_all ds)
-
-pub nil : (ds : List Declared) → ds ++ [] ≡ ds
-nil [] = refl
-nil (d ∷ ds) = ap (λ z. d ∷ z) (nil ds)
 
 -- one declaration more
 moved_if : (b : Bool) (ds : List Declared) (d : Declared) (q : RawQuery)
@@ -118,7 +114,7 @@ pub kept_deep : (k : ℕ) (xs ds : List Declared) (d : Declared) → k < nest_in
     → AreKept k true xs (ds ++ d ∷ [])
 kept_deep k xs ds d h = let a = nest_append ds d in omega (arith, a, h)
 
--- behind the last declaration
+-- after the last declaration
 pub all_follow : (o : Order) (r : Option Raw)
     → option_and_then (if_follows o) (option_map of_body r) ≡ option_map of_body r
 all_follow o None = refl

@@ -3,7 +3,7 @@ use Rattle.std.proofs.Common.{◌≡◌, inl, inr, ◌<◌, ◌≤◌, ℕ, Bool
 use Rattle.std.proofs.Common.{◌∷◌, ◌++◌, refl, sym, ◌∙◌, ap, subst, arith, Option, Some}
 use Rattle.std.proofs.Common.{None, option_map, option_and_then}
 use Rattle.std.proofs.lemmas.Option.{none-some}
-use Rattle.expr_terms.specs.declared.tokens.Token.{Token}
+use Rattle.expr_keys.specs.declared.tokens.Token.{Token}
 use Rattle.expr_terms.specs.declared.raws.Raw.{Raw}
 use Rattle.expr_terms.specs.declared.choices.Second.{Second}
 use Rattle.expr_terms.specs.Choices.{second_of}
@@ -22,12 +22,12 @@ use Rattle.query_pieces.specs.Points.{Point, start, before_of}
 use Rattle.query_pieces.specs.Readings.{Reads, IsEnd, Splits, over, reads}
 use Rattle.query_pieces.specs.Answers.{IsStuck}
 use Rattle.query_pieces.proofs.ReadingLemmas.{reads_one, reads_ends}
-use Rattle.query_steps.specs.declared.stages.Stage.{Stage}
-use Rattle.query_steps.specs.declared.stages.Stage.TheVariants as stage
-use Rattle.query_steps.specs.declared.stages.Turn.{Turn}
-use Rattle.query_steps.specs.declared.stages.Turn.TheVariants as turn
-use Rattle.query_steps.specs.Stands.{nest_in, IsKept, Stands, Turned, Goes, Ends}
-use Rattle.query_steps.proofs.ExpressionLemmas.{nothing_of, value_of, deep_of}
+use Rattle.query_reader.specs.declared.query_steps.stages.ReaderState.{ReaderState}
+use Rattle.query_reader.specs.declared.query_steps.stages.ReaderState.TheVariants as stage
+use Rattle.query_reader.specs.declared.query_steps.stages.StepResult.{StepResult}
+use Rattle.query_reader.specs.declared.query_steps.stages.StepResult.TheVariants as turn
+use Rattle.query_reader.specs.QuerySteps.Stands.{nest_in, IsKept, Stands, Turned, Goes, Ends}
+use Rattle.query_reader.proofs.QuerySteps.ExpressionLemmas.{nothing_of, value_of, deep_of}
 use Rattle.query_texts.specs.declared.orders.Order.{Order}
 use Rattle.query_texts.specs.declared.orders.Order.TheVariants.{First, Late}
 use Rattle.query_texts.specs.declared.readings.QueryReading.{QueryReading}
@@ -37,9 +37,11 @@ use Rattle.query_texts.specs.Orders.{placed}
 use Rattle.query_texts.specs.Texts.{SpellsText, spelled, declared_nest, ReadAs}
 use Rattle.query_texts.specs.Standings.{behind_all, if_follows, AreKept, Here}
 use Rattle.query_texts.specs.Standings.{Standing, Judged, Takes, Closes, progress}
-use Rattle.query_texts.proofs.OrderLemmas.{nest_all, nil, placed_on, placed_none, late_on}
+use Rattle.query_texts.proofs.OrderLemmas.{nest_all, placed_on, placed_none, late_on}
 use Rattle.query_texts.proofs.OrderLemmas.{kept_more, kept_deep, all_follow}
 use Rattle.query_texts.proofs.SuitLemmas.{Suits, suits, reads_before}
+use Rattle.xt_names.proofs.BoolLemmas.{never}
+use Rattle.std.proofs.lemmas.List.{append-nil}
 
 -- before the first token
 same_query : (o : Option RawQuery) → o ≡ option_map (behind_all []) o
@@ -71,7 +73,7 @@ begins k text xs e =
     }
 
 -- a token
-abbrev pub Turns : ℕ → Stage → Token → Second → Turn → Type 0
+abbrev pub Turns : ℕ → ReaderState → Token → Second → StepResult → Type 0
 Turns k s t n x =
     (m : Mode) (us : List Token) → second_of us ≡ n → Stands k s m (t ∷ us)
     → Turned k x (step m t n) us
@@ -92,7 +94,7 @@ take_refused k g b ts us t n f e h =
     (ap (step h.mode t) e ∙ f h.mode us e h.stands)
 
 pub take_onto : (k : ℕ) (g : Progress) (b : Before) (ts us : List Token) (t : Token)
-    (n : Second) (s : Stage) → Turns k g.stage t n (turn.Onto s) → second_of us ≡ n
+    (n : Second) (s : ReaderState) → Turns k g.stage t n (turn.Onto s) → second_of us ≡ n
     → Here k g b ts (t ∷ us)
     → Here k (progress s g.order g.is_deep g.declared) (before_of t) ts us
 take_onto k g b ts us t n s f e h =
@@ -124,10 +126,6 @@ take_ends k g b ts us t n o f e h =
       reads = turned_to k g b ts us t h (machine.ends x.declared) u;
     }
 
--- behind a declaration
-no_lone : {P : Type 0} → false ≡ true → P
-no_lone e = cc
-
 pub behind_deep : (k : ℕ) (o : Order) (d : Bool) (xs ys : List Declared) (b : Before)
     (ts us : List Token) (x : Option Declared) → x ≡ None → Closes k x o d xs ts us
     → Here k (progress stage.Front Late true ys) b ts us
@@ -138,7 +136,7 @@ behind_deep k o d xs ys b ts us x e c =
       declared = c.before ++ c.last ∷ [];
       stands = refl;
       leads = c.leads;
-      lone = λ f. no_lone f;
+      lone = λ f. never f;
       reads = c.reads ∙ late_on o k c.before c.last (run us machine.front) n;
       kept = kept_deep k ys c.before c.last n;
     }
@@ -162,7 +160,7 @@ behind_some k o d xs ys b ts us x e p q f g h y c =
       declared = c.before ++ c.last ∷ [];
       stands = refl;
       leads = c.leads;
-      lone = λ f. no_lone f;
+      lone = λ f. never f;
       reads =
           c.reads ∙ placed_on o q c.before c.last (run us machine.front)
           (ap (placed o) (sym n.0) ∙ (sym g ∙ h));
@@ -170,7 +168,7 @@ behind_some k o d xs ys b ts us x e p q f g h y c =
     }
 
 -- the end of the tokens
-abbrev pub Finishes : ℕ → Stage → Reading → Type 0
+abbrev pub Finishes : ℕ → ReaderState → Reading → Type 0
 Finishes k s x = (m : Mode) → Stands k s m [] → x ≡ within k (ended m)
 
 end_reads : (k : ℕ) (g : Progress) (b : Before) (ts : List Token) (h : Here k g b ts [])
@@ -222,7 +220,7 @@ end_value k g b ts x v f e p h =
     let c = n.1 in (
       end_reads k g b ts h (Some v) d.is
           ∙ ap (λ z. Some (record { declared = z; body = v }))
-          (nil h.declared ∙ sym n.0),
+          (append-nil h.declared ∙ sym n.0),
       omega (arith, m, a, c),
     )
 
@@ -237,7 +235,7 @@ led k g p ts q us t h e b r x = go (suits h.mode b p t r us h.leads h.lone x)
     go (inl y) = absurd (none-some q (sym (turned_to k g p.before ts us t h machine.refused y) ∙ e))
 
 -- what may be read where an operand is or is not wanted may be read under this
-abbrev pub Wants : Stage → Point → Bool → Type 0
+abbrev pub Wants : ReaderState → Point → Bool → Type 0
 Wants s p w = (k : ℕ) (m : Mode) (ts : List Token) → Stands k s m ts → (t : Token) (r : Point)
     → Reads (wants m) p t r → Reads w p t r
 

@@ -3,10 +3,9 @@ use Rattle.std.proofs.Common.{◌≡◌, ◌⊎◌, inl, inr, ℕ, Bool, true, f
 use Rattle.std.proofs.Common.{codes, refl, sym, ◌∙◌, ap, subst, Some}
 use Rattle.std.proofs.lemmas.Bool.{and_parts}
 use Rattle.std.specs.Str.{bytes_eq}
-use Rattle.xpath_lex.specs.Classes.{starts_name}
-use Rattle.expr_terms.specs.declared.keys.Key.TheVariants as key
-use Rattle.expr_terms.specs.declared.tokens.Token.{Token}
-use Rattle.expr_terms.specs.declared.tokens.Token.TheVariants as token
+use Rattle.expr_keys.specs.declared.keys.Key.TheVariants as key
+use Rattle.expr_keys.specs.declared.tokens.Token.{Token}
+use Rattle.expr_keys.specs.declared.tokens.Token.TheVariants as token
 use Rattle.expr_terms.specs.Choices.{second_of}
 use Rattle.query_grammar.specs.Machine.{Mode, step, wants, is_lone, Leads, refused}
 use Rattle.query_grammar.proofs.Operands.{outer_refused, less_refused}
@@ -16,9 +15,9 @@ use Rattle.query_pieces.specs.declared.contexts.Before.TheVariants.{Slash as sla
 use Rattle.query_pieces.specs.declared.contexts.Before.TheVariants.{Other as other}
 use Rattle.query_pieces.specs.Points.{Point, before_of}
 use Rattle.query_pieces.specs.Fronts.{begins, NameAt, name_at, name_with, local_at, run_of, rest_of}
-use Rattle.xpath_lex.specs.Classes.{is_name_char}
 use Rattle.query_pieces.specs.Readings.{may_open, opens, Reads, spelled, opened, parted}
 use Rattle.query_pieces.proofs.ReadingLemmas.{reads_modes}
+use Rattle.xt_names.specs.Characters.{starts_name, is_name_char}
 
 may_same : (b c : Bool) (x : Before) → x ≡ slash_key → may_open b x ≡ may_open c x
 may_same b c slash_key e = refl
@@ -30,7 +29,7 @@ opens_same : (b c : Bool) (x : Before) (cs rest : List ℕ) → x ≡ slash_key
 opens_same b c x cs rest e =
     ap (λ z. z && (bytes_eq cs (codes "<") && begins starts_name rest)) (may_same b c x e)
 
--- behind a `/` it does not matter whether an operand may stand there
+-- after a `/` it does not matter whether an operand may be there
 slash_reads : (b c : Bool) (p : Point) (t : Token) (q : Point) → p.before ≡ slash_key
     → Reads b p t q → Reads c p t q
 slash_reads b c p t q e (spelled {u = u} {rest = m} a o s f) =
@@ -69,7 +68,7 @@ as_operator : (m : Mode) (p : Point) (t : Token) (q : Point) (us : List Token)
 as_operator m p t q us l w (spelled {u = u} {rest = r} a o s f) =
     inr (spelled a (less_open p.before u.characters r o) s f)
 as_operator m p t q us l w (opened {u = u} {rest = r} {n = n} a o s g f) =
-    let h : Leads m (token.Outer n.prefix n.local ∷ us) = subst (λ z. Leads m (z ∷ us)) g l in
+    let h : Leads m (token.StartTagOpen n.prefix n.local ∷ us) = subst (λ z. Leads m (z ∷ us)) g l in
     inl (ap (λ z. step m z (second_of us)) g ∙ outer_refused m n.prefix n.local us h w)
 as_operator m p t q us l w (parted k z g f) = inr (parted k z g f)
 
@@ -80,7 +79,7 @@ named rest e = (
   rw e refl,
 )
 
--- no `<` is taken where one may, but behind a `/` that stands alone
+-- no `<` is taken where one may, but after a `/` that stands alone
 compared : (m : Mode) (p : Point) (t : Token) (q : Point) (us : List Token) → Leads m (t ∷ us)
     → (is_lone m ≡ true → p.before ≡ slash_key) → wants m ≡ true → t ≡ token.Key key.Less
     → Reads false p t q → (b : Bool) → is_lone m ≡ b → SuitsAs true m p t q us
@@ -92,7 +91,7 @@ compared m p t q us l k w e r false f =
 by_modes : (m : Mode) (p : Point) (t u : Token) (q r : Point) (us : List Token)
     → Leads m (t ∷ us) → (is_lone m ≡ true → p.before ≡ slash_key) → wants m ≡ true
     → Reads true p u r → Reads false p t q → ((u ≡ t) × (r ≡ q)) ⊎ ((prefix local : List ℕ)
-    × (u ≡ token.Outer prefix local) × (t ≡ token.Key key.Less)) → SuitsAs true m p t q us
+    × (u ≡ token.StartTagOpen prefix local) × (t ≡ token.Key key.Less)) → SuitsAs true m p t q us
 by_modes m p t u q r us l k w x y (inl s) =
     inr (subst (λ z. Reads true p z q) s.0 (subst (λ z. Reads true p u z) s.1 x))
 by_modes m p t u q r us l k w x y (inr (a, b, f, g)) =

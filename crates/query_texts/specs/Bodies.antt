@@ -1,11 +1,11 @@
 -- Where the reading of the body of a query leads.
 use Rattle.std.specs.Prelude.{ℕ, Bool, List, Option, Some, None, length, ◌<◌}
-use Rattle.expr_reader.specs.declared.running.Reader.{Reader}
+use Rattle.expr_reader.specs.declared.running.ExprParser.{ExprParser}
 use Rattle.query_grammar.specs.declared.declared.Declared.{Declared}
 use Rattle.query_pieces.specs.Points.{Point}
 use Rattle.query_pieces.specs.Aheads.{Sees}
 use Rattle.query_pieces.specs.Readings.{IsEnd}
-use Rattle.query_steps.specs.declared.stages.Stage.TheVariants.{Body}
+use Rattle.query_reader.specs.declared.query_steps.stages.ReaderState.TheVariants.{Body}
 use Rattle.query_texts.specs.declared.orders.Order.{Order}
 use Rattle.query_texts.specs.declared.readings.QueryReading.TheVariants as reading
 use Rattle.query_texts.specs.declared.texts.Progress.{Progress}
@@ -37,6 +37,6 @@ pub record AtEnd (k : ℕ) (text : List ℕ) (g : Progress) : Type 0 where
   pub standing : Standing k text g point
   pub is_end : IsEnd point
 
-abbrev pub Rests : ℕ → List ℕ → Option Reader → Order → Bool → List Declared → Type 0
+abbrev pub Rests : ℕ → List ℕ → Option ExprParser → Order → Bool → List Declared → Type 0
 Rests k text None o d ds = ReadAs text k reading.Nothing
 Rests k text (Some r) o d ds = AtEnd k text (progress (Body r) o d ds)

@@ -6,7 +6,7 @@ use Rattle.query_grammar.specs.Prolog.{is_late, is_version, all_late, in_order, 
 use Rattle.query_texts.specs.declared.orders.Order.{Order}
 use Rattle.query_texts.specs.declared.orders.Order.TheVariants.{First, Early, Late}
 
--- which declarations may come behind this one, where it may come itself
+-- which declarations may come after this one, where it may come itself
 abbrev pub placed : Order → Declared → Option Order
 placed First d = Some (if is_late d then Late else Early)
 placed Early d = if is_version d then None else Some (if is_late d then Late else Early)

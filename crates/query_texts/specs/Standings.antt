@@ -1,7 +1,7 @@
 -- Where the reading of a text stands.
 use Rattle.std.specs.Prelude.{◌≡◌, ◌<◌, ◌≤◌, ℕ, Bool, true, false, List, ◌++◌, length}
 use Rattle.std.specs.Prelude.{Option, Some, None, Result, Ok, Err, option_map, option_and_then, if◌then◌else◌}
-use Rattle.expr_terms.specs.declared.tokens.Token.{Token}
+use Rattle.expr_keys.specs.declared.tokens.Token.{Token}
 use Rattle.query_grammar.specs.declared.declared.Declared.{Declared}
 use Rattle.query_grammar.specs.declared.declared.RawQuery.{RawQuery}
 use Rattle.query_grammar.specs.Machine.{Mode, front, behind, run, read_query, is_lone, Leads}
@@ -10,10 +10,10 @@ use Rattle.query_pieces.specs.declared.contexts.Before.TheVariants.{Slash as sla
 use Rattle.query_pieces.specs.Points.{Point, start}
 use Rattle.query_pieces.specs.Aheads.{Sees}
 use Rattle.query_pieces.specs.Readings.{Splits}
-use Rattle.expr_reader.specs.declared.running.Reader.{Reader}
-use Rattle.query_steps.specs.declared.stages.Stage.{Stage}
-use Rattle.query_steps.specs.declared.stages.Stage.TheVariants.{Body}
-use Rattle.query_steps.specs.Stands.{IsKept, Stands}
+use Rattle.expr_reader.specs.declared.running.ExprParser.{ExprParser}
+use Rattle.query_reader.specs.declared.query_steps.stages.ReaderState.{ReaderState}
+use Rattle.query_reader.specs.declared.query_steps.stages.ReaderState.TheVariants.{Body}
+use Rattle.query_reader.specs.QuerySteps.Stands.{IsKept, Stands}
 use Rattle.query_texts.specs.declared.orders.Order.{Order}
 use Rattle.query_texts.specs.declared.readings.QueryReading.{QueryReading}
 use Rattle.query_texts.specs.declared.readings.QueryReading.TheVariants as reading
@@ -102,11 +102,11 @@ abbrev pub SeesOn : Next → Point → Type 0
 SeesOn (next.Ends r) p = Unit {0}
 SeesOn (next.Onto g a) p = Sees p a
 
-abbrev pub progress : Stage → Order → Bool → List Declared → Progress
+abbrev pub progress : ReaderState → Order → Bool → List Declared → Progress
 progress s o b xs = record { stage = s; order = o; is_deep = b; declared = xs }
 
 -- what is read of the body, or the stage that is none of the body
-abbrev pub Parted : Stage → Result Reader Stage → Type 0
+abbrev pub Parted : ReaderState → Result ExprParser ReaderState → Type 0
 Parted s (Ok r) = s ≡ Body r
 Parted s (Err t) = s ≡ t
 

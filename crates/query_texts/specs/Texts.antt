@@ -1,13 +1,13 @@
 -- Which text spells which query.
 use Rattle.std.specs.Prelude.{◌<◌, ◌≤◌, ℕ, max, List, [], ◌∷◌}
-use Rattle.expr_terms.specs.declared.tokens.Token.{Token}
+use Rattle.expr_keys.specs.declared.tokens.Token.{Token}
 use Rattle.expr_terms.specs.Nest.{raw_nest_of}
 use Rattle.query_grammar.specs.declared.declared.Declared.{Declared}
 use Rattle.query_grammar.specs.declared.declared.RawQuery.{RawQuery}
 use Rattle.query_grammar.specs.Prolog.{SpellsQuery}
 use Rattle.query_pieces.specs.Points.{start}
 use Rattle.query_pieces.specs.Readings.{Splits}
-use Rattle.query_steps.specs.Stands.{nest_in}
+use Rattle.query_reader.specs.QuerySteps.Stands.{nest_in}
 use Rattle.query_texts.specs.declared.readings.QueryReading.{QueryReading}
 use Rattle.query_texts.specs.declared.readings.QueryReading.TheVariants as reading
 

@@ -1,11 +1,11 @@
 // The body of a query, token by token. What is read of it is led on where it stands and never moved,
 // since a body may have millions of tokens.
 ghost use Rattle.std.specs.Prelude.{◌≡◌, ℕ, Bool, List, IfOk};
-ghost use Rattle.expr_terms.specs.declared.tokens.Token.{Token as Term};
+ghost use Rattle.expr_keys.specs.declared.tokens.Token.{Token as Term};
 ghost use Rattle.query_grammar.specs.declared.declared.Declared.{Declared};
 ghost use Rattle.query_grammar.specs.Machine.{Mode, wants};
-ghost use Rattle.query_steps.specs.Stands.{Stands};
-ghost use Rattle.query_steps.specs.declared.stages.Stage.TheVariants.{Body};
+ghost use Rattle.query_reader.specs.QuerySteps.Stands.{Stands};
+ghost use Rattle.query_reader.specs.declared.query_steps.stages.ReaderState.TheVariants.{Body};
 ghost use Rattle.query_pieces.specs.Points.{Point};
 ghost use Rattle.query_pieces.specs.Aheads.{Sees};
 ghost use Rattle.query_pieces.specs.Readings.{Reads};
@@ -13,7 +13,7 @@ ghost use Rattle.query_texts.specs.declared.orders.Order.{Order};
 ghost use Rattle.query_texts.specs.Standings.{Standing, progress};
 ghost use Rattle.query_texts.specs.Bodies.{Led, IsShorter, SeesOn, Rests};
 
-use expr_reader::Reader;
+use expr_reader::ExprParser;
 use query_pieces::{Ahead, Found, Pieces, asks, second};
 use query_reader::wants_operand;
 use std::alloc::{AllocError, Global};
@@ -29,7 +29,7 @@ enum Step<'a> {
 }
 
 /// Whether an operand may come next, where that matters.
-fn operand_in(reader: &Reader, ahead: Option<Ahead<'_>>) -> bool
+fn operand_in(reader: &ExprParser, ahead: Option<Ahead<'_>>) -> bool
     ensures { (p : Point) → Sees p ahead.entry → (k : ℕ) (m : Mode) (ts : List Term)
         → Stands k (Body reader.now) m ts → (t : Term) (q : Point) → Reads (wants m) p t q
         → Reads result p t q }
@@ -41,7 +41,7 @@ fn operand_in(reader: &Reader, ahead: Option<Ahead<'_>>) -> bool
 fn body_token<'a>(
     alloc: Global,
     pieces: &mut Pieces<'a>,
-    reader: &mut Reader,
+    reader: &mut ExprParser,
     ahead: Option<Ahead<'a>>,
 ) -> Result<Step<'a>, AllocError>
     requires { Sees pieces.old ahead }
@@ -72,9 +72,9 @@ fn body_token<'a>(
 pub(crate) fn body_rest<'a>(
     alloc: Global,
     pieces: &mut Pieces<'a>,
-    reader: Reader,
+    reader: ExprParser,
     ahead: Option<Ahead<'a>>,
-) -> Result<Option<Reader>, AllocError>
+) -> Result<Option<ExprParser>, AllocError>
     requires { Sees pieces.old ahead }
     ensures { IfOk result (λ found. (k : ℕ) (text : List ℕ) (o : Order) (d : Bool)
         (ds : List Declared) → Standing k text (progress (Body reader) o d ds) pieces.old →

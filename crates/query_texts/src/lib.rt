@@ -4,7 +4,7 @@
 //! the limit. A text spells a query where some way to part it into tokens and pieces of direct
 //! elements does: whether `<` before a name is an operator or the front of an element, nothing but
 //! the grammar tells. The reading goes from token to token, and asks before each whether an operand
-//! may stand there.
+//! may be there.
 //!
 //! Example: `declare variable $a := 1; $a + 1` is a query with one declaration.
 #![tactic(auto)]

@@ -36,7 +36,7 @@ fn is_late(declared: &Declared) -> bool
     }
 }
 
-/// Which declarations may come behind this one; None where it may not come itself.
+/// Which declarations may come after this one; None where it may not come itself.
 pub fn placed(order: Order, declared: &Declared) -> Option<Order>
     ensures { result ≡ placed order declared.now }
 {

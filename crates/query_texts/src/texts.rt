@@ -1,11 +1,11 @@
 // From the first token of a text to its end.
 ghost use Rattle.std.specs.Prelude.{◌≡◌, ◌∷◌, [], ℕ, List, IfOk};
 ghost use Rattle.std.specs.Str.{chars};
-ghost use Rattle.expr_terms.specs.declared.tokens.Token.{Token as Term};
+ghost use Rattle.expr_keys.specs.declared.tokens.Token.{Token as Term};
 ghost use Rattle.expr_terms.specs.Choices.{second_of};
 ghost use Rattle.query_grammar.specs.Machine.{Mode, read_query, wants};
-ghost use Rattle.query_steps.specs.Stands.{Stands};
-ghost use Rattle.query_steps.specs.declared.stages.Stage.TheVariants.{Body};
+ghost use Rattle.query_reader.specs.QuerySteps.Stands.{Stands};
+ghost use Rattle.query_reader.specs.declared.query_steps.stages.ReaderState.TheVariants.{Body};
 ghost use Rattle.query_pieces.specs.declared.contexts.Before.{Before};
 ghost use Rattle.query_pieces.specs.Points.{Point, before_of};
 ghost use Rattle.query_pieces.specs.Aheads.{Sees};
@@ -17,18 +17,18 @@ ghost use Rattle.query_texts.specs.Standings.{IsShorter, SeesOn, Parted, Bodily,
 use crate::bodies::body_rest;
 use crate::orders::{Order, placed};
 use crate::readings::QueryReading;
-use expr_reader::{Reader, Reading};
+use expr_reader::{ExprParser, Reading};
 use expr_terms::{Second, Token};
 use query_grammar::{Declared, RawQuery};
 use query_pieces::{Ahead, Found, Pieces, asks, second};
-use query_steps::{Stage, Turn, finish, step, wants};
+use query_reader::query_steps::{ReaderState, StepResult, finish, step, wants};
 use std::alloc::{AllocError, Global};
 use xt_names::List;
 
 /// How far a text is read.
 #[derive(Drop)]
 struct Progress {
-    stage: Stage,
+    stage: ReaderState,
     order: Order,
     /// Whether an expression has nested deeper than the limit.
     is_deep: bool,
@@ -36,10 +36,10 @@ struct Progress {
     declared: List<Declared>,
 }
 
-/// How far the body of a query is read, and what stands before it.
+/// How far the body of a query is read, and what comes before it.
 #[derive(Drop)]
 struct BodyProgress {
-    reader: Reader,
+    reader: ExprParser,
     order: Order,
     is_deep: bool,
     declared: List<Declared>,
@@ -53,7 +53,7 @@ enum Next<'a> {
     Onto(Progress, Option<Ahead<'a>>),
 }
 
-/// Behind a declaration.
+/// After a declaration.
 #[tactic(auto, using(crate::proofs::StandingLemmas::standings))]
 fn behind(
     alloc: Global,
@@ -68,7 +68,7 @@ fn behind(
     let mut declared = declared;
     match ended {
         None => Ok(Some(Progress {
-            stage: Stage::Front,
+            stage: ReaderState::Front,
             order: Order::Late,
             is_deep: true,
             declared,
@@ -78,7 +78,7 @@ fn behind(
             Some(order) => {
                 declared.push(last)?;
                 Ok(Some(Progress {
-                    stage: Stage::Front,
+                    stage: ReaderState::Front,
                     order,
                     is_deep,
                     declared,
@@ -107,14 +107,14 @@ fn take(
         declared,
     } = progress;
     match step(alloc, stage, limit, token, second)? {
-        Turn::Refused => Ok(None),
-        Turn::Onto(stage) => Ok(Some(Progress {
+        StepResult::Refused => Ok(None),
+        StepResult::Onto(stage) => Ok(Some(Progress {
             stage,
             order,
             is_deep,
             declared,
         })),
-        Turn::Ends(ended) => behind(alloc, order, is_deep, declared, ended),
+        StepResult::Ends(ended) => behind(alloc, order, is_deep, declared, ended),
     }
 }
 
@@ -145,7 +145,7 @@ fn end(alloc: Global, limit: u16, progress: Progress) -> Result<QueryReading, Al
 }
 
 /// Whether an operand may come next, where that matters.
-fn operand_at(stage: &Stage, ahead: Option<Ahead<'_>>) -> bool
+fn operand_at(stage: &ReaderState, ahead: Option<Ahead<'_>>) -> bool
     ensures { (p : Point) → Sees p ahead.entry → (k : ℕ) (m : Mode) (ts : List Term)
         → Stands k stage.now m ts → (t : Term) (q : Point) → Reads (wants m) p t q
         → Reads result p t q }
@@ -214,7 +214,7 @@ fn body_on<'a>(
         }
         Ok(Some(reader)) => {
             let progress = Progress {
-                stage: Stage::Body(reader),
+                stage: ReaderState::Body(reader),
                 order,
                 is_deep,
                 declared,
@@ -225,17 +225,17 @@ fn body_on<'a>(
 }
 
 /// What is read of the body, where it is the body that is read.
-fn body_of(stage: Stage) -> Result<Reader, Stage>
+fn body_of(stage: ReaderState) -> Result<ExprParser, ReaderState>
     ensures { Parted stage result }
 {
     match stage {
-        Stage::Body(reader) => Ok(reader),
-        Stage::Front => Err(Stage::Front),
-        Stage::Held(first, behind) => Err(Stage::Held(first, behind)),
-        Stage::Head(opening, tokens) => Err(Stage::Head(opening, tokens)),
-        Stage::Value(variable, reader) => Err(Stage::Value(variable, reader)),
-        Stage::Inner(signature, reader) => Err(Stage::Inner(signature, reader)),
-        Stage::Closed(last) => Err(Stage::Closed(last)),
+        ReaderState::Body(reader) => Ok(reader),
+        ReaderState::Front => Err(ReaderState::Front),
+        ReaderState::Held(first, behind) => Err(ReaderState::Held(first, behind)),
+        ReaderState::Head(opening, tokens) => Err(ReaderState::Head(opening, tokens)),
+        ReaderState::Value(variable, reader) => Err(ReaderState::Value(variable, reader)),
+        ReaderState::Inner(signature, reader) => Err(ReaderState::Inner(signature, reader)),
+        ReaderState::Closed(last) => Err(ReaderState::Closed(last)),
     }
 }
 
@@ -295,7 +295,7 @@ pub fn read_query(alloc: Global, text: &str, limit: u16) -> Result<QueryReading,
 {
     let mut pieces = Pieces::new(alloc, text);
     let mut progress = Progress {
-        stage: Stage::Front,
+        stage: ReaderState::Front,
         order: Order::First,
         is_deep: false,
         declared: List::new(alloc),

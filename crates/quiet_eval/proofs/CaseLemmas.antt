@@ -16,7 +16,7 @@ use Rattle.std.specs.Str.{bytes_eq}
 use Rattle.xt_forms.specs.Quiet.{quiet_call}
 use Rattle.xt_forms.specs.declared.quiet_calls.QuietCall.{QuietCall}
 use Rattle.xt_forms.specs.declared.quiet_calls.QuietCall.TheVariants as call
-use Rattle.step_walks.specs.Nodes.{Focus, Nodes, step_nodes}
+use Rattle.node_axes.specs.StepWalks.Nodes.{Focus, Nodes, step_nodes}
 use Rattle.quiet_meaning.specs.Values.{compares, some_compares}
 use Rattle.quiet_meaning.specs.Quietly.{Quietly, integer, literal, position, last, attribute, step, path, condition, conjunction, other, quietly_of, holds_at, has_some, is_pattern_form, is_truth, is_predicate, is_conjunction, is_attribute_name, holds_all, stepped, slashed, with_step, compared, compared_with_integer, compared_with_literal, compared_with_last, some_in, counted, called, called_with, call_gives}
 use Rattle.quiet_meaning.specs.Paths.{nodes_of_form}
@@ -52,7 +52,7 @@ NoGeneral e = (op : CompareOp) (a b : Expr) → e ≡ expr.General op a b → �
 abbrev pub NoCall : Expr → Type 0
 NoCall e = (name : ExprName) (args : List Expr) → e ≡ expr.Call name args → ⊥
 
-from_out : (e : Expr) (x : Layer) → out-Expr e ≡ x → e ≡ roll-Expr x
+pub from_out : (e : Expr) (x : Layer) → out-Expr e ≡ x → e ≡ roll-Expr x
 from_out e x h = sym (roll-out-Expr e) ∙ ap roll-Expr h
 
 -- a literal on the right

@@ -14,17 +14,19 @@ use Rattle.xt_syntax.specs.declared.exprs.Clause.TheViews.{out-Expr, roll-Expr, 
 use Rattle.xt_syntax.specs.declared.exprs.Clause.TheOpen.{Or, And, General, Slash, Step, Call}
 use Rattle.xt_forms.specs.Quiet.{quiet_call}
 use Rattle.quiet_meaning.specs.NodeTests.Tests.{passes_at}
-use Rattle.step_walks.specs.NodeAxes.Axes.{axis_nodes}
-use Rattle.step_walks.specs.Nodes.{Focus, Nodes, kept_from, kept_by, kept_by_all, in_tree_order, step_nodes, nodes_of_each, slash_nodes}
-use Rattle.step_walks.specs.Within.{AreWithin}
-use Rattle.step_walks.proofs.NodeLemmas.{step_found_within, each_within}
+use Rattle.node_axes.specs.Axes.{axis_nodes}
+use Rattle.node_axes.specs.StepWalks.Nodes.{Focus, Nodes, kept_from, kept_by, kept_by_all, in_tree_order, step_nodes, nodes_of_each, slash_nodes}
+use Rattle.node_axes.specs.StepWalks.Within.{AreWithin}
+use Rattle.node_axes.proofs.StepWalks.NodeLemmas.{step_found_within, each_within}
 use Rattle.quiet_meaning.specs.Quietly.{Quietly, quietly_of, holds_at, is_pattern_form, any_of, all_of, stepped, slashed}
 use Rattle.quiet_meaning.specs.Paths.{is_path_form, nodes_of_form}
 use Rattle.quiet_meaning.proofs.FormLemmas.{gives_quietly, rolled_quietly}
 use Rattle.quiet_meaning.proofs.HoldLemmas.{any_allowed, any_holds, all_allowed, all_holds, slashed_is, stepped_is}
 use Rattle.quiet_meaning.proofs.PathLemmas.{stays, any_no_path, all_no_path, compared_no_path, call_no_path}
-use Rattle.quiet_eval.specs.Subjects.{Layer, decided, focus}
+use Rattle.quiet_eval.specs.Subjects.{Layer, decided}
 use Rattle.quiet_eval.proofs.SubjectLemmas.{quietly_out, no_truth}
+use Rattle.std.proofs.lemmas.List.{append-nil, append_assoc}
+use Rattle.quiet_eval.specs.QuietPlaces.Free.{focus}
 
 -- lists
 
@@ -38,14 +40,6 @@ drop_end [] zero h = refl
 drop_end [] (suc i) h = refl
 drop_end (y ∷ ys) zero h = absurd (omega arith)
 drop_end (y ∷ ys) (suc i) h = drop_end ys i (omega arith)
-
-append_none : {A : Type 0} (xs : List A) → xs ++ [] ≡ xs
-append_none [] = refl
-append_none (x ∷ xs) = ap (λ z. x ∷ z) (append_none xs)
-
-joined : {A : Type 0} (xs ys zs : List A) → (xs ++ ys) ++ zs ≡ xs ++ (ys ++ zs)
-joined [] ys zs = refl
-joined (x ∷ xs) ys zs = ap (λ z. x ∷ z) (joined xs ys zs)
 
 pub each_allowed : (all : List Expr) (i : ℕ) (x d : Expr) → i < length all → x ≡ get_or all i d → list_all is_pattern_form (map quietly_of all) ≡ true → is_pattern_form (quietly_of x) ≡ true
 each_allowed [] i x d h e g = absurd (omega arith)
@@ -78,12 +72,12 @@ pub each_step : (g : Nodes) (nodes : List Place) (i : ℕ) (x d : Place) (found 
     → found ++ nodes_of_each g (drop i nodes) ≡ whole → more ≡ found ++ g x → more ++ nodes_of_each g (drop (i + 1) nodes) ≡ whole
 unfolding nodes_of_each
 each_step g nodes i x d found more whole h e is next =
-    ap (λ (z : List Place). z ++ nodes_of_each g (drop (i + 1) nodes)) next ∙ joined found (g x) (nodes_of_each g (drop (i + 1) nodes))
+    ap (λ (z : List Place). z ++ nodes_of_each g (drop (i + 1) nodes)) next ∙ append_assoc found (g x) (nodes_of_each g (drop (i + 1) nodes))
     ∙ ap (λ (z : List Place). found ++ nodes_of_each g z) (sym (drop_item nodes i x d h e)) ∙ is
 
 pub each_end : (g : Nodes) (nodes : List Place) (i : ℕ) (found whole : List Place) → length nodes ≤ i → found ++ nodes_of_each g (drop i nodes) ≡ whole → found ≡ whole
 unfolding nodes_of_each
-each_end g nodes i found whole h is = sym (append_none found) ∙ ap (λ (z : List Place). found ++ nodes_of_each g z) (sym (drop_end nodes i h)) ∙ is
+each_end g nodes i found whole h is = sym (append-nil found) ∙ ap (λ (z : List Place). found ++ nodes_of_each g z) (sym (drop_end nodes i h)) ∙ is
 
 -- one predicate
 
@@ -107,12 +101,12 @@ kept_step h size nodes i x d kept more whole b l e is t m = by b t m
     with_truth b t = ap (λ (z : Bool). kept ++ (if z then x ∷ rest else rest)) t ∙ at_item
 
     by : (b : Bool) → b ≡ h (focus x (i + 1) size) → more ≡ (if b then kept ++ x ∷ [] else kept) → more ++ rest ≡ whole
-    by true t m = ap (λ (z : List Place). z ++ rest) m ∙ joined kept (x ∷ []) rest ∙ with_truth true t
+    by true t m = ap (λ (z : List Place). z ++ rest) m ∙ append_assoc kept (x ∷ []) rest ∙ with_truth true t
     by false t m = ap (λ (z : List Place). z ++ rest) m ∙ with_truth false t
 
 pub kept_end : (h : Focus → Bool) (size at : ℕ) (nodes : List Place) (i : ℕ) (kept whole : List Place) → length nodes ≤ i → kept ++ kept_from h size at (drop i nodes) ≡ whole → kept ≡ whole
 unfolding kept_from
-kept_end h size at nodes i kept whole l is = sym (append_none kept) ∙ ap (λ (z : List Place). kept ++ kept_from h size at z) (sym (drop_end nodes i l)) ∙ is
+kept_end h size at nodes i kept whole l is = sym (append-nil kept) ∙ ap (λ (z : List Place). kept ++ kept_from h size at z) (sym (drop_end nodes i l)) ∙ is
 
 -- predicates in turn
 

@@ -12,7 +12,7 @@ use Rattle.xt_atoms.specs.declared.atoms.Atom.TheVariants as atom
 use Rattle.xt_forms.specs.Quiet.{quiet_call}
 use Rattle.xt_forms.specs.declared.quiet_calls.QuietCall.{QuietCall}
 use Rattle.xt_forms.specs.declared.quiet_calls.QuietCall.TheVariants as call
-use Rattle.step_walks.specs.Nodes.{Focus}
+use Rattle.node_axes.specs.StepWalks.Nodes.{Focus}
 use Rattle.quiet_meaning.specs.Values.{compares, some_compares, name_text}
 use Rattle.quiet_meaning.specs.Quietly.{Quietly, integer, literal, position, last, text_of, count_of, attribute, step, path, condition, conjunction, other, quietly_of, holds_at, has_some, is_pattern_form, is_truth, any_of, all_of, holds_all, is_conjunction, stepped, slashed, compared, compared_with_integer, compared_with_literal, compared_with_last, negated, some_in, counted, called, called_with, call_gives}
 use Rattle.quiet_meaning.specs.Paths.{is_path_form, nodes_of_form, number_in}

@@ -1,6 +1,7 @@
 mod SubjectLemmas
 mod JudgeLemmas
 mod NameLemmas
-mod CaseLemmas
+pub mod CaseLemmas
 mod CycleLemmas
 mod NestLemmas
+pub mod QuietPlaces

@@ -16,9 +16,10 @@ use Rattle.xt_syntax.specs.declared.exprs.Clause.TheViews.{out-Expr}
 use Rattle.xt_syntax.specs.declared.exprs.Clause.TheFolds.{map-Expr, fold_out-Expr, fold-roll-Expr}
 use Rattle.xt_syntax.specs.declared.exprs.Clause.TheOpen.{Or, And, General, Slash, Step, Call}
 use Rattle.xt_syntax.specs.Layers.{ExprLayer}
-use Rattle.xt_forms.specs.Nest.{greatest, nests, expr_nest, nest_of, arm_nest_of, bind_nest_of, clause_nest_of, order_nest_of, name_nest_of, part_nest_of, attr_nest_of, flwor_nest_of}
+use Rattle.xt_forms.specs.Nest.{nests, expr_nest, nest_of, arm_nest_of, bind_nest_of, clause_nest_of, order_nest_of, name_nest_of, part_nest_of, attr_nest_of, flwor_nest_of}
 use Rattle.xt_forms.specs.Quiet.{quiet_call}
 use Rattle.quiet_eval.specs.Subjects.{Layer, is_not, only, negated_in, negated_part, subject_of, subject_part, decided_by, path_part}
+use Rattle.xt_names.specs.Lists.{greatest}
 
 -- a form with the nesting of each part in its place
 abbrev nested : Layer → ExprLayer nests

@@ -13,7 +13,7 @@ use Rattle.xt_syntax.specs.declared.exprs.Clause.TheOpen.{General, Slash, Step, 
 use Rattle.xt_forms.specs.Quiet.{quiet_call}
 use Rattle.xt_forms.specs.declared.quiet_calls.QuietCall.{QuietCall}
 use Rattle.xt_forms.specs.declared.quiet_calls.QuietCall.TheVariants as call
-use Rattle.step_walks.specs.Nodes.{Focus, Nodes}
+use Rattle.node_axes.specs.StepWalks.Nodes.{Focus, Nodes}
 use Rattle.quiet_meaning.specs.Quietly.{Quietly, integer, literal, position, last, text_of, count_of, attribute, step, path, condition, other, quietly_of, holds_at, is_pattern_form, is_truth, is_predicate, is_attribute_name, stepped, slashed, with_step, compared, compared_with_integer, compared_with_literal, compared_with_last, negated, some_in, counted, called_with, call_gives}
 use Rattle.quiet_meaning.specs.Paths.{is_path_form}
 use Rattle.quiet_meaning.proofs.FormLemmas.{gives_quietly}

@@ -16,7 +16,7 @@ use Rattle.xt_syntax.specs.declared.exprs.Clause.TheOpen.{Expr-F, Or, And, Gener
 use Rattle.xt_forms.specs.Quiet.{quiet_call}
 use Rattle.xt_forms.specs.declared.quiet_calls.QuietCall.{QuietCall}
 use Rattle.xt_forms.specs.declared.quiet_calls.QuietCall.TheVariants as call
-use Rattle.step_walks.specs.Nodes.{Focus}
+use Rattle.node_axes.specs.StepWalks.Nodes.{Focus}
 use Rattle.quiet_meaning.specs.Quietly.{Quietly, quietly_of, holds_at}
 use Rattle.quiet_meaning.specs.Paths.{nodes_of_form}
 
@@ -92,9 +92,6 @@ number_at x count position size = None
 -- the number that is compared with an integer; no call, no number
 abbrev pub subject_number : Expr → ℕ → ℕ → ℕ → Option ℕ
 subject_number a = number_at (out-Expr a)
-
-abbrev pub focus : Place → ℕ → ℕ → Focus
-focus n at count = record { node = n; position = at; size = count }
 
 -- whether some of them holds, or else whether all do
 abbrev pub decided : Bool → List Quietly → Focus → Bool

@@ -9,6 +9,7 @@
 #![tactic(auto)]
 
 mod predicates;
+pub mod quiet_places;
 mod singles;
 mod step_hits;
 mod subjects;

@@ -1,21 +1,22 @@
 // Predicates, and the paths within them: these need each other.
 ghost use Rattle.std.specs.Prelude.{◌≡◌, ◌++◌, ◌∷◌, [], map, not, true, false, IfOk, OnOk, None, if◌then◌else◌};
 ghost use Rattle.std.specs.List.{list_all};
-ghost use Rattle.step_walks.specs.Nodes.{kept_by, kept_by_all, nodes_of_each};
+ghost use Rattle.node_axes.specs.StepWalks.Nodes.{kept_by, kept_by_all, nodes_of_each};
 ghost use Rattle.quiet_meaning.specs.Quietly.{quietly_of, holds_at, holds_quietly, is_pattern_form, stepped, slashed};
 ghost use Rattle.quiet_meaning.specs.Paths.{is_path_form, nodes_of_form};
-ghost use Rattle.quiet_eval.specs.Subjects.{negated_part, path_part, nodes_at, is_junction, decided, focus};
+ghost use Rattle.quiet_eval.specs.Subjects.{negated_part, path_part, nodes_at, is_junction, decided};
+ghost use Rattle.quiet_eval.specs.QuietPlaces.Free.{focus};
 
 use crate::singles::judge;
 use crate::step_hits::hits;
 use crate::subjects::{negated, path_in};
+use node_axes::step_walks::in_order;
 use std::alloc::{AllocError, Global};
-use step_walks::in_order;
 use xt_syntax::Expr;
 use xt_tree::Node;
 use xt_types::{Axis, Test};
 
-/// Whether the predicate keeps the node, which stands at the position, from 1, among so many. It is for predicates that
+/// Whether the predicate keeps the node, which is at the position, from 1, among so many. It is for predicates that
 /// patterns may have; each quiet one is such a predicate.
 #[cycle(holds)]
 pub fn holds(

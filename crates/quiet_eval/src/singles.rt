@@ -5,7 +5,8 @@ ghost use Rattle.xt_atoms.specs.declared.atoms.Atom.TheVariants.{Str};
 ghost use Rattle.xt_forms.specs.Quiet.{quiet_call};
 ghost use Rattle.quiet_meaning.specs.Quietly.{quietly_of, holds_at, holds_quietly, is_pattern_form, compared, compared_with_integer, compared_with_literal, call_gives, called};
 ghost use Rattle.quiet_meaning.specs.Values.{compares, name_text};
-ghost use Rattle.quiet_eval.specs.Subjects.{is_not, only, negated_part, subject_part, path_part, nodes_at, is_junction, subject_number, call_number, focus};
+ghost use Rattle.quiet_eval.specs.Subjects.{is_not, only, negated_part, subject_part, path_part, nodes_at, is_junction, subject_number, call_number};
+ghost use Rattle.quiet_eval.specs.QuietPlaces.Free.{focus};
 
 use crate::values::{
     counts_compare, integer_compares, integer_compares_some, name_text, text_compares_some,

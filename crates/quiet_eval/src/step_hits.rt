@@ -1,17 +1,17 @@
 // The nodes of an axis that pass a test.
 ghost use Rattle.std.specs.Prelude.{◌≡◌, ◌++◌, ◌<◌, IfOk, Ok, true, false, filter, length};
 ghost use Rattle.quiet_meaning.specs.NodeTests.Tests.{passes_at};
-ghost use Rattle.step_walks.specs.NodeAxes.Axes.{axis_nodes};
-ghost use Rattle.step_walks.specs.Hits.{hits_ahead};
+ghost use Rattle.node_axes.specs.Axes.{axis_nodes};
+ghost use Rattle.node_axes.specs.StepWalks.Hits.{hits_ahead};
 
+use node_axes::Cursor;
+use node_axes::step_walks::next_hit;
 use std::alloc::{AllocError, Global};
-use step_walks::next_hit;
-use step_walks::node_axes::Cursor;
 use xt_tree::Node;
 use xt_types::{Axis, Test};
 
 /// The nodes on the axis of the node that pass the test, in the order of the axis.
-#[tactic(auto, unfolding(step_walks::specs::Hits::hits_ahead))]
+#[tactic(auto, unfolding(node_axes::specs::StepWalks::Hits::hits_ahead))]
 pub fn hits(alloc: Global, axis: Axis, test: &Test, node: &Node) -> Result<Vec<Node>, AllocError>
     ensures { IfOk result (λ nodes. nodes.items ≡ filter (passes_at axis test.now) (axis_nodes axis node.now)) }
 {

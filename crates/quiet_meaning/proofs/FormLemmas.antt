@@ -27,7 +27,7 @@ use Rattle.xt_forms.specs.declared.quiet_calls.QuietCall.TheVariants as call
 use Rattle.xt_forms.specs.declared.quiet_forms.QuietForm.{QuietForm}
 use Rattle.xt_forms.specs.declared.quiet_forms.QuietForm.TheVariants as form
 use Rattle.quiet_meaning.specs.Forms.{form_of}
-use Rattle.step_walks.specs.Nodes.{Nodes}
+use Rattle.node_axes.specs.StepWalks.Nodes.{Nodes}
 use Rattle.quiet_meaning.specs.Quietly.{Quietly, integer, literal, position, last, text_of, count_of, attribute, step, path, condition, numeric, conjunction, other, quietly, quietly_steps, quietly_of, expr_quietly, is_truth, is_predicate, is_conjunction, is_attribute_axis, is_named, any_of, all_of, is_attribute_name, stepped, slashed, with_step, compared, compared_with_integer, compared_with_literal, compared_with_last, negated, some_in, counted, called, called_with, call_gives, is_pattern_form, is_pattern_predicate}
 
 truth_form : (q : Quietly) → is_truth q ≡ forms.is_truth (form_of q)

@@ -8,14 +8,12 @@ use Rattle.xt_types.specs.declared.axes.Axis.{Axis}
 use Rattle.xt_types.specs.declared.node_tests.Test.{Test}
 use Rattle.xt_tree.specs.Place.{Place}
 use Rattle.xt_atoms.specs.declared.atoms.Atom.TheVariants as atom
-use Rattle.step_walks.specs.Nodes.{Focus, Nodes, step_nodes, slash_nodes}
+use Rattle.node_axes.specs.StepWalks.Nodes.{Focus, Nodes, step_nodes, slash_nodes}
 use Rattle.quiet_meaning.specs.Values.{compares, some_compares}
 use Rattle.quiet_meaning.specs.Quietly.{Quietly, integer, position, last, count_of, attribute, step, path, condition, numeric, conjunction, other, holds_at, has_some, is_truth, is_numeric, is_predicate, is_pattern_form, any_of, all_of, holds_all, is_conjunction, is_attribute_name, is_attribute_axis, is_named, stepped, slashed, with_step, compared_with_integer, compared_with_literal, negated, some_in, counted}
 use Rattle.quiet_meaning.specs.Paths.{is_path_form, nodes_of_form}
 use Rattle.quiet_meaning.specs.Paths.{number_in}
-
-false_is : {G : Type 0} → false ≡ true → G
-false_is e = absurd cc
+use Rattle.xt_names.proofs.BoolLemmas.{never}
 
 truth_allowed : (q : Quietly) → is_truth q ≡ true → is_pattern_form q ≡ true
 unfolding is_truth is_pattern_form
@@ -61,7 +59,7 @@ no_form = refl
 
 any_by : (qs : List Quietly) (b : Bool) → list_all is_truth qs ≡ b → is_pattern_form (if b then condition (λ f. list_any (λ q. holds_at q f) qs) else other) ≡ true → list_all is_truth qs ≡ true
 any_by qs true e h = e
-any_by qs false e h = false_is (sym no_form ∙ h)
+any_by qs false e h = never (sym no_form ∙ h)
 
 pub any_truths : (qs : List Quietly) → is_pattern_form (any_of qs) ≡ true → list_all is_truth qs ≡ true
 any_truths qs h = any_by qs (list_all is_truth qs) refl h
@@ -81,7 +79,7 @@ all_allowed qs h = by (list_all is_truth qs) refl (is_conjunction qs) refl h
     by : (b : Bool) → list_all is_truth qs ≡ b → (d : Bool) → is_conjunction qs ≡ d → is_pattern_form (if b then condition (holds_all qs) else if d then conjunction (holds_all qs) else other) ≡ true → list_all is_pattern_form qs ≡ true
     by true e d g h = all_weaker is_truth is_pattern_form qs truth_allowed e
     by false e true g h = all_weaker (λ q. is_truth q || is_numeric q) is_pattern_form qs either_allowed (and_parts (list_all (λ q. is_truth q || is_numeric q) qs) _ g).0
-    by false e false g h = false_is (sym no_form ∙ h)
+    by false e false g h = never (sym no_form ∙ h)
 
 pub all_holds : (qs : List Quietly) (f : Focus) → is_pattern_form (all_of qs) ≡ true → list_all (λ q. holds_at q f) qs ≡ holds_at (all_of qs) f
 unfolding holds_at
@@ -90,7 +88,7 @@ all_holds qs f h = by (list_all is_truth qs) (is_conjunction qs) h
     by : (b d : Bool) → is_pattern_form (if b then condition (holds_all qs) else if d then conjunction (holds_all qs) else other) ≡ true → list_all (λ q. holds_at q f) qs ≡ holds_at (if b then condition (holds_all qs) else if d then conjunction (holds_all qs) else other) f
     by true d h = refl
     by false true h = refl
-    by false false h = false_is (sym no_form ∙ h)
+    by false false h = never (sym no_form ∙ h)
 
 -- paths
 
@@ -175,7 +173,7 @@ negated_is a f h = by (is_truth a) refl h
     by : (b : Bool) → is_truth a ≡ b → is_pattern_form (if b then condition (λ g. not (holds_at a g)) else other) ≡ true
         → (is_pattern_form a ≡ true) × (not (holds_at a f) ≡ holds_at (negated a) f)
     by true e h = (truth_allowed a e, rw e refl)
-    by false e h = false_is (sym no_form ∙ h)
+    by false e h = never (sym no_form ∙ h)
 
 if_same : (b s : Bool) → (if b then s else not s) ≡ (if s then b else not b)
 if_same true true = refl

@@ -18,8 +18,8 @@ use Rattle.xt_syntax.specs.declared.exprs.Clause.TheOpen.{Expr-F, Or, And, Gener
 use Rattle.xt_forms.specs.Quiet.{quiet_call}
 use Rattle.xt_forms.specs.declared.quiet_calls.QuietCall.{QuietCall}
 use Rattle.xt_forms.specs.declared.quiet_calls.QuietCall.TheVariants as call
-use Rattle.step_walks.specs.Nodes.{Nodes, step_nodes}
-use Rattle.step_walks.proofs.NodeLemmas.{Stays, slash_within, step_within}
+use Rattle.node_axes.specs.StepWalks.Nodes.{Nodes, step_nodes}
+use Rattle.node_axes.proofs.StepWalks.NodeLemmas.{Stays, slash_within, step_within}
 use Rattle.quiet_meaning.specs.Quietly.{Quietly, integer, literal, position, last, attribute, step, path, condition, conjunction, other, quietly_of, holds_at, is_truth, is_predicate, any_of, all_of, holds_all, is_conjunction, is_attribute_name, stepped, slashed, with_step, compared, compared_with_integer, compared_with_literal, compared_with_last, negated, some_in, counted, called, called_with, call_gives}
 use Rattle.quiet_meaning.proofs.FormLemmas.{gives_quietly, rolled_quietly, each_expr}
 use Rattle.quiet_meaning.specs.Paths.{is_path_form, nodes_of_form}

@@ -2,7 +2,7 @@
 use Rattle.std.specs.Prelude.{ℕ, List, [], map, length, Bool, true, false, Option, Some, None}
 use Rattle.std.specs.List.{list_all}
 use Rattle.xt_syntax.specs.declared.exprs.Expr.{Expr}
-use Rattle.step_walks.specs.Nodes.{Focus, Nodes}
+use Rattle.node_axes.specs.StepWalks.Nodes.{Focus, Nodes}
 use Rattle.quiet_meaning.specs.Quietly.{Quietly, position, last, count_of, attribute, step, path, quietly_of, holds_at, is_pattern_form}
 
 unfoldable pub is_path_form : Quietly → Bool

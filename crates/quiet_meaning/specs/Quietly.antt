@@ -19,7 +19,7 @@ use Rattle.xt_forms.specs.Quiet.{quiet_call}
 use Rattle.xt_forms.specs.Regular.{is_regular_expr}
 use Rattle.xt_forms.specs.declared.quiet_calls.QuietCall.{QuietCall}
 use Rattle.xt_forms.specs.declared.quiet_calls.QuietCall.TheVariants as call
-use Rattle.step_walks.specs.Nodes.{Focus, Nodes, step_nodes, slash_nodes}
+use Rattle.node_axes.specs.StepWalks.Nodes.{Focus, Nodes, step_nodes, slash_nodes}
 use Rattle.quiet_meaning.specs.Values.{compares, some_compares, name_text}
 
 -- What an expression gives in a quiet predicate.

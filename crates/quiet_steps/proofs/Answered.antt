@@ -4,8 +4,8 @@ use Rattle.std.specs.Prelude.{◌^◌, true, Option, Some, None, option_and_then
 use Rattle.xdm_items.specs.declared.items.Item.{Item}
 use Rattle.xt_syntax.specs.declared.exprs.Expr.{Expr}
 use Rattle.lazy_seq.specs.Flow.{Flow}
-use Rattle.outcomes.specs.Outcome.{Ends}
-use Rattle.sort_meaning.specs.Sorted.{Placed}
+use Rattle.expr_meaning.specs.Outcomes.Outcome.{Ends}
+use Rattle.expr_meaning.specs.SortMeaning.Sorted.{Placed}
 use Rattle.expr_meaning.specs.Env.{Env}
 use Rattle.std.specs.Prelude.{Bool, false, not, ◌&&◌, if◌then◌else◌}
 use Rattle.std.specs.List.{list_all}
@@ -17,12 +17,12 @@ use Rattle.xt_forms.specs.Quiet.{is_quiet_expr}
 use Rattle.node_axes.specs.Axes.{is_reverse}
 use Rattle.quiet_meaning.specs.Paths.{are_allowed}
 use Rattle.expr_meaning.specs.Paths.{root_place}
-use Rattle.quiet_values.proofs.Laws.{quiet_in_patterns}
-use Rattle.way_laws.proofs.Predicates.{all_quiet}
-use Rattle.way_laws.specs.Ways.{Way, has_walk, way_at, way_of, node_in, document_above, is_walked}
-use Rattle.way_laws.specs.Ways.{can_be_counted}
-use Rattle.way_laws.proofs.Nodes.{known, way_few}
-use Rattle.way_laws.proofs.Means.{way_law}
+use Rattle.walk_laws.proofs.QuietValues.Laws.{quiet_in_patterns}
+use Rattle.walk_laws.proofs.WayLaws.Predicates.{all_quiet}
+use Rattle.walk_laws.specs.WayLaws.Ways.{Way, has_walk, way_at, way_of, node_in, document_above, is_walked}
+use Rattle.walk_laws.specs.WayLaws.Ways.{can_be_counted}
+use Rattle.walk_laws.proofs.WayLaws.Nodes.{known, way_few}
+use Rattle.walk_laws.proofs.WayLaws.Means.{way_law}
 use Rattle.quiet_steps.specs.Late.{AnswersWalk, AnswersWay, IsAlong, IsValue}
 
 way_is_value : (s : Flow) (e : Expr) (env : Env) (w : Way) → way_of e env.focus ≡ Some w →

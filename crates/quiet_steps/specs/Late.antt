@@ -5,10 +5,10 @@ use Rattle.xdm_items.specs.declared.items.Item.TheVariants.{Node}
 use Rattle.xt_syntax.specs.declared.exprs.Expr.{Expr}
 use Rattle.node_walks.specs.Moves.{given}
 use Rattle.lazy_seq.specs.Flow.{Flow}
-use Rattle.outcomes.specs.Outcome.{Ends}
+use Rattle.expr_meaning.specs.Outcomes.Outcome.{Ends}
 use Rattle.expr_meaning.specs.Env.{Env, Program}
 use Rattle.expr_meaning.specs.Meaning.{outcome}
-use Rattle.way_laws.specs.Ways.{Way, is_walked, has_walk, way_nodes, way_of}
+use Rattle.walk_laws.specs.WayLaws.Ways.{Way, is_walked, has_walk, way_nodes, way_of}
 
 -- The sequence is the value of the expression in every program; no tree is made, and its items can
 -- be counted.

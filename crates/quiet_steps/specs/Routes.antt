@@ -1,5 +1,5 @@
 -- What a contract sees of a route.
-use Rattle.way_laws.specs.Ways.{Way}
+use Rattle.walk_laws.specs.WayLaws.Ways.{Way}
 use Rattle.quiet_steps.specs.declared.routes.Route.{Route}
 
 abbrev pub way_along : Route → Way

@@ -4,7 +4,7 @@
 //! nothing. So its nodes need not be looked for before they are asked for. `//a[p]` is one walk too,
 //! along the descendants, where `p` looks at no position.
 //!
-//! Example: `(//a[@b = "x"])[1]` looks at no node behind the first that it gives.
+//! Example: `(//a[@b = "x"])[1]` looks at no node after the first that it gives.
 #![tactic(auto)]
 
 mod routes;

@@ -1,15 +1,15 @@
 // From where, and along which axis, an expression is walked.
 ghost use Rattle.std.specs.Prelude.{◌≡◌, IfOk, option_map};
 ghost use Rattle.std.specs.List.{list_all};
-ghost use Rattle.quiet_places.specs.Free.{is_place_free_expr};
-ghost use Rattle.way_laws.specs.Ways.{begin_of, document_above, has_none, is_all_below};
-ghost use Rattle.way_laws.specs.Ways.{is_any_node, is_child_axis, is_deep, is_deep_axis};
-ghost use Rattle.way_laws.specs.Ways.{last_step, path_in, way, way_at};
+ghost use Rattle.quiet_eval.specs.QuietPlaces.Free.{is_place_free_expr};
+ghost use Rattle.walk_laws.specs.WayLaws.Ways.{begin_of, document_above, has_none, is_all_below};
+ghost use Rattle.walk_laws.specs.WayLaws.Ways.{is_any_node, is_child_axis, is_deep, is_deep_axis};
+ghost use Rattle.walk_laws.specs.WayLaws.Ways.{last_step, path_in, way, way_at};
 ghost use Rattle.quiet_steps.specs.Routes.{way_along};
 ghost use Rattle.xt_syntax.specs.declared.exprs.Clause.TheViews.{out-Expr};
 
 use eval_lates::eval_scopes::document_of;
-use quiet_places::is_place_free;
+use quiet_eval::quiet_places::is_place_free;
 use std::alloc::{AllocError, Global};
 use xt_names::List;
 use xt_syntax::Expr;
@@ -63,21 +63,21 @@ fn begin_of(alloc: Global, a: &Expr, context: &Node) -> Result<Option<Node>, All
     }
 }
 
-#[tactic(auto, unfolding(way_laws::specs::Ways::is_child_axis))]
+#[tactic(auto, unfolding(walk_laws::specs::WayLaws::Ways::is_child_axis))]
 fn is_child_axis(axis: Axis) -> bool
     ensures { result ≡ is_child_axis axis }
 {
     matches!(axis, Axis::Child)
 }
 
-#[tactic(auto, unfolding(way_laws::specs::Ways::is_deep_axis))]
+#[tactic(auto, unfolding(walk_laws::specs::WayLaws::Ways::is_deep_axis))]
 fn is_deep_axis(axis: Axis) -> bool
     ensures { result ≡ is_deep_axis axis }
 {
     matches!(axis, Axis::DescendantOrSelf)
 }
 
-#[tactic(auto, unfolding(way_laws::specs::Ways::is_any_node))]
+#[tactic(auto, unfolding(walk_laws::specs::WayLaws::Ways::is_any_node))]
 fn is_any_node(test: &Test) -> bool
     ensures { result ≡ is_any_node test.now }
 {

@@ -5,21 +5,21 @@ ghost use Rattle.xt_tree.specs.Place.{has_place};
 ghost use Rattle.xt_forms.specs.Quiet.{is_quiet_expr};
 ghost use Rattle.xdm_items.specs.declared.items.Item.TheVariants.{Node as a_node};
 ghost use Rattle.node_axes.specs.Axes.{is_reverse};
-ghost use Rattle.step_walks.specs.Hits.{hits_ahead};
-ghost use Rattle.step_walks.specs.Nodes.{kept_by_all};
+ghost use Rattle.node_axes.specs.StepWalks.Hits.{hits_ahead};
+ghost use Rattle.node_axes.specs.StepWalks.Nodes.{kept_by_all};
 ghost use Rattle.quiet_meaning.specs.Paths.{are_allowed, keeps};
 ghost use Rattle.node_walks.specs.Moves.{given};
 ghost use Rattle.expr_meaning.specs.Env.{Program};
 ghost use Rattle.expr_meaning.specs.Meaning.{outcome};
 ghost use Rattle.expr_meaning.specs.Paths.{kept};
-ghost use Rattle.outcomes.specs.Outcome.{and_then};
+ghost use Rattle.expr_meaning.specs.Outcomes.Outcome.{and_then};
 ghost use Rattle.eval_lates.specs.EvalScopes.Answers.{Answers};
 ghost use Rattle.eval_lates.specs.EvalScopes.Scopes.{env_of};
 ghost use Rattle.eval_lates.specs.Late.{AnswersLate, literal};
 ghost use Rattle.quiet_steps.specs.Late.{AnswersWalk, AnswersWay, IsValue};
 ghost use Rattle.quiet_steps.specs.Routes.{way_along};
-ghost use Rattle.way_laws.specs.Ways.{can_be_counted, has_walk, is_walked, node_in};
-ghost use Rattle.way_laws.specs.Ways.{way_at, way_nodes, way_of};
+ghost use Rattle.walk_laws.specs.WayLaws.Ways.{can_be_counted, has_walk, is_walked, node_in};
+ghost use Rattle.walk_laws.specs.WayLaws.Ways.{way_at, way_nodes, way_of};
 
 use crate::routes::{Route, route_of};
 use eval_lates::eval_scopes::{Env, EvalFault, Focus};
@@ -81,7 +81,7 @@ fn is_walked(route: &Route) -> bool
 
 /// Those nodes ahead of the cursor that pass its test and that the predicates keep, not looked for
 /// yet.
-#[tactic(auto, unfolding(step_walks::specs::Nodes::kept_by_all))]
+#[tactic(auto, unfolding(node_axes::specs::StepWalks::Nodes::kept_by_all))]
 fn walk_from(alloc: Global, cursor: Cursor, tests: &List<Expr>) -> Result<Seq, AllocError>
     requires { are_allowed tests.now ≡ true }
     ensures { let kept = kept_by_all (keeps tests.now) (hits_ahead cursor) in
@@ -96,7 +96,7 @@ fn walk_from(alloc: Global, cursor: Cursor, tests: &List<Expr>) -> Result<Seq, A
     }
 }
 
-#[tactic(auto, unfolding(step_walks::specs::Hits::hits_ahead))]
+#[tactic(auto, unfolding(node_axes::specs::StepWalks::Hits::hits_ahead))]
 fn walk_along(alloc: Global, route: &Route) -> Result<Seq, AllocError>
     requires { is_walked (way_along route.now) ≡ true }
     ensures { let nodes = way_nodes (way_along route.now) in
@@ -211,7 +211,7 @@ pub fn late_walk_list(alloc: Global, env: &Env, e: &Expr) -> Result<ItemList, Ev
 }
 
 /// What a predicate that is an integer keeps of it: the item at that position, which counts from 1
-/// (XPath 2.0, 3.3.2). No node behind it is looked for.
+/// (XPath 2.0, 3.3.2). No node after it is looked for.
 #[inline(never)]
 pub fn late_walk_place(
     alloc: Global,

@@ -1,17 +1,18 @@
--- A value stands before tokens that do not go on with it as it stands before nothing.
+-- A value comes before tokens that do not go on with it as it comes before nothing.
 use Rattle.std.proofs.Common.{◌≡◌, ℕ, zero, suc, Bool, true, false, cond, ◌&&◌, ◌||◌, not, List}
 use Rattle.std.proofs.Common.{[], ◌∷◌, ◌++◌, map, refl, sym, ◌∙◌, ap, subst}
-use Rattle.expr_terms.specs.Productions.{keeps, body, begins, is_after_root}
+use Rattle.expr_keys.specs.Classes.{begins, is_after_root}
+use Rattle.expr_terms.specs.Productions.{keeps, body}
 use Rattle.expr_terms.specs.Raws.{is_conditional}
-use Rattle.expr_terms.specs.declared.tokens.Token.{Token}
-use Rattle.expr_terms.specs.declared.productions.Symbol.{Symbol}
-use Rattle.expr_terms.specs.declared.productions.Symbol.TheVariants.{Tok as tok, One as one}
-use Rattle.expr_terms.specs.declared.productions.Symbol.TheVariants.{Maybe as maybe, Many as many}
-use Rattle.expr_terms.specs.declared.productions.Symbol.TheVariants.{Longest as longest}
-use Rattle.expr_terms.specs.declared.productions.Language.{Language}
-use Rattle.expr_terms.specs.declared.productions.Nonterminal.{Nonterminal}
-use Rattle.expr_terms.specs.declared.productions.Nonterminal.TheVariants as place
-use Rattle.expr_terms.specs.declared.productions.Production.{Production}
+use Rattle.expr_keys.specs.declared.tokens.Token.{Token}
+use Rattle.expr_keys.specs.declared.productions.Symbol.{Symbol}
+use Rattle.expr_keys.specs.declared.productions.Symbol.TheVariants.{Tok as tok, One as one}
+use Rattle.expr_keys.specs.declared.productions.Symbol.TheVariants.{Maybe as maybe, Many as many}
+use Rattle.expr_keys.specs.declared.productions.Symbol.TheVariants.{Longest as longest}
+use Rattle.expr_keys.specs.declared.productions.Language.{Language}
+use Rattle.expr_keys.specs.declared.productions.Nonterminal.{Nonterminal}
+use Rattle.expr_keys.specs.declared.productions.Nonterminal.TheVariants as place
+use Rattle.expr_keys.specs.declared.productions.Production.{Production}
 use Rattle.expr_terms.specs.declared.raws.Raw.{Raw}
 use Rattle.expr_terms.specs.declared.raws.Raw.TheVariants.{Leaf as leaf, Node as node}
 use Rattle.expr_terms.specs.declared.raws.Raw.TheViews.{out-Raw}
@@ -122,15 +123,15 @@ arms_same : (ps : List Placed) (a b : List Token) → AllSteady ps → Alike a b
 arms_same [] a b s r = refl
 arms_same (arm ∷ []) a b s r = refl
 arms_same (arm ∷ test ∷ ps) a b s r = both
-    (both (s.1.0.same place.Expr _ _ (λ n. refl)) (s.0.same place.Single _ _ (λ n. refl)))
+    (both (s.1.0.same place.Expr _ _ (λ n. refl)) (s.0.same place.ExprSingle _ _ (λ n. refl)))
     (arms_same ps _ _ s.1.1 (arm_keeps Alike more_alike arm.printed test.printed a b s.0.keeps
     s.1.0.keeps r))
 
 chain_same : (ps : List Placed) (a b : List Token) → AllSteady ps → Alike a b
     → chain_stands ps a ≡ chain_stands ps b
 chain_same [] a b s r = refl
-chain_same (p ∷ ps) a b s r = both refl (both refl (both (s.0.same place.Single a b r)
-    (arms_same ps _ _ s.1 (s.0.keeps place.Single a b r))))
+chain_same (p ∷ ps) a b s r = both refl (both refl (both (s.0.same place.ExprSingle a b r)
+    (arms_same ps _ _ s.1 (s.0.keeps place.ExprSingle a b r))))
 
 form_same : (l : Language) (p : Production) (ps : List Placed) (a b : List Token) → AllSteady ps
     → Alike a b → form_stands l p ps a ≡ form_stands l p ps b
@@ -221,7 +222,7 @@ module _ (l : Language) where
   no_mark [] e n = refl
   no_mark (t ∷ ts) e n = go (is_after_root n)
     where
-      go : (b : Bool) → cond b (begins place.AfterRoot t) (begins place.Occurrence t) ≡ false
+      go : (b : Bool) → cond b (begins place.AfterRoot t) (begins place.OccurrenceIndicator t) ≡ false
       go true = none_left _ _ e
       go false = none_right _ _ e
 

@@ -2,37 +2,38 @@
 use Rattle.std.proofs.Common.{◌≡◌, Bool, true, false, cond, ◌&&◌, ◌||◌, List, [], ◌∷◌, refl}
 use Rattle.std.proofs.Common.{◌⊎◌, inl, inr, subst}
 use Rattle.std.proofs.lemmas.Bool.{and_parts, or_cases}
-use Rattle.expr_terms.specs.Keys.{is_axis, is_worded, is_reserved}
-use Rattle.expr_terms.specs.Tokens.{fits_key, fits_name, fits_axis, fits_function, fits_wild}
-use Rattle.expr_terms.specs.Productions.{body, head, fits, fits_any, keys_of, begins_step}
-use Rattle.expr_terms.specs.Productions.{fits_digits, fits_quoted, fits_piece}
-use Rattle.expr_terms.specs.declared.keys.Key.{Key}
-use Rattle.expr_terms.specs.declared.keys.Key.TheVariants as key
-use Rattle.expr_terms.specs.declared.tokens.Token.{Token}
-use Rattle.expr_terms.specs.declared.tokens.Token.TheVariants as token
-use Rattle.expr_terms.specs.declared.productions.Class.{Class}
-use Rattle.expr_terms.specs.declared.productions.Class.TheVariants as class
-use Rattle.expr_terms.specs.declared.productions.Symbol.{Symbol}
-use Rattle.expr_terms.specs.declared.productions.Symbol.TheVariants.{Tok as tok, One as one}
-use Rattle.expr_terms.specs.declared.productions.Language.{Language}
-use Rattle.expr_terms.specs.declared.productions.Nonterminal.{Nonterminal}
-use Rattle.expr_terms.specs.declared.productions.Nonterminal.TheVariants as place
-use Rattle.expr_terms.specs.declared.productions.Production.{Production}
-use Rattle.expr_terms.specs.declared.productions.Production.TheVariants as production
+use Rattle.expr_keys.specs.Keys.{is_axis, is_worded, is_reserved}
+use Rattle.expr_keys.specs.Tokens.{fits_key, fits_name, fits_axis, fits_function, fits_wild}
+use Rattle.expr_keys.specs.Classes.{fits, fits_any, keys_of, begins_step}
+use Rattle.expr_terms.specs.Productions.{body, head}
+use Rattle.expr_keys.specs.Classes.{fits_digits, fits_quoted, fits_piece}
+use Rattle.expr_keys.specs.declared.keys.Key.{Key}
+use Rattle.expr_keys.specs.declared.keys.Key.TheVariants as key
+use Rattle.expr_keys.specs.declared.tokens.Token.{Token}
+use Rattle.expr_keys.specs.declared.tokens.Token.TheVariants as token
+use Rattle.expr_keys.specs.declared.productions.Class.{Class}
+use Rattle.expr_keys.specs.declared.productions.Class.TheVariants as class
+use Rattle.expr_keys.specs.declared.productions.Symbol.{Symbol}
+use Rattle.expr_keys.specs.declared.productions.Symbol.TheVariants.{Tok as tok, One as one}
+use Rattle.expr_keys.specs.declared.productions.Language.{Language}
+use Rattle.expr_keys.specs.declared.productions.Nonterminal.{Nonterminal}
+use Rattle.expr_keys.specs.declared.productions.Nonterminal.TheVariants as place
+use Rattle.expr_keys.specs.declared.productions.Production.{Production}
+use Rattle.expr_keys.specs.declared.productions.Production.TheVariants as production
 use Rattle.expr_terms.specs.declared.raws.Raw.{Raw}
 use Rattle.expr_grammar.specs.Grammar.{next_begins, Derives, by, Seq, end, taken, next, without}
 use Rattle.expr_grammar.specs.Grammar.{with, stop, again, bare, given}
 use Rattle.expr_grammar.proofs.Tables.{is_key}
 use Rattle.raw_tokens.proofs.Built.{never}
 
--- what a step stands at the front of
+-- what a step is at the front of
 abbrev is_front : Nonterminal → Bool
 is_front place.AfterRoot = true
-is_front place.Step = true
+is_front place.StepExpr = true
 is_front place.NodeTest = true
 is_front place.KindTest = true
-is_front place.Primary = true
-is_front place.Direct = true
+is_front place.PrimaryExpr = true
+is_front place.DirElemConstructor = true
 is_front _ = false
 
 abbrev all_begin : List Key → Bool
@@ -51,7 +52,7 @@ begins_all class.Quoted = true
 begins_all class.Axis = true
 begins_all class.Function = true
 begins_all class.NameTest = true
-begins_all class.Outer = true
+begins_all class.StartTagOpen = true
 begins_all _ = false
 
 abbrev leads_front : List Symbol → Bool
@@ -61,7 +62,7 @@ leads_front _ = false
 
 -- checked once for each production
 front_body : (p : Production) → is_front (head p) ≡ true → leads_front (body p) ≡ true
-front_body production.Top e = never e
+front_body production.WholeExpr e = never e
 front_body _ e = cc
 
 axis_named : (k : Key) → is_axis k ≡ true → is_worded k ≡ true
@@ -104,9 +105,9 @@ module _ (t : Token) where
       or_right ((fits_name t || fits_wild t) || fits_digits t) (fits_quoted t) e in
       rw a refl
 
-  outer : fits_piece class.Outer t ≡ true → begins_step t ≡ true
+  outer : fits_piece class.StartTagOpen t ≡ true → begins_step t ≡ true
   outer e = or_right ((((fits_name t || fits_wild t) || fits_digits t) || fits_quoted t)
-      || fits_any marks t) (fits_piece class.Outer t) e
+      || fits_any marks t) (fits_piece class.StartTagOpen t) e
 
 by_keys : (ks : List Key) (t : Token) → all_begin ks ≡ true → fits_any ks t ≡ true
     → begins_step t ≡ true
@@ -150,7 +151,7 @@ of_class class.Quoted t h e = quoted t e
 of_class class.Axis t h e = of_axis t e
 of_class class.Function t h e = of_function t e
 of_class class.NameTest t h e = of_test t e
-of_class class.Outer t h e = outer t e
+of_class class.StartTagOpen t h e = outer t e
 of_class _ t h e = never h
 
 mutual
@@ -171,7 +172,7 @@ mutual
   lead_begun h (given e d s) = never h
 
 abbrev is_occurrence : Nonterminal → Bool
-is_occurrence place.Occurrence = true
+is_occurrence place.OccurrenceIndicator = true
 is_occurrence _ = false
 
 abbrev is_mark : Class → Bool
@@ -183,7 +184,7 @@ leads_mark (tok c ∷ ss) = is_mark c
 leads_mark _ = false
 
 mark_body : (p : Production) → is_occurrence (head p) ≡ true → leads_mark (body p) ≡ true
-mark_body production.Top e = never e
+mark_body production.WholeExpr e = never e
 mark_body _ e = cc
 
 of_mark : (c : Class) (t : Token) → is_mark c ≡ true → fits c t ≡ true
@@ -192,7 +193,7 @@ of_mark class.Mark t h e = e
 of_mark _ t h e = never h
 
 lead_marked : {l : Language} {ss : List Symbol} {ts mid : List Token} {vs : List Raw}
-    → leads_mark ss ≡ true → Seq l ss ts vs mid → next_begins place.Occurrence ts ≡ true
+    → leads_mark ss ≡ true → Seq l ss ts vs mid → next_begins place.OccurrenceIndicator ts ≡ true
 lead_marked h end = never h
 lead_marked h (taken {c = c} {t = t} f s) = of_mark c t h f
 lead_marked h (next d s) = never h
@@ -204,18 +205,18 @@ lead_marked h (bare e s) = never h
 lead_marked h (given e d s) = never h
 
 marked : {l : Language} {n : Nonterminal} {ts mid : List Token} {v : Raw} → Derives l n ts v mid
-    → is_occurrence n ≡ true → next_begins place.Occurrence ts ≡ true
+    → is_occurrence n ≡ true → next_begins place.OccurrenceIndicator ts ≡ true
 marked (by p s e q) h =
     let f : is_occurrence (head p) ≡ true = rw e h in lead_marked (mark_body p f) q
 
 -- the two that must not be left out where they could begin
 abbrev pub is_longest : Nonterminal → Bool
 is_longest place.AfterRoot = true
-is_longest place.Occurrence = true
+is_longest place.OccurrenceIndicator = true
 is_longest _ = false
 
 pub begins_so : (n : Nonterminal) → is_longest n ≡ true → {l : Language} {ts mid : List Token}
     {v : Raw} → Derives l n ts v mid → next_begins n ts ≡ true
 begins_so place.AfterRoot h d = begun d refl
-begins_so place.Occurrence h d = marked d refl
+begins_so place.OccurrenceIndicator h d = marked d refl
 begins_so _ h d = never h

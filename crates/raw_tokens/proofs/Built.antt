@@ -4,8 +4,8 @@ use Rattle.std.proofs.Common.{subst}
 use Rattle.expr_terms.specs.Productions.{passes}
 use Rattle.expr_terms.specs.Raws.{is_parens, is_otherwise, is_conditional, only_parens}
 use Rattle.expr_terms.specs.Raws.{build}
-use Rattle.expr_terms.specs.declared.productions.Production.{Production}
-use Rattle.expr_terms.specs.declared.productions.Production.TheVariants as production
+use Rattle.expr_keys.specs.declared.productions.Production.{Production}
+use Rattle.expr_keys.specs.declared.productions.Production.TheVariants as production
 use Rattle.expr_terms.specs.declared.raws.Raw.{Raw}
 use Rattle.expr_terms.specs.declared.raws.Raw.TheVariants.{Node as node}
 use Rattle.raw_tokens.specs.Tokens.{raws}
@@ -18,8 +18,8 @@ pub false_of : {b : Bool} → not b ≡ true → b ≡ false
 false_of {b = true} e = never e
 false_of {b = false} e = refl
 
-pub is_the_conditional : (p : Production) → is_conditional p ≡ true → p ≡ production.Conditional
-is_the_conditional production.Conditional e = refl
+pub is_the_conditional : (p : Production) → is_conditional p ≡ true → p ≡ production.IfExpr
+is_the_conditional production.IfExpr e = refl
 is_the_conditional _ e = never e
 
 is_the_parens : (p : Production) → is_parens p ≡ true → p ≡ production.Parens
@@ -31,8 +31,8 @@ Plain p = (is_parens p ≡ false) × (is_otherwise p ≡ false) × (is_condition
 
 passes_plainly : (p : Production) → passes p ≡ true → Plain p
 passes_plainly production.Parens e = never e
-passes_plainly production.Otherwise e = never e
-passes_plainly production.Conditional e = never e
+passes_plainly production.ElseExpr e = never e
+passes_plainly production.IfExpr e = never e
 passes_plainly _ e = (refl, refl, refl)
 
 pub handed_on : (p : Production) (v : Raw) → passes p ≡ true → build p (v ∷ []) ≡ v

@@ -4,10 +4,10 @@ use Rattle.std.proofs.Common.{◌∷◌, map, Option, Some, None, refl, sym, ◌
 use Rattle.std.proofs.lemmas.Bool.{and_parts}
 use Rattle.expr_terms.specs.Productions.{head, body, passes}
 use Rattle.expr_terms.specs.Raws.{is_conditional, is_otherwise}
-use Rattle.expr_terms.specs.declared.tokens.Token.{Token}
-use Rattle.expr_terms.specs.declared.productions.Language.{Language}
-use Rattle.expr_terms.specs.declared.productions.Nonterminal.{Nonterminal}
-use Rattle.expr_terms.specs.declared.productions.Production.{Production}
+use Rattle.expr_keys.specs.declared.tokens.Token.{Token}
+use Rattle.expr_keys.specs.declared.productions.Language.{Language}
+use Rattle.expr_keys.specs.declared.productions.Nonterminal.{Nonterminal}
+use Rattle.expr_keys.specs.declared.productions.Production.{Production}
 use Rattle.expr_terms.specs.declared.raws.Raw.{Raw}
 use Rattle.expr_terms.specs.declared.raws.Raw.TheVariants.{Leaf as leaf, Node as node, outs-Leaf}
 use Rattle.expr_terms.specs.declared.raws.Raw.TheVariants.{outs-Node, rolls-Leaf, rolls-Node}

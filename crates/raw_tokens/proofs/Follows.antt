@@ -3,14 +3,14 @@ use Rattle.std.proofs.Common.{◌≡◌, ℕ, zero, suc, Bool, true, false, cond
 use Rattle.std.proofs.Common.{[], ◌∷◌, ◌++◌, map, refl, sym, ap, subst}
 use Rattle.expr_terms.specs.Productions.{keeps, body}
 use Rattle.expr_terms.specs.Raws.{is_conditional}
-use Rattle.expr_terms.specs.declared.tokens.Token.{Token}
-use Rattle.expr_terms.specs.declared.productions.Symbol.{Symbol}
-use Rattle.expr_terms.specs.declared.productions.Symbol.TheVariants.{Tok as tok, One as one}
-use Rattle.expr_terms.specs.declared.productions.Symbol.TheVariants.{Maybe as maybe, Many as many}
-use Rattle.expr_terms.specs.declared.productions.Symbol.TheVariants.{Longest as longest}
-use Rattle.expr_terms.specs.declared.productions.Nonterminal.{Nonterminal}
-use Rattle.expr_terms.specs.declared.productions.Nonterminal.TheVariants as place
-use Rattle.expr_terms.specs.declared.productions.Production.{Production}
+use Rattle.expr_keys.specs.declared.tokens.Token.{Token}
+use Rattle.expr_keys.specs.declared.productions.Symbol.{Symbol}
+use Rattle.expr_keys.specs.declared.productions.Symbol.TheVariants.{Tok as tok, One as one}
+use Rattle.expr_keys.specs.declared.productions.Symbol.TheVariants.{Maybe as maybe, Many as many}
+use Rattle.expr_keys.specs.declared.productions.Symbol.TheVariants.{Longest as longest}
+use Rattle.expr_keys.specs.declared.productions.Nonterminal.{Nonterminal}
+use Rattle.expr_keys.specs.declared.productions.Nonterminal.TheVariants as place
+use Rattle.expr_keys.specs.declared.productions.Production.{Production}
 use Rattle.expr_terms.specs.declared.raws.Raw.{Raw}
 use Rattle.expr_terms.specs.declared.raws.Raw.TheVariants.{Leaf as leaf}
 use Rattle.expr_terms.specs.declared.raws.Raw.TheViews.{out-Raw}
@@ -92,7 +92,7 @@ module _ (R : Related) (closed : Closed R) where
   pub arm_keeps : (arm test : Printed) (a b : List Token) → Keeps arm → Keeps test → R a b
       → R (arm_tokens arm test a) (arm_tokens arm test b)
   arm_keeps arm test a b h i r = closed _ _ _ (closed _ _ _ (i place.Expr _ _ (closed _ _ _
-      (closed _ _ _ (h place.Single _ _ (closed _ _ _ r))))))
+      (closed _ _ _ (h place.ExprSingle _ _ (closed _ _ _ r))))))
 
   arms_keep : (ps : List Printed) (a b : List Token) → AllKeep ps → R a b
       → R (arms_tokens ps a) (arms_tokens ps b)
@@ -104,7 +104,7 @@ module _ (R : Related) (closed : Closed R) where
   chain_keeps : (ps : List Printed) (a b : List Token) → AllKeep ps → R a b
       → R (chain_tokens ps a) (chain_tokens ps b)
   chain_keeps [] a b k r = r
-  chain_keeps (p ∷ ps) a b k r = arms_keep ps _ _ k.1 (k.0 place.Single a b r)
+  chain_keeps (p ∷ ps) a b k r = arms_keep ps _ _ k.1 (k.0 place.ExprSingle a b r)
 
   pub form_keeps : (p : Production) (ps : List Printed) (a b : List Token) → AllKeep ps → R a b
       → R (form_tokens p ps a) (form_tokens p ps b)
@@ -146,7 +146,7 @@ module _ (R : Related) (closed : Closed R) where
   tokens_keep = ind-Raw KeepsAt (λ x y is. subst (λ p. Keeps p) (sym (printed-roll x))
       (subst (λ z. Keeps (printed_step (map-Raw Raw Printed printed_of z))) is (layer_keeps y)))
 
--- what follows stands behind the tokens
+-- what follows comes after the tokens
 pub tokens_before : (n : Nonterminal) (v : Raw) (a rest : List Token)
     → tokens_at n v (a ++ rest) ≡ tokens_at n v a ++ rest
 tokens_before n v a rest = tokens_keep (λ x y. x ≡ y ++ rest) (λ t x y e. ap (λ ts. t ∷ ts) e) v n

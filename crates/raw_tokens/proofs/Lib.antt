@@ -7,3 +7,4 @@ pub mod Derive
 pub mod Follows
 pub mod Before
 pub mod Nodes
+pub mod QueryTokens

@@ -1,8 +1,8 @@
 -- The folds at a leaf and at a node.
 use Rattle.std.proofs.Common.{◌≡◌, List, map, sym, ◌∙◌, ap}
-use Rattle.expr_terms.specs.declared.tokens.Token.{Token}
-use Rattle.expr_terms.specs.declared.productions.Language.{Language}
-use Rattle.expr_terms.specs.declared.productions.Production.{Production}
+use Rattle.expr_keys.specs.declared.tokens.Token.{Token}
+use Rattle.expr_keys.specs.declared.productions.Language.{Language}
+use Rattle.expr_keys.specs.declared.productions.Production.{Production}
 use Rattle.expr_terms.specs.declared.raws.Raw.{Raw}
 use Rattle.expr_terms.specs.declared.raws.Raw.TheVariants.{Leaf as leaf, Node as node}
 use Rattle.expr_terms.specs.declared.raws.Raw.TheVariants.{rolls-Leaf, rolls-Node}

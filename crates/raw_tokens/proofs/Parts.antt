@@ -2,22 +2,23 @@
 use Rattle.std.proofs.Common.{◌≡◌, Bool, true, false, cond, ◌&&◌, not, List, [], ◌∷◌, refl, sym}
 use Rattle.std.proofs.Common.{◌∙◌, ap, subst}
 use Rattle.std.proofs.lemmas.Bool.{eq-eqb, and_parts}
-use Rattle.expr_terms.specs.Keys.{code}
-use Rattle.expr_terms.specs.declared.productions.Level.TheVariants as level
-use Rattle.expr_terms.specs.declared.productions.Nonterminal.TheVariants as place
-use Rattle.expr_terms.specs.declared.productions.Production.{Production}
-use Rattle.expr_terms.specs.declared.productions.Production.TheVariants as production
-use Rattle.expr_terms.specs.Productions.{body, below, repeats, fits, keeps}
+use Rattle.expr_keys.specs.Keys.{code}
+use Rattle.expr_keys.specs.declared.productions.Level.TheVariants as level
+use Rattle.expr_keys.specs.declared.productions.Nonterminal.TheVariants as place
+use Rattle.expr_keys.specs.declared.productions.Production.{Production}
+use Rattle.expr_keys.specs.declared.productions.Production.TheVariants as production
+use Rattle.expr_keys.specs.Classes.{fits}
+use Rattle.expr_terms.specs.Productions.{body, below, repeats, keeps}
 use Rattle.expr_terms.specs.Raws.{keep}
-use Rattle.expr_terms.specs.declared.tokens.Token.{Token}
-use Rattle.expr_terms.specs.declared.productions.Class.{Class}
-use Rattle.expr_terms.specs.declared.productions.Class.TheVariants as class
-use Rattle.expr_terms.specs.declared.productions.Symbol.{Symbol}
-use Rattle.expr_terms.specs.declared.productions.Symbol.TheVariants.{Tok as tok, One as one}
-use Rattle.expr_terms.specs.declared.productions.Symbol.TheVariants.{Maybe as maybe, Many as many}
-use Rattle.expr_terms.specs.declared.productions.Symbol.TheVariants.{Longest as longest}
-use Rattle.expr_terms.specs.declared.productions.Language.{Language}
-use Rattle.expr_terms.specs.declared.productions.Nonterminal.{Nonterminal}
+use Rattle.expr_keys.specs.declared.tokens.Token.{Token}
+use Rattle.expr_keys.specs.declared.productions.Class.{Class}
+use Rattle.expr_keys.specs.declared.productions.Class.TheVariants as class
+use Rattle.expr_keys.specs.declared.productions.Symbol.{Symbol}
+use Rattle.expr_keys.specs.declared.productions.Symbol.TheVariants.{Tok as tok, One as one}
+use Rattle.expr_keys.specs.declared.productions.Symbol.TheVariants.{Maybe as maybe, Many as many}
+use Rattle.expr_keys.specs.declared.productions.Symbol.TheVariants.{Longest as longest}
+use Rattle.expr_keys.specs.declared.productions.Language.{Language}
+use Rattle.expr_keys.specs.declared.productions.Nonterminal.{Nonterminal}
 use Rattle.expr_terms.specs.declared.raws.Raw.{Raw}
 use Rattle.expr_terms.specs.declared.raws.Raw.TheVariants.{Leaf as leaf, rolls-Leaf}
 use Rattle.expr_terms.specs.declared.raws.Raw.TheViews.{out-Raw, roll-Raw, roll-out-Raw}
@@ -43,20 +44,20 @@ all_longest (longest n ∷ ss) = is_longest n && all_longest ss
 all_longest (_ ∷ ss) = all_longest ss
 
 pub longest_body : (p : Production) → all_longest (body p) ≡ true
-longest_body (production.Chain l) = go (repeats l)
+longest_body (production.OperatorChain l) = go (repeats l)
   where
     go : (b : Bool)
         → all_longest (one (below l) ∷ cond b (many (place.Tail l)) (maybe (place.Tail l)) ∷ [])
         ≡ true
     go true = refl
     go false = refl
-longest_body (production.Operated level.Instances) = refl
-longest_body (production.Operated level.Treats) = refl
-longest_body (production.Operated level.Castables) = refl
-longest_body (production.Operated level.Casts) = refl
-longest_body (production.Operated level.Ors) = refl
-longest_body (production.Operated _) = refl
-longest_body production.Top = refl
+longest_body (production.OperatorTail level.InstanceOf) = refl
+longest_body (production.OperatorTail level.Treat) = refl
+longest_body (production.OperatorTail level.Castable) = refl
+longest_body (production.OperatorTail level.Cast) = refl
+longest_body (production.OperatorTail level.Or) = refl
+longest_body (production.OperatorTail _) = refl
+longest_body production.WholeExpr = refl
 longest_body _ = refl
 
 module _ (l : Language) where
@@ -71,10 +72,10 @@ module _ (l : Language) where
 
 fits_fixed : (c : Class) → keeps c ≡ false → fits c (fixed c) ≡ true
 fits_fixed (class.Key k) e = eq-eqb (code k) (code k) refl
-fits_fixed class.Unquote e = refl
+fits_fixed class.AttributeEnd e = refl
 fits_fixed class.TagEnd e = refl
 fits_fixed class.EmptyEnd e = refl
-fits_fixed class.Enter e = refl
+fits_fixed class.EnclosedOpen e = refl
 fits_fixed _ e = never (sym e)
 
 record IsLeaf (c : Class) (v : Raw) (t : Token) : Type 0 where

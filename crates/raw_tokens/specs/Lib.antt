@@ -1,3 +1,4 @@
 pub mod Places
 pub mod Tokens
 pub mod Stands
+pub mod QueryTokens

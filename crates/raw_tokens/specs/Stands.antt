@@ -2,21 +2,22 @@
 -- stands where the body of its production wants it.
 use Rattle.std.specs.Prelude.{ℕ, zero, suc, Bool, true, false, ◌&&◌, ◌||◌, not, if◌then◌else◌}
 use Rattle.std.specs.Prelude.{List, [], ◌∷◌, map, is_some}
-use Rattle.expr_terms.specs.Productions.{body, keeps, passes, fits, speaks}
+use Rattle.expr_keys.specs.Classes.{fits}
+use Rattle.expr_terms.specs.Productions.{body, keeps, passes, speaks}
 use Rattle.expr_terms.specs.Raws.{is_parens, is_otherwise, is_conditional, only_parens}
 use Rattle.expr_terms.specs.Raws.{as_inner_chain}
-use Rattle.expr_terms.specs.declared.keys.Key.TheVariants as key
-use Rattle.expr_terms.specs.declared.tokens.Token.{Token}
-use Rattle.expr_terms.specs.declared.tokens.Token.TheVariants as token
-use Rattle.expr_terms.specs.declared.productions.Class.{Class}
-use Rattle.expr_terms.specs.declared.productions.Symbol.{Symbol}
-use Rattle.expr_terms.specs.declared.productions.Symbol.TheVariants.{Tok as tok, One as one}
-use Rattle.expr_terms.specs.declared.productions.Symbol.TheVariants.{Maybe as maybe, Many as many}
-use Rattle.expr_terms.specs.declared.productions.Symbol.TheVariants.{Longest as longest}
-use Rattle.expr_terms.specs.declared.productions.Language.{Language}
-use Rattle.expr_terms.specs.declared.productions.Nonterminal.{Nonterminal}
-use Rattle.expr_terms.specs.declared.productions.Nonterminal.TheVariants as place
-use Rattle.expr_terms.specs.declared.productions.Production.{Production}
+use Rattle.expr_keys.specs.declared.keys.Key.TheVariants as key
+use Rattle.expr_keys.specs.declared.tokens.Token.{Token}
+use Rattle.expr_keys.specs.declared.tokens.Token.TheVariants as token
+use Rattle.expr_keys.specs.declared.productions.Class.{Class}
+use Rattle.expr_keys.specs.declared.productions.Symbol.{Symbol}
+use Rattle.expr_keys.specs.declared.productions.Symbol.TheVariants.{Tok as tok, One as one}
+use Rattle.expr_keys.specs.declared.productions.Symbol.TheVariants.{Maybe as maybe, Many as many}
+use Rattle.expr_keys.specs.declared.productions.Symbol.TheVariants.{Longest as longest}
+use Rattle.expr_keys.specs.declared.productions.Language.{Language}
+use Rattle.expr_keys.specs.declared.productions.Nonterminal.{Nonterminal}
+use Rattle.expr_keys.specs.declared.productions.Nonterminal.TheVariants as place
+use Rattle.expr_keys.specs.declared.productions.Production.{Production}
 use Rattle.expr_terms.specs.declared.raws.Raw.{Raw}
 use Rattle.expr_terms.specs.declared.raws.Raw.TheVariants.{Leaf as leaf, Node as node}
 use Rattle.expr_terms.specs.declared.raws.Raw.TheViews.{out-Raw}
@@ -98,8 +99,8 @@ seq_stands (longest n ∷ ss) ps rest =
 abbrev pub arm_stands : Placed → Placed → List Token → Bool
 arm_stands arm test rest =
     test.stands place.Expr (token.Key key.CloseParen ∷ token.Key key.ThenWord
-    ∷ arm.printed.tokens place.Single (token.Key key.ElseWord ∷ rest))
-    && arm.stands place.Single (token.Key key.ElseWord ∷ rest)
+    ∷ arm.printed.tokens place.ExprSingle (token.Key key.ElseWord ∷ rest))
+    && arm.stands place.ExprSingle (token.Key key.ElseWord ∷ rest)
 
 abbrev pub arms_stand : List Placed → List Token → Bool
 arms_stand [] rest = true
@@ -107,13 +108,13 @@ arms_stand (arm ∷ []) rest = false
 arms_stand (arm ∷ test ∷ ps) rest =
     arm_stands arm test rest && arms_stand ps (arm_tokens arm.printed test.printed rest)
 
--- What stands behind the last `else` is no conditional, which would go on with the chain; and
+-- What comes after the last `else` is no conditional, which would go on with the chain; and
 -- there is an arm.
 abbrev pub chain_stands : List Placed → List Token → Bool
 chain_stands [] rest = false
 chain_stands (p ∷ ps) rest =
     not (is_some (as_inner_chain (out-Raw p.printed.raw))) && (not (is_nothing ps)
-    && (p.stands place.Single rest && arms_stand ps (p.printed.tokens place.Single rest)))
+    && (p.stands place.ExprSingle rest && arms_stand ps (p.printed.tokens place.ExprSingle rest)))
 
 -- parentheses do not stand right in parentheses, and what adds nothing to one part has more
 abbrev pub is_kept : Production → List Placed → Bool
@@ -156,7 +157,7 @@ placed_step l (Node p ps) = record {
 unfoldable pub placed_of : Language → Raw → Placed
 placed_of l = fold-Raw Placed (placed_step l)
 
--- whether the value stands at the nonterminal, before the tokens that follow
+-- whether the value is at the nonterminal, before the tokens that follow
 abbrev pub stands_at : Language → Nonterminal → Raw → List Token → Bool
 stands_at l n v rest = (placed_of l v).stands n rest
 
@@ -170,4 +171,4 @@ is_type l v = stands_at l place.WholeType v []
 
 -- whether the tokens would go on with a `/` that stands alone, or with a type that bears no mark
 abbrev pub goes_on : List Token → Bool
-goes_on ts = next_begins place.AfterRoot ts || next_begins place.Occurrence ts
+goes_on ts = next_begins place.AfterRoot ts || next_begins place.OccurrenceIndicator ts

@@ -4,18 +4,18 @@ use Rattle.std.specs.Prelude.{ℕ, zero, suc, Bool, false, if◌then◌else◌}
 use Rattle.std.specs.Prelude.{List, [], ◌∷◌, map}
 use Rattle.expr_terms.specs.Productions.{body, keeps}
 use Rattle.expr_terms.specs.Raws.{is_conditional}
-use Rattle.expr_terms.specs.declared.keys.Key.TheVariants as key
-use Rattle.expr_terms.specs.declared.tokens.Token.{Token}
-use Rattle.expr_terms.specs.declared.tokens.Token.TheVariants as token
-use Rattle.expr_terms.specs.declared.productions.Class.{Class}
-use Rattle.expr_terms.specs.declared.productions.Class.TheVariants as class
-use Rattle.expr_terms.specs.declared.productions.Symbol.{Symbol}
-use Rattle.expr_terms.specs.declared.productions.Symbol.TheVariants.{Tok as tok, One as one}
-use Rattle.expr_terms.specs.declared.productions.Symbol.TheVariants.{Maybe as maybe, Many as many}
-use Rattle.expr_terms.specs.declared.productions.Symbol.TheVariants.{Longest as longest}
-use Rattle.expr_terms.specs.declared.productions.Nonterminal.{Nonterminal}
-use Rattle.expr_terms.specs.declared.productions.Nonterminal.TheVariants as place
-use Rattle.expr_terms.specs.declared.productions.Production.{Production}
+use Rattle.expr_keys.specs.declared.keys.Key.TheVariants as key
+use Rattle.expr_keys.specs.declared.tokens.Token.{Token}
+use Rattle.expr_keys.specs.declared.tokens.Token.TheVariants as token
+use Rattle.expr_keys.specs.declared.productions.Class.{Class}
+use Rattle.expr_keys.specs.declared.productions.Class.TheVariants as class
+use Rattle.expr_keys.specs.declared.productions.Symbol.{Symbol}
+use Rattle.expr_keys.specs.declared.productions.Symbol.TheVariants.{Tok as tok, One as one}
+use Rattle.expr_keys.specs.declared.productions.Symbol.TheVariants.{Maybe as maybe, Many as many}
+use Rattle.expr_keys.specs.declared.productions.Symbol.TheVariants.{Longest as longest}
+use Rattle.expr_keys.specs.declared.productions.Nonterminal.{Nonterminal}
+use Rattle.expr_keys.specs.declared.productions.Nonterminal.TheVariants as place
+use Rattle.expr_keys.specs.declared.productions.Production.{Production}
 use Rattle.expr_terms.specs.declared.raws.Raw.{Raw}
 use Rattle.expr_terms.specs.declared.raws.Raw.TheVariants.{Leaf as leaf, Node as node}
 use Rattle.expr_terms.specs.declared.raws.Raw.TheViews.{out-Raw}
@@ -23,7 +23,7 @@ use Rattle.expr_terms.specs.declared.raws.Raw.TheFolds.{fold-Raw}
 use Rattle.expr_terms.specs.declared.raws.Raw.TheOpen.{Raw-F, Leaf, Node}
 use Rattle.raw_tokens.specs.Places.{Way, form, through, nowhere, way, leads}
 
--- a value, and its tokens where it stands at a nonterminal, before those that follow
+-- a value, and its tokens where it is at a nonterminal, before those that follow
 pub record Printed : Type 0 where
   pub raw : Raw
   pub tokens : Nonterminal → List Token → List Token
@@ -34,10 +34,10 @@ raws ps = map (λ p. p.raw) ps
 -- the token of a class that keeps none
 abbrev pub fixed : Class → Token
 fixed (class.Key k) = token.Key k
-fixed class.Unquote = token.Unquote
+fixed class.AttributeEnd = token.AttributeEnd
 fixed class.TagEnd = token.TagEnd
 fixed class.EmptyEnd = token.EmptyEnd
-fixed _ = token.Enter
+fixed _ = token.EnclosedOpen
 
 abbrev pub others : {A : Type 0} → List A → List A
 others [] = []
@@ -45,10 +45,10 @@ others (x ∷ xs) = xs
 
 abbrev pub leaf_of : Raw-F Raw → Token
 leaf_of (Leaf t) = t
-leaf_of (Node p vs) = token.Enter
+leaf_of (Node p vs) = token.EnclosedOpen
 
 abbrev pub first_leaf : List Printed → Token
-first_leaf [] = token.Enter
+first_leaf [] = token.EnclosedOpen
 first_leaf (p ∷ ps) = leaf_of (out-Raw p.raw)
 
 abbrev pub first_tokens : Nonterminal → List Printed → List Token → List Token
@@ -64,7 +64,7 @@ abbrev pub is_next : Nonterminal → List Printed → Bool
 is_next n [] = false
 is_next n (p ∷ ps) = leads n (out-Raw p.raw)
 
--- the parts at the front that are of the nonterminal, and those behind them
+-- the parts at the front that are of the nonterminal, and those after them
 abbrev pub front : Nonterminal → List Printed → List Printed
 front n [] = []
 front n (p ∷ ps) = if leads n (out-Raw p.raw) then p ∷ front n ps else []
@@ -92,7 +92,7 @@ seq_tokens (longest n ∷ ss) ps rest =
 abbrev pub arm_tokens : Printed → Printed → List Token → List Token
 arm_tokens arm test rest =
     token.Key key.IfWord ∷ token.Key key.OpenParen ∷ test.tokens place.Expr
-    (token.Key key.CloseParen ∷ token.Key key.ThenWord ∷ arm.tokens place.Single
+    (token.Key key.CloseParen ∷ token.Key key.ThenWord ∷ arm.tokens place.ExprSingle
     (token.Key key.ElseWord ∷ rest))
 
 abbrev pub arms_tokens : List Printed → List Token → List Token
@@ -100,11 +100,11 @@ arms_tokens [] rest = rest
 arms_tokens (arm ∷ []) rest = rest
 arms_tokens (arm ∷ test ∷ ps) rest = arms_tokens ps (arm_tokens arm test rest)
 
--- A conditional has its parts in reverse order: what stands behind the last `else`, then the last
+-- A conditional has its parts in reverse order: what comes after the last `else`, then the last
 -- arm and its test, and so on.
 abbrev pub chain_tokens : List Printed → List Token → List Token
 chain_tokens [] rest = rest
-chain_tokens (p ∷ ps) rest = arms_tokens ps (p.tokens place.Single rest)
+chain_tokens (p ∷ ps) rest = arms_tokens ps (p.tokens place.ExprSingle rest)
 
 -- .. of a production with its parts
 abbrev pub form_tokens : Production → List Printed → List Token → List Token

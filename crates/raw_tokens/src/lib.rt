@@ -5,31 +5,33 @@
 //! nonterminal. The laws say that the tokens of such a value spell it.
 #![tactic(auto)]
 
+pub mod query_tokens;
+
 ghost use Rattle.std.specs.Prelude.{◌≡◌, List, ◌++◌, Some, true, false, []};
-ghost use Rattle.expr_terms.specs.declared.tokens.Token.{Token};
-ghost use Rattle.expr_terms.specs.declared.productions.Language.{Language};
-ghost use Rattle.expr_terms.specs.declared.productions.Nonterminal.{Nonterminal};
+ghost use Rattle.expr_keys.specs.declared.tokens.Token.{Token};
+ghost use Rattle.expr_keys.specs.declared.productions.Language.{Language};
+ghost use Rattle.expr_keys.specs.declared.productions.Nonterminal.{Nonterminal};
 ghost use Rattle.expr_terms.specs.declared.raws.Raw.{Raw};
 ghost use Rattle.expr_grammar.specs.Grammar.{Derives, Spells, SpellsType};
 ghost use Rattle.expr_grammar.specs.Machine.{read_whole};
 ghost use Rattle.raw_tokens.specs.Tokens.{tokens_at, tokens_of, type_tokens_of};
 ghost use Rattle.raw_tokens.specs.Stands.{stands_at, is_expr, is_type, goes_on};
 
-/// The tokens of a value that stands at a nonterminal derive it there, before those that follow.
+/// The tokens of a value that is at a nonterminal derive it there, before those that follow.
 /// (XPath 2.0, A.1; XQuery 1.0, A.1)
 pub fn tokens_derive()
     ensures { (l : Language) (n : Nonterminal) (v : Raw) (rest : List Token)
         → stands_at l n v rest ≡ true → Derives l n (tokens_at n v rest) v rest }
 {}
 
-/// What follows a value stands behind its tokens, whatever it is.
+/// What follows a value comes after its tokens, whatever it is.
 /// (XPath 2.0, A.1; XQuery 1.0, A.1)
 pub fn tokens_stand_before()
     ensures { (n : Nonterminal) (v : Raw) (ts rest : List Token)
         → tokens_at n v (ts ++ rest) ≡ tokens_at n v ts ++ rest }
 {}
 
-/// Where the tokens that follow begin no step and are no mark of a type, a value stands before
+/// Where the tokens that follow begin no step and are no mark of a type, a value comes before
 /// them as it does before nothing, and so its tokens derive it before them.
 /// (XPath 2.0, A.1.2; XQuery 1.0, A.1.2)
 pub fn tokens_end()

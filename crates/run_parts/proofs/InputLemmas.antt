@@ -10,16 +10,16 @@ use Rattle.xt_tree.specs.declared.trees.Tree.{Tree}
 use Rattle.doc_grammar.specs.Document.{IsDocument}
 use Rattle.doc_grammar.specs.declared.spots.Spot.{Spot}
 use Rattle.command_words.specs.Requests.{Inputs}
-use Rattle.run_parts.specs.Inputs.{Holdings, HoldsDocument, HoldsNoDocument, HoldsSomeDocument}
+use Rattle.xt_io.specs.Loads.{Holdings, IsLoadFailure, IsTooLong}
+use Rattle.run_parts.specs.Inputs.{HoldsDocument, HoldsNoDocument, HoldsSomeDocument}
 use Rattle.run_parts.specs.Inputs.{CanBeLoaded, HoldDocuments, IsFirstMalformed, HoldsInputs}
 use Rattle.run_parts.specs.Inputs.{IsInputRefusedAs, IsReadRefusedAs, IsUnloadedAs}
-use Rattle.run_parts.specs.Inputs.{IsLoadFailure, IsTooLong}
 use Rattle.run_parts.specs.Further.{IsTextOf, AreLoaded, IsLoadRefusedAs, AreTrees, IsUnread}
 use Rattle.run_parts.specs.Further.{IsFirstUnread, IsOneTextRefusedAs, IsTextRefusedAs}
 use Rattle.run_parts.specs.declared.inputs.Loaded.{Loaded}
 use Rattle.run_parts.specs.declared.status.Status.{Status}
 use Rattle.run_parts.specs.declared.status.Status.TheVariants.{Load, TooLong, Malformed, Memory}
-use Rattle.run_parts.proofs.Loads.{failed_later, long_later}
+use Rattle.xt_io.proofs.LoadLemmas.{failed_later, long_later}
 
 -- one more file is loaded
 pub loaded_turn : (files : Holdings) (names : List (List ℕ)) (i : ℕ) (name : List ℕ) (done : List Loaded) (file : Loaded)
@@ -79,7 +79,7 @@ trees_end loaded i done h so_far =
     subst (AreTrees loaded) (append-nil done)
     (so_far [] (subst (λ fs. AreTrees fs []) (sym (drop_of_length-le loaded h)) tt))
 
--- what is refused behind a file that is read
+-- what is refused after a file that is read
 pub unread_turn : (loaded : List Loaded) (i : ℕ) (file : Loaded) (tree : Tree) → i < length loaded
     → file ≡ get_or loaded i file → IsDocument file.text.items tree
     → ((name : List ℕ) (spot : Spot) → IsFirstUnread (drop i loaded) name spot → IsFirstUnread loaded name spot)

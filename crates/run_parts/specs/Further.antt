@@ -6,7 +6,7 @@ use Rattle.xt_tree.specs.declared.trees.Tree.{Tree}
 use Rattle.doc_grammar.specs.Document.{IsDocument}
 use Rattle.doc_grammar.specs.Faults.{first_fault}
 use Rattle.doc_grammar.specs.declared.spots.Spot.{Spot}
-use Rattle.run_parts.specs.Inputs.{Holdings, HoldsBytes, IsLoadFailure, IsTooLong}
+use Rattle.xt_io.specs.Loads.{Holdings, HoldsBytes, IsLoadFailure, IsTooLong}
 use Rattle.run_parts.specs.declared.inputs.Loaded.{Loaded}
 use Rattle.run_parts.specs.declared.status.Status.{Status}
 use Rattle.run_parts.specs.declared.status.Status.TheVariants.{Load, TooLong, Malformed, Memory}

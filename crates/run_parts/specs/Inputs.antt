@@ -1,8 +1,8 @@
 -- The files that a request reads, and why one is not read.
-use Rattle.std.specs.Prelude.{◌≡◌, ◌≤◌, ℕ, ◌+◌, List, [], ◌∷◌, length, ⊤, ◌⊎◌, Option}
-use Rattle.std.specs.Prelude.{Contains, map}
+use Rattle.std.specs.Prelude.{◌≡◌, ℕ, List, [], ◌∷◌, ⊤, ◌⊎◌, Contains, map}
 use Rattle.std.specs.Str.{encode_utf8_all}
-use Rattle.xt_io.specs.Files.{FilesState, IsHeld, IsMissing, HoldsAtLeast, Rose, RoseBy}
+use Rattle.xt_io.specs.Files.{FilesState}
+use Rattle.xt_io.specs.Loads.{Holdings, HoldsBytes, IsLoadFailure, IsTooLong}
 use Rattle.xt_tree.specs.declared.trees.Tree.{Tree}
 use Rattle.doc_grammar.specs.Document.{IsDocument}
 use Rattle.doc_grammar.specs.Faults.{first_fault}
@@ -10,19 +10,6 @@ use Rattle.doc_grammar.specs.declared.spots.Spot.{Spot}
 use Rattle.command_words.specs.Requests.{Inputs}
 use Rattle.run_parts.specs.declared.status.Status.{Status}
 use Rattle.run_parts.specs.declared.status.Status.TheVariants.{Load, TooLong, Malformed, Memory}
-
--- what files hold, where they tell
-abbrev pub Holdings : Type 0
-Holdings = Option (List ℕ → Option (List ℕ))
-
--- the greatest number of bytes of a file that is loaded
-abbrev pub file_limit : ℕ
-file_limit = 67108864
-
--- these bytes are held under the name, and are not too long to be loaded
-pub record HoldsBytes (files : Holdings) (name bytes : List ℕ) : Type 0 where
-  pub held : IsHeld files name bytes
-  pub fits : length bytes ≤ file_limit
 
 -- the bytes under the name stand for this tree
 pub record HoldsDocument (files : Holdings) (name : List ℕ) (tree : Tree) : Type 0 where
@@ -36,15 +23,6 @@ pub record HoldsNoDocument (files : Holdings) (name : List ℕ) (spot : Spot) : 
   pub held : HoldsBytes files name bytes
   pub none : (tree : Tree) → IsDocument bytes tree → ⊥
   pub first : spot ≡ first_fault bytes
-
--- why a load of the file failed
-abbrev pub IsLoadFailure : FilesState → FilesState → List ℕ → Type 0
-IsLoadFailure old new file = Rose old.faults new.faults ⊎ IsMissing old.held file
-
--- why a file has so many bytes that it is too long
-abbrev pub IsTooLong : FilesState → FilesState → List ℕ → ℕ → Type 0
-IsTooLong old new file n =
-    (n ≡ file_limit + 1) × RoseBy n old.taken new.taken × HoldsAtLeast old.held file n
 
 -- why a file is not loaded
 abbrev pub IsUnloadedAs : List ℕ → FilesState → FilesState → Status → Type 0

@@ -2,18 +2,15 @@
 ghost use Rattle.std.specs.Prelude.{◌≡◌, IfOk, IfErr};
 ghost use Rattle.std.specs.Str.{encode_utf8_all};
 ghost use Rattle.xt_io.specs.Files.{KeepsFiles};
-ghost use Rattle.run_parts.specs.Inputs.{HoldsBytes, HoldsDocument};
-ghost use Rattle.run_parts.specs.Inputs.{IsUnloadedAs, IsReadRefusedAs};
+ghost use Rattle.xt_io.specs.Loads.{HoldsBytes};
+ghost use Rattle.run_parts.specs.Inputs.{HoldsDocument, IsUnloadedAs, IsReadRefusedAs};
 
 use crate::status::Status;
 use doc_reader::{ReadFault, read};
 use std::alloc::Global;
-use xt_io::{Files, LoadFault};
+use xt_io::{Files, LoadFault, load_file};
 use xt_names::Text;
 use xt_tree::Tree;
-
-/// The greatest number of bytes of a file that is loaded.
-const FILE_LIMIT: u64 = 67_108_864;
 
 /// The bytes of a file.
 pub fn load<F: Files>(alloc: Global, name: &str, files: &mut F) -> Result<Vec<u8>, Status>
@@ -22,7 +19,7 @@ pub fn load<F: Files>(alloc: Global, name: &str, files: &mut F) -> Result<Vec<u8
         (IsUnloadedAs name.now (F.state files.old) (F.state files.new)) }
     ensures keeps { KeepsFiles (F.state files.old) (F.state files.new) }
 {
-    match files.load(alloc, name, FILE_LIMIT) {
+    match load_file(alloc, files, name) {
         Ok(bytes) => Ok(bytes),
         Err(LoadFault::Failed) => Err(Status::Load(file_name(alloc, name)?)),
         Err(LoadFault::TooLong(n)) => Err(Status::TooLong(file_name(alloc, name)?, n)),

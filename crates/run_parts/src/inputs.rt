@@ -33,6 +33,7 @@ pub(crate) struct Loaded {
 
 /// The trees of the inputs: the document is loaded and read first, then the files of the further
 /// documents are loaded in turn, and then they are read in turn.
+#[tactic(auto, using(xt_io::proofs::LoadLemmas::keeps_none, xt_io::proofs::LoadLemmas::keeps_then))]
 pub fn load_inputs<F: Files>(
     alloc: Global,
     inputs: &Inputs<'_>,
@@ -54,6 +55,7 @@ pub fn load_inputs<F: Files>(
 }
 
 // The bytes of the files, in turn.
+#[tactic(auto, using(xt_io::proofs::LoadLemmas::keeps_none, xt_io::proofs::LoadLemmas::keeps_then))]
 fn load_files<F: Files>(
     alloc: Global,
     names: &List<Text>,

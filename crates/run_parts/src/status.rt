@@ -44,7 +44,7 @@ pub enum ProfileRule {
     /// `xsl:apply-imports` and `xsl:next-match` stand in a template with `match` and without `name`,
     /// outside of `xsl:for-each` and `xsl:for-each-group`.
     P2,
-    /// `#current` stands in a template with `match` and without `name`.
+    /// `#current` is in a template with `match` and without `name`.
     P3,
     /// `xsl:call-template` stands where there is a focus, so in no function outside of
     /// `xsl:for-each` and `xsl:for-each-group`.

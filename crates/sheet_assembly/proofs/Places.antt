@@ -1,13 +1,12 @@
 -- The places of the templates that are called, from the last template to the first.
-use Rattle.std.proofs.Common.{◌≡◌, ◌≤◌, ◌<◌, ℕ, zero, suc, ◌+◌, List, [], ◌∷◌, ◌++◌, Option, Some}
+use Rattle.std.proofs.Common.{◌≡◌, ◌≤◌, ◌<◌, ℕ, suc, ◌+◌, List, [], Option, Some}
 use Rattle.std.proofs.Common.{None, nat_eq, if◌then◌else◌, length, drop, get_or, set}
-use Rattle.std.proofs.Common.{slice_get, inl, inr, arith, refl, sym, ap, ◌∙◌, add-one, eq-eqb}
+use Rattle.std.proofs.Common.{inl, inr, arith, refl, sym, ap, ◌∙◌, add-one, eq-eqb}
 use Rattle.std.proofs.Common.{ne_eqb, lt-ltb, le-ltb, get_or-set_same, get_or-set_other}
 use Rattle.std.proofs.lemmas.Bool.{cases_eq, cases_lt}
 use Rattle.std.proofs.lemmas.List.{drop_all, length-set, length-replicate, get_or-replicate}
 use Rattle.std.proofs.lemmas.List.FromFn.{fill_by_all}
 use Rattle.std.specs.Prelude.{replicate}
-use Rattle.std.specs.List.{range_with_len}
 use Rattle.xt_names.proofs.ListLemmas.{drop_at}
 use Rattle.sheet_assembly.specs.Templates.{first_at, places_of, with_place}
 use Rattle.sheet_assembly.specs.declared.templates.Standing.{Standing}
@@ -71,23 +70,3 @@ pub places_end : (ts : List Standing) (places : List (Option ℕ)) (count i : �
 places_end ts places count i none long found =
     fill_by_all (λ (k : ℕ). first_at k 0 ts) places count None long
     (λ k small. found k small ∙ ap (λ (n : ℕ). first_at k n (drop n ts)) none)
-
--- one more number
-count_more : (n a : ℕ) → range_with_len a (suc n) ≡ range_with_len a n ++ (a + n) ∷ []
-count_more zero a = let e : a ≡ a + 0 = omega arith in ap (λ (k : ℕ). k ∷ []) e
-count_more (suc n) a =
-    let e : a + 1 + n ≡ a + suc n = omega arith in
-    ap (λ (l : List ℕ). a ∷ l)
-    (count_more n (a + 1) ∙ ap (λ (k : ℕ). range_with_len (a + 1) n ++ k ∷ []) e)
-
-pub number_more : (n : ℕ) → range_with_len 0 (n + 1) ≡ range_with_len 0 n ++ n ∷ []
-number_more n =
-    let e : 0 + n ≡ n = omega arith in
-    ap (range_with_len 0) (add-one n)
-    ∙ (count_more n 0 ∙ ap (λ (k : ℕ). range_with_len 0 n ++ k ∷ []) e)
-
--- nothing stands past the end
-pub none_past : {A : Type 0} (xs : List A) (i : ℕ) → length xs ≤ i → slice_get xs i ≡ None
-none_past [] i h = refl
-none_past (x ∷ xs) zero h = absurd (omega (arith, h))
-none_past (x ∷ xs) (suc i) h = let less : length xs ≤ i = omega (arith, h) in none_past xs i less

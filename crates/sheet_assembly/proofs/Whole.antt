@@ -9,7 +9,7 @@ use Rattle.xt_sheets.specs.declared.sheets.Rule.{Rule}
 use Rattle.xt_sheets.specs.declared.sheets.SheetFunction.{SheetFunction}
 use Rattle.xt_sheets.specs.declared.sheets.KeyRule.{KeyRule}
 use Rattle.xt_sheets.specs.declared.sheets.Sheet.{Sheet}
-use Rattle.sheet_declarations.specs.Counts.{counted_of}
+use Rattle.sheet_rules.specs.SheetDeclarations.Counts.{counted_of}
 use Rattle.sheet_assembly.specs.declared.templates.Standing.{Standing}
 use Rattle.sheet_assembly.specs.Named.{each_by, each, global_if, function_if, keys_in, ordered}
 use Rattle.sheet_assembly.specs.Templates.{standing_if, templates_of, rules_of}

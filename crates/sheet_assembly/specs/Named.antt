@@ -10,9 +10,9 @@ use Rattle.sheet_modules.specs.declared.modules.FunctionPart.{FunctionPart}
 use Rattle.sheet_modules.specs.declared.modules.KeyPart.{KeyPart}
 use Rattle.sheet_modules.specs.declared.modules.Part.{Part}
 use Rattle.sheet_modules.specs.declared.modules.Part.TheVariants as part
-use Rattle.sheet_declarations.specs.declared.lists.Declaration.{Declaration}
+use Rattle.sheet_rules.specs.declared.sheet_declarations.lists.Declaration.{Declaration}
 
--- the first mark, and those behind it; where there is none nothing is marked
+-- the first mark, and those after it; where there is none nothing is marked
 abbrev pub is_marked : List Bool → Bool
 is_marked [] = false
 is_marked (m ∷ ms) = m

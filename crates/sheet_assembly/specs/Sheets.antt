@@ -5,9 +5,9 @@ use Rattle.xt_syntax.specs.declared.exprs.Expr.{Expr}
 use Rattle.xt_syntax.specs.declared.patterns.Pattern.{Pattern}
 use Rattle.xt_sheets.specs.declared.sheets.Level.{Level}
 use Rattle.xt_sheets.specs.declared.sheets.Sheet.{Sheet}
-use Rattle.sheet_levels.specs.declared.levels.SheetLevel.{SheetLevel}
-use Rattle.sheet_declarations.specs.declared.lists.Declaration.{Declaration}
-use Rattle.sheet_declarations.specs.Counts.{counted_of}
+use Rattle.sheet_modules.specs.declared.sheet_levels.levels.SheetLevel.{SheetLevel}
+use Rattle.sheet_rules.specs.declared.sheet_declarations.lists.Declaration.{Declaration}
+use Rattle.sheet_rules.specs.SheetDeclarations.Counts.{counted_of}
 use Rattle.sheet_assembly.specs.declared.templates.Standing.{Standing}
 use Rattle.sheet_assembly.specs.Named.{each_by, each, global_if, function_if, keys_in, ordered}
 use Rattle.sheet_assembly.specs.Templates.{standing_if, templates_of, rules_of, small}

@@ -8,7 +8,7 @@ use Rattle.xt_types.specs.declared.node_tests.NameTest.TheVariants.{Any, Uri, Lo
 use Rattle.xt_types.specs.declared.node_tests.SpaceRule.{SpaceRule}
 use Rattle.sheet_modules.specs.declared.modules.Part.{Part}
 use Rattle.sheet_modules.specs.declared.modules.Part.TheVariants as part
-use Rattle.sheet_declarations.specs.declared.lists.Declaration.{Declaration}
+use Rattle.sheet_rules.specs.declared.sheet_declarations.lists.Declaration.{Declaration}
 use Rattle.sheet_assembly.specs.Named.{each}
 use Rattle.sheet_assembly.specs.declared.spaces.Leveled.{Leveled}
 

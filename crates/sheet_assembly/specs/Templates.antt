@@ -14,8 +14,8 @@ use Rattle.sheet_modules.specs.declared.templates.ModeSet.{ModeSet}
 use Rattle.sheet_modules.specs.declared.templates.ModeSet.TheVariants.{All, Numbers}
 use Rattle.sheet_modules.specs.declared.modules.Part.{Part}
 use Rattle.sheet_modules.specs.declared.modules.Part.TheVariants as part
-use Rattle.sheet_texts.specs.Names.{number_of}
-use Rattle.sheet_declarations.specs.declared.lists.Declaration.{Declaration}
+use Rattle.sheet_values.specs.SheetTexts.Names.{number_of}
+use Rattle.sheet_rules.specs.declared.sheet_declarations.lists.Declaration.{Declaration}
 use Rattle.sheet_assembly.specs.Named.{each}
 use Rattle.sheet_assembly.specs.declared.templates.Standing.{Standing}
 

@@ -5,8 +5,8 @@ ghost use Rattle.sheet_assembly.specs.Named.{global, global_in, global_if, at, o
 ghost use Rattle.sheet_assembly.specs.Named.{sheet_function, function_in, function_if};
 ghost use Rattle.sheet_assembly.specs.Named.{key_rule, key_rules, keys_in};
 
-use sheet_declarations::Declaration;
 use sheet_modules::{FunctionPart, GlobalPart, KeyPart, Part};
+use sheet_rules::sheet_declarations::Declaration;
 use std::alloc::{AllocError, Global as Allocator};
 use xt_names::List;
 use xt_sheets::{Global, KeyRule, SheetFunction, copy_bound_list, copy_instr_list};
@@ -23,7 +23,7 @@ pub(crate) fn is_marked(marks: &[bool]) -> bool
     }
 }
 
-/// The marks behind the first.
+/// The marks after the first.
 pub(crate) fn behind(marks: &[bool]) -> &[bool]
     ensures { result.now ≡ behind marks.now }
 {

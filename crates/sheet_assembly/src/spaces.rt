@@ -5,8 +5,8 @@ ghost use Rattle.sheet_assembly.specs.Spaces.{leveled, space_rules, spaces_in, w
 ghost use Rattle.sheet_assembly.specs.Spaces.{weighing, on_level, down_from, spaces_of};
 ghost use Rattle.sheet_assembly.specs.Spaces.{omit_by, omit_of};
 
-use sheet_declarations::Declaration;
 use sheet_modules::Part;
+use sheet_rules::sheet_declarations::Declaration;
 use std::alloc::{AllocError, Global};
 use xt_names::List;
 use xt_syntax::{Expr, Pattern};

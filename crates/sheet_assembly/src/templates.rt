@@ -2,24 +2,19 @@
 ghost use Rattle.std.specs.Prelude.{◌≡◌, ◌++◌, map, replicate, None, IfOk, OnOk};
 ghost use Rattle.std.specs.List.{range_with_len};
 ghost use Rattle.sheet_assembly.specs.Named.{each_by, each};
-ghost use Rattle.sheet_assembly.specs.Templates.{name_if, template_of, number_in};
-ghost use Rattle.sheet_assembly.specs.Templates.{chosen_template, chosen_rules, standing_number};
-ghost use Rattle.sheet_assembly.specs.Templates.{standing_in, standing_if, template_in, rules_in};
-ghost use Rattle.sheet_assembly.specs.Templates.{places_of, with_place, no_template};
-ghost use Rattle.sheet_assembly.specs.Templates.{template_at, other_of, templates_of};
-ghost use Rattle.sheet_assembly.specs.Templates.{place_of, one_more, modes_of, rule_of, rules_of};
+ghost use Rattle.sheet_assembly.specs.Templates.{name_if, template_of, number_in, chosen_template, chosen_rules, standing_number, standing_in, standing_if, template_in, rules_in, places_of, with_place, no_template, template_at, other_of, templates_of, place_of, one_more, modes_of, rule_of, rules_of};
 
 use crate::declared::{behind, is_marked};
-use sheet_declarations::Declaration;
 use sheet_modules::{ModeSet, Part, RulePart, TemplatePart};
-use sheet_texts::NameTable;
+use sheet_rules::sheet_declarations::Declaration;
+use sheet_values::sheet_texts::NameTable;
 use std::alloc::{AllocError, Global};
 use xt_names::{ExprName, List, Shared};
 use xt_sheets::{Rule, Template, copy_bound_list, copy_instr_list};
 use xt_syntax::{Expr, Pattern};
 use xt_types::copy_option;
 
-/// A template that stands in the stylesheet, with its rules: the declaration of both.
+/// A template that is in the stylesheet, with its rules: the declaration of both.
 #[derive(Drop)]
 pub(crate) struct Standing {
     /// The precedence of its level.
@@ -242,7 +237,7 @@ fn push_called(
     Ok(())
 }
 
-#[tactic(auto, using(crate::proofs::Places::none_past))]
+#[tactic(auto, using(std::proofs::lemmas::Option::slice_get_past))]
 fn template_at(
     alloc: Global,
     standing: &[Standing],
@@ -384,7 +379,7 @@ fn modes_of(alloc: Global, modes: u32, set: &ModeSet) -> Result<List<u32>, Alloc
 }
 
 /// All numbers before this one.
-#[tactic(auto, using(crate::proofs::Places::number_more))]
+#[tactic(auto, using(xt_names::proofs::ListLemmas::number_more))]
 fn every_number(alloc: Global, count: u32) -> Result<List<u32>, AllocError>
     ensures { IfOk result (λ numbers. numbers ≡ range_with_len 0 count) }
 {

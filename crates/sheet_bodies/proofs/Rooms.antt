@@ -5,13 +5,13 @@ use Rattle.xt_names.specs.declared.codes.Code.{Code}
 use Rattle.xt_names.specs.declared.codes.Code.TheVariants.{SheetStatic}
 use Rattle.xt_names.specs.declared.codes.SheetStaticCode.TheVariants.{XTLM0004}
 use Rattle.xt_sheets.specs.declared.instrs.Instr.{Instr}
-use Rattle.sheet_nodes.specs.Parts.{is_variable}
-use Rattle.sheet_nodes.specs.declared.nodes.Node.{Node}
-use Rattle.sheet_heads.specs.SheetTexts.declared.places.Place.{Place}
-use Rattle.sheet_heads.specs.SheetTexts.Readings.{Reading}
+use Rattle.sheet_table.specs.SheetNodes.Parts.{is_variable}
+use Rattle.sheet_table.specs.declared.sheet_nodes.nodes.Node.{Node}
+use Rattle.sheet_heads.specs.SheetValues.declared.sheet_texts.places.StaticContext.{StaticContext}
+use Rattle.sheet_heads.specs.SheetValues.SheetTexts.Readings.{Reading}
 use Rattle.sheet_bodies.specs.Bodies.{body_faults, body_value, node_faults, node_value, walk_faults, walk_value}
 
-module _ {E P : Type 0} (r : Reading E P) (p : Place) where
+module _ {E P : Type 0} (r : Reading E P) (p : StaticContext) where
   faults_nil : (room : ℕ) → body_faults r room p [] ≡ []
   unfolding body_faults
   faults_nil zero = refl
@@ -64,7 +64,7 @@ left_now : (all : List Node) (i : ℕ) (n : Node) → i < length all → n ≡ g
     → drop i all ≡ n ∷ drop (i + 1) all
 left_now all i n less is = let d = drop-cons all i n less in let p = add-one i in cc
 
-module _ {E P : Type 0} (r : Reading E P) (p : Place) where
+module _ {E P : Type 0} (r : Reading E P) (p : StaticContext) where
   pub turn_closed : (room left i : ℕ) (all : List Node) (n : Node)
       → body_faults r room p all ≡ body_faults r left p (drop i all) → i < length all
       → n ≡ get_or all i n → left ≡ 0 → body_faults r room p all ≡ SheetStatic XTLM0004 ∷ []

@@ -1,6 +1,6 @@
 // Sequence constructors, level by level.
 ghost use Rattle.expr_names.specs.Answers.{Answers};
-ghost use Rattle.sheet_nodes.specs.declared.nodes.Node.TheViews.{out-Node};
+ghost use Rattle.sheet_table.specs.declared.sheet_nodes.nodes.Node.TheViews.{out-Node};
 ghost use Rattle.sheet_table.specs.Elements.{xsl_element};
 ghost use Rattle.sheet_heads.specs.Forms.{form_of};
 ghost use Rattle.sheet_bodies.specs.Bodies.{body_faults, body_value, node_faults, node_value};
@@ -13,7 +13,7 @@ ghost use Rattle.sheet_bodies.specs.Bodies.{other_layer_faults, other_layer_valu
 ghost use Rattle.sheet_bodies.specs.Bodies.{bind_faults, bind_value, passed_faults, passed_value};
 ghost use Rattle.sheet_bodies.specs.Bodies.{passed_layer_faults, passed_layer_value, call_faults};
 ghost use Rattle.sheet_bodies.specs.Bodies.{call_value};
-ghost use Rattle.sheet_heads.specs.SheetTexts.Places.{within};
+ghost use Rattle.sheet_heads.specs.SheetValues.SheetTexts.Places.{within};
 ghost use Rattle.sheet_table.specs.declared.elements.XslElement.TheVariants.{WithParam};
 
 use crate::parts::{
@@ -21,16 +21,16 @@ use crate::parts::{
     when, with_item,
 };
 use expr_names::ResolveFault;
-use sheet_heads::sheet_texts::{Place, Reader};
 use sheet_heads::sheet_values::sheet_fault;
+use sheet_heads::sheet_values::sheet_texts::{Reader, StaticContext};
 use sheet_heads::{
     Form, bound_head, call_head, check_repeats, form_of, leaf, literal_head, needed_expr,
     read_head, refuse_if,
 };
-use sheet_nodes::{Node, check_none, is_with_param, misplaced_node, split_front};
-use sheet_table::{XslElement, check_attributes, content_of, is_in_xslt, misplaced, xsl_element};
+use sheet_table::sheet_nodes::{Node, check_none, is_with_param, misplaced_node, split_front};
+use sheet_table::{XslElement, check_attributes, content_of, misplaced, xsl_element};
 use std::alloc::Global;
-use xt_names::{Binding, List, Name, SheetStaticCode};
+use xt_names::{Binding, List, Name, SheetStaticCode, is_in_xslt};
 use xt_sheets::instrs::{Bound, Instr, When};
 use xt_tree::Attribute;
 
@@ -41,7 +41,7 @@ pub fn read_body<R: Reader>(
     alloc: Global,
     reader: &R,
     room: u32,
-    place: &Place,
+    place: &StaticContext,
     nodes: &[Node],
 ) -> Result<List<Instr<R::Expr, R::Pattern>>, ResolveFault>
     ensures { Answers result
@@ -68,7 +68,7 @@ fn read_node<R: Reader>(
     alloc: Global,
     reader: &R,
     below: u32,
-    place: &Place,
+    place: &StaticContext,
     node: &Node,
 ) -> Result<Instr<R::Expr, R::Pattern>, ResolveFault>
     ensures { Answers result
@@ -97,7 +97,7 @@ fn read_element<R: Reader>(
     alloc: Global,
     reader: &R,
     below: u32,
-    place: &Place,
+    place: &StaticContext,
     own: &List<Binding>,
     name: &Name,
     attributes: &[Attribute],
@@ -124,7 +124,7 @@ fn read_xsl<R: Reader>(
     alloc: Global,
     reader: &R,
     below: u32,
-    place: &Place,
+    place: &StaticContext,
     name: &Name,
     attributes: &[Attribute],
     kids: &[Node],
@@ -147,7 +147,7 @@ fn read_form<R: Reader>(
     alloc: Global,
     reader: &R,
     below: u32,
-    place: &Place,
+    place: &StaticContext,
     element: XslElement,
     attributes: &[Attribute],
     kids: &[Node],
@@ -177,7 +177,7 @@ fn read_bodied<R: Reader>(
     alloc: Global,
     reader: &R,
     below: u32,
-    place: &Place,
+    place: &StaticContext,
     element: XslElement,
     attributes: &[Attribute],
     kids: &[Node],
@@ -209,7 +209,7 @@ fn read_choose<R: Reader>(
     alloc: Global,
     reader: &R,
     below: u32,
-    place: &Place,
+    place: &StaticContext,
     attributes: &[Attribute],
     kids: &[Node],
 ) -> Result<Instr<R::Expr, R::Pattern>, ResolveFault>
@@ -232,7 +232,7 @@ fn read_whens<R: Reader>(
     alloc: Global,
     reader: &R,
     below: u32,
-    place: &Place,
+    place: &StaticContext,
     nodes: &[Node],
 ) -> Result<List<When<R::Expr, R::Pattern>>, ResolveFault>
     ensures { Answers result
@@ -254,7 +254,7 @@ fn read_when_node<R: Reader>(
     alloc: Global,
     reader: &R,
     below: u32,
-    place: &Place,
+    place: &StaticContext,
     node: &Node,
 ) -> Result<When<R::Expr, R::Pattern>, ResolveFault>
     ensures { Answers result
@@ -282,7 +282,7 @@ fn read_when<R: Reader>(
     alloc: Global,
     reader: &R,
     below: u32,
-    place: &Place,
+    place: &StaticContext,
     own: &List<Binding>,
     attributes: &[Attribute],
     kids: &[Node],
@@ -305,7 +305,7 @@ fn read_others<R: Reader>(
     alloc: Global,
     reader: &R,
     below: u32,
-    place: &Place,
+    place: &StaticContext,
     nodes: &[Node],
 ) -> Result<List<Instr<R::Expr, R::Pattern>>, ResolveFault>
     ensures { Answers result
@@ -328,7 +328,7 @@ fn read_other_node<R: Reader>(
     alloc: Global,
     reader: &R,
     below: u32,
-    place: &Place,
+    place: &StaticContext,
     node: &Node,
 ) -> Result<List<Instr<R::Expr, R::Pattern>>, ResolveFault>
     ensures { Answers result
@@ -361,7 +361,7 @@ fn read_other<R: Reader>(
     alloc: Global,
     reader: &R,
     below: u32,
-    place: &Place,
+    place: &StaticContext,
     own: &List<Binding>,
     attributes: &[Attribute],
     kids: &[Node],
@@ -383,7 +383,7 @@ pub fn read_bound<R: Reader>(
     alloc: Global,
     reader: &R,
     below: u32,
-    place: &Place,
+    place: &StaticContext,
     element: XslElement,
     attributes: &[Attribute],
     kids: &[Node],
@@ -405,7 +405,7 @@ fn read_call<R: Reader>(
     alloc: Global,
     reader: &R,
     below: u32,
-    place: &Place,
+    place: &StaticContext,
     element: XslElement,
     attributes: &[Attribute],
     kids: &[Node],
@@ -429,7 +429,7 @@ fn read_passed<R: Reader>(
     alloc: Global,
     reader: &R,
     below: u32,
-    place: &Place,
+    place: &StaticContext,
     nodes: &[Node],
 ) -> Result<List<Bound<R::Expr, R::Pattern>>, ResolveFault>
     ensures { Answers result
@@ -453,7 +453,7 @@ fn read_passed_node<R: Reader>(
     alloc: Global,
     reader: &R,
     below: u32,
-    place: &Place,
+    place: &StaticContext,
     node: &Node,
 ) -> Result<Bound<R::Expr, R::Pattern>, ResolveFault>
     ensures { Answers result
@@ -481,7 +481,7 @@ fn read_with_param<R: Reader>(
     alloc: Global,
     reader: &R,
     below: u32,
-    place: &Place,
+    place: &StaticContext,
     own: &List<Binding>,
     attributes: &[Attribute],
     kids: &[Node],

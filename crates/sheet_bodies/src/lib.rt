@@ -2,7 +2,7 @@
 //!
 //! `read_body` gives the instructions exactly where no rule is broken, and else the code of the
 //! first one in the order of the document. Each instruction that holds others takes a level, and so
-//! does each `xsl:variable` of those behind it; where none is left an instruction breaks XTLM0004.
+//! does each `xsl:variable` of those after it; where none is left an instruction breaks XTLM0004.
 //! What texts mean is the reader's.
 //!
 //! Example: `<xsl:if test="a">b</xsl:if>` is the instruction If of what the reader reads of `a` and

@@ -8,7 +8,7 @@ ghost use Rattle.xt_sheets.specs.declared.instrs.Instr.TheVariants.{Choose, Vari
 ghost use Rattle.xt_sheets.specs.declared.instrs.When.{When as AnyWhen};
 ghost use Rattle.xt_sheets.specs.declared.instrs.Bound.{Bound as AnyBound};
 ghost use Rattle.expr_names.specs.Answers.{Answers};
-ghost use Rattle.sheet_nodes.specs.Parts.{is_variable};
+ghost use Rattle.sheet_table.specs.SheetNodes.Parts.{is_variable};
 ghost use Rattle.sheet_heads.specs.Bodied.{with_body};
 ghost use Rattle.sheet_heads.specs.Bindings.{with_value};
 ghost use Rattle.sheet_heads.specs.Calls.{with_passed};
@@ -17,9 +17,9 @@ ghost use Rattle.sheet_table.specs.Elements.{xsl_element};
 ghost use Rattle.std.specs.Prelude.{IfOk};
 
 use expr_names::ResolveFault;
-use sheet_heads::sheet_texts::Place;
+use sheet_heads::sheet_values::sheet_texts::StaticContext;
 use sheet_heads::{BoundHead, CallHead, Head, with_body, with_passed, with_value};
-use sheet_nodes::{Node, is_variable};
+use sheet_table::sheet_nodes::{Node, is_variable};
 use sheet_table::{XslElement, xsl_element};
 use std::alloc::{AllocError, Global};
 use xt_names::{List, Name, Shared};
@@ -195,7 +195,7 @@ pub fn is_none(nodes: &[Node]) -> bool
 }
 
 /// Where the sequence constructor of the element stands.
-pub(crate) fn inner(element: XslElement, place: &Place) -> Result<Place, AllocError>
+pub(crate) fn inner(element: XslElement, place: &StaticContext) -> Result<StaticContext, AllocError>
     ensures { IfOk result (λ p. p ≡ inner element place.now) }
 {
     match element {
@@ -210,7 +210,7 @@ pub(crate) fn is_otherwise(name: &Name) -> bool
     matches!(xsl_element(name), Some(XslElement::Otherwise))
 }
 
-/// The levels that instructions behind the node may have.
+/// The levels that instructions after the node may have.
 pub(crate) fn left_behind(below: u32, node: &Node) -> u32
     requires { below + 1 ≤ u32.MAX }
     ensures { result ≡ (if is_variable node.now then below else suc below) }
@@ -218,7 +218,7 @@ pub(crate) fn left_behind(below: u32, node: &Node) -> u32
     if is_variable(node) { below } else { below + 1 }
 }
 
-/// What was read, where what stands behind it is not refused.
+/// What was read, where what comes after it is not refused.
 pub(crate) fn before<A: Drop>(
     read: Result<A, ResolveFault>,
     behind: Result<(), ResolveFault>,

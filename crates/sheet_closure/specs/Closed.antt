@@ -7,7 +7,7 @@ use Rattle.xt_types.specs.declared.node_tests.NameTest.{NameTest}
 use Rattle.xt_types.specs.declared.node_tests.NameTest.TheVariants as name
 use Rattle.xt_sheets.specs.declared.sheets.Sheet.{Sheet}
 use Rattle.closed_sheets.specs.Sheets.{has_good_parts}
-use Rattle.standing_parts.specs.Sheets.{parts_stand}
+use Rattle.sheet_closure.specs.StandingParts.Sheets.{parts_stand}
 use Rattle.sheet_closure.specs.Declared.{has_different_names, has_uri, keeps_names}
 use Rattle.sheet_closure.specs.Numbers.{has_numbers, has_order}
 
@@ -28,7 +28,7 @@ is_space_test (name.Exact n) = true
 -- - each test of its white space has a uri where it needs one;
 -- - each variable, function, named template, key and mode that it uses is declared in it or bound
 --   where it is used, and no grouping key or `use` calls a function that it declares;
--- - each global stands behind those on which it depends.
+-- - each global comes after those on which it depends.
 unfoldable pub is_closed : Sheet → Bool
 is_closed s =
     has_good_parts s

@@ -14,13 +14,13 @@ use Rattle.xt_sheets.specs.declared.sheets.KeyRule.{KeyRule}
 use Rattle.xt_sheets.specs.declared.sheets.Sheet.{Sheet}
 use Rattle.name_rules.specs.declared.functions.Signature.{Signature}
 use Rattle.name_rules.specs.Scopes.{with_names, names_differ, has_function, with_function}
-use Rattle.sheet_names.specs.SheetExpressions.Keys.{braced}
+use Rattle.sheet_expressions.specs.Keys.{braced}
 use Rattle.sheet_uses.specs.declared.uses.Use.{Use}
 use Rattle.sheet_uses.specs.declared.uses.Use.TheVariants as use_of
-use Rattle.sheet_names.specs.declared.names.Names.{Names}
-use Rattle.sheet_names.specs.Names.{as_name}
-use Rattle.sheet_names.specs.Uses.{broken_use}
-use Rattle.key_calls.specs.Called.{called_codes}
+use Rattle.sheet_expressions.specs.declared.sheet_names.names.Names.{Names}
+use Rattle.sheet_expressions.specs.SheetNames.Names.{as_name}
+use Rattle.sheet_expressions.specs.SheetNames.Uses.{broken_use}
+use Rattle.sheet_uses.specs.KeyCalls.Called.{called_codes}
 use Rattle.sheet_closure.specs.Uses.{uses_of, key_uses_of}
 
 abbrev pub global_name : Global → ExprName

@@ -2,3 +2,4 @@ pub mod Uses
 pub mod Declared
 pub mod Numbers
 pub mod Closed
+pub mod StandingParts

@@ -8,7 +8,7 @@ use Rattle.xt_sheets.specs.declared.sheets.Sheet.{Sheet}
 use Rattle.sheet_uses.specs.declared.uses.Use.{Use}
 use Rattle.sheet_uses.specs.Exprs.{Finds, all_in, expr_uses}
 use Rattle.sheet_uses.specs.Bodies.{bound_uses, callee_uses}
-use Rattle.key_calls.specs.Bodies.{bound_keys, callee_keys}
+use Rattle.sheet_uses.specs.KeyCalls.Bodies.{bound_keys, callee_keys}
 
 abbrev pub global_uses : Global → Finds
 global_uses g = (bound_uses g.bound).source

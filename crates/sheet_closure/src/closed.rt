@@ -6,8 +6,8 @@ ghost use Rattle.sheet_closure.specs.Closed.{is_space_test, is_closed};
 
 use crate::declared::{has_different_names, has_uri, keeps_names};
 use crate::numbers::{has_numbers, has_order};
+use crate::standing_parts::parts_stand;
 use closed_sheets::has_good_parts;
-use standing_parts::parts_stand;
 use std::alloc::AllocError;
 use xt_names::is_ascii_text;
 use xt_sheets::{Sheet, SheetFunction, SpaceRule};
@@ -48,7 +48,7 @@ fn are_space_rules(all: &[SpaceRule]) -> bool
 /// - Its expressions are regular ones of XPath, its types are regular, and XML allows its texts
 ///   and names (`closed_sheets::has_good_parts`).
 /// - Its expressions, patterns, variables and parameters may stand where they do, and it nests at
-///   most 40 levels (`standing_parts::parts_stand`).
+///   most 40 levels (`crate::standing_parts::parts_stand`).
 /// - No two of its global variables and parameters have one name, no two of its functions one name
 ///   and number of parameters, and each function name has a uri.
 /// - Its places of templates, its levels and its numbers of modes are in range, and the default
@@ -57,7 +57,7 @@ fn are_space_rules(all: &[SpaceRule]) -> bool
 /// - Each variable, function, named template, key and mode that it uses is declared in it or bound
 ///   where it is used, and no grouping key and no `use` of a key calls a function that it
 ///   declares.
-/// - Each global variable or parameter stands behind those on which it depends.
+/// - Each global variable or parameter comes after those on which it depends.
 #[tactic(auto, unfolding(crate::specs::Closed::is_closed))]
 pub fn sheet_closed(sheet: &Sheet) -> Result<bool, AllocError>
     ensures { IfOk result (λ closed. closed ≡ is_closed sheet.now) }

@@ -1,18 +1,14 @@
 // What a stylesheet declares, and whether it uses nothing else.
-ghost use Rattle.std.specs.Prelude.{◌≡◌, [], IfOk, map};
+ghost use Rattle.std.specs.Prelude.{◌≡◌, [], IfOk, map, slice_get};
 ghost use Rattle.std.specs.List.{list_all};
 ghost use Rattle.name_rules.specs.Scopes.{with_names};
-ghost use Rattle.sheet_closure.specs.Declared.{global_name, with_functions, are_new_functions};
-ghost use Rattle.sheet_closure.specs.Declared.{has_different_names, has_uri, key_name, names_of};
-ghost use Rattle.sheet_closure.specs.Declared.{is_named, is_mode, is_declared, all_declared};
-ghost use Rattle.sheet_closure.specs.Declared.{keys_call_none, keeps_names};
-ghost use Rattle.std.specs.Prelude.{slice_get};
+ghost use Rattle.sheet_closure.specs.Declared.{global_name, with_functions, are_new_functions, has_different_names, has_uri, key_name, names_of, is_named, is_mode, is_declared, all_declared, keys_call_none, keeps_names};
 
 use crate::uses::{key_uses_of, uses_of};
-use key_calls::push_called;
-use name_rules::{Functions, Scope, names_differ};
-use sheet_names::{Names, broken_use, with_key};
+use name_rules::{Functions, VariableScope, names_differ};
+use sheet_expressions::sheet_names::{Names, broken_use, with_key};
 use sheet_uses::Use;
+use sheet_uses::key_calls::push_called;
 use std::alloc::{AllocError, Global as Allocator};
 use xt_names::{ExprName, List};
 use xt_sheets::{Global, KeyRule, ModeUse, Sheet, SheetFunction, Template};
@@ -70,10 +66,10 @@ fn declared_functions(
     Ok(declared)
 }
 
-fn declared_keys(alloc: Allocator, keys: &[KeyRule]) -> Result<Scope, AllocError>
+fn declared_keys(alloc: Allocator, keys: &[KeyRule]) -> Result<VariableScope, AllocError>
     ensures { IfOk result (λ scope. scope ≡ with_names [] (map key_name keys.now)) }
 {
-    let mut scope = Scope::new(alloc)?;
+    let mut scope = VariableScope::new(alloc)?;
     for key in keys {
         scope = with_key(alloc, scope, &key.name)?;
     }
@@ -87,14 +83,14 @@ fn names_of(alloc: Allocator, sheet: &Sheet) -> Result<Names, AllocError>
 {
     let globals = global_names(&sheet.globals)?;
     Ok(Names {
-        variables: Scope::new(alloc)?.with_all(&globals)?,
+        variables: VariableScope::new(alloc)?.with_all(&globals)?,
         functions: declared_functions(alloc, sheet.functions.as_slice())?,
         keys: declared_keys(alloc, sheet.keys.as_slice())?,
         templates: 0,
     })
 }
 
-#[tactic(auto, using(crate::proofs::Places::none_past), unfolding(crate::specs::Declared::is_named))]
+#[tactic(auto, using(std::proofs::lemmas::Option::slice_get_past), unfolding(crate::specs::Declared::is_named))]
 fn is_named(templates: &[Template], place: u32) -> bool
     ensures { result ≡ is_named (slice_get templates.now place) }
 {

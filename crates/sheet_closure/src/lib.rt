@@ -13,6 +13,7 @@
 mod closed;
 mod declared;
 mod numbers;
+pub mod standing_parts;
 mod uses;
 
 pub use closed::sheet_closed;

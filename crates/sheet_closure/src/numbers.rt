@@ -1,7 +1,7 @@
 // Places, levels and numbers, and the order of globals.
 ghost use Rattle.std.specs.Prelude.{◌≡◌, ◌+◌, ◌&&◌, nat_le, IfOk};
 ghost use Rattle.std.specs.List.{list_all};
-ghost use Rattle.graph_orders.specs.Behind.{all_below};
+ghost use Rattle.global_order.specs.GraphOrders.Behind.{all_below};
 ghost use Rattle.sheet_closure.specs.Numbers.{is_rule_of, are_levels, has_numbers, has_order};
 
 use global_needs::globals_stand_behind;
@@ -76,7 +76,7 @@ pub(crate) fn has_numbers(sheet: &Sheet) -> bool
         )
 }
 
-/// Whether each global stands behind those on which it depends.
+/// Whether each global comes after those on which it depends.
 #[tactic(auto, unfolding(crate::specs::Numbers::has_order))]
 pub(crate) fn has_order(sheet: &Sheet) -> Result<bool, AllocError>
     ensures { IfOk result (λ ordered. ordered ≡ has_order sheet.now) }

@@ -5,14 +5,18 @@ ghost use Rattle.sheet_closure.specs.Uses.{global_uses, template_uses, function_
 ghost use Rattle.sheet_closure.specs.Uses.{uses_of, global_keys, template_keys, function_keys};
 ghost use Rattle.sheet_closure.specs.Uses.{key_uses_of};
 
-use key_calls::{push_bound_keys, push_callee_keys};
-use name_rules::Scope;
+use name_rules::VariableScope;
+use sheet_uses::key_calls::{push_bound_keys, push_callee_keys};
 use sheet_uses::{Use, push_bound_uses, push_callee_uses, push_expr_uses};
 use std::alloc::AllocError;
 use xt_names::List;
 use xt_sheets::{Global, KeyRule, Sheet, SheetFunction, Template};
 
-fn push_globals(all: &[Global], scope: &Scope, found: &mut List<Use>) -> Result<(), AllocError>
+fn push_globals(
+    all: &[Global],
+    scope: &VariableScope,
+    found: &mut List<Use>,
+) -> Result<(), AllocError>
     ensures { OnOk result (found.new ≡ all_in (map global_uses all.now) scope.now found.old) }
 {
     for global in all {
@@ -21,7 +25,11 @@ fn push_globals(all: &[Global], scope: &Scope, found: &mut List<Use>) -> Result<
     Ok(())
 }
 
-fn push_templates(all: &[Template], scope: &Scope, found: &mut List<Use>) -> Result<(), AllocError>
+fn push_templates(
+    all: &[Template],
+    scope: &VariableScope,
+    found: &mut List<Use>,
+) -> Result<(), AllocError>
     ensures { OnOk result (found.new ≡ all_in (map template_uses all.now) scope.now found.old) }
 {
     for template in all {
@@ -33,7 +41,7 @@ fn push_templates(all: &[Template], scope: &Scope, found: &mut List<Use>) -> Res
 
 fn push_functions(
     all: &[SheetFunction],
-    scope: &Scope,
+    scope: &VariableScope,
     found: &mut List<Use>,
 ) -> Result<(), AllocError>
     ensures { OnOk result (found.new ≡ all_in (map function_uses all.now) scope.now found.old) }
@@ -45,7 +53,11 @@ fn push_functions(
     Ok(())
 }
 
-fn push_keys(all: &[KeyRule], scope: &Scope, found: &mut List<Use>) -> Result<(), AllocError>
+fn push_keys(
+    all: &[KeyRule],
+    scope: &VariableScope,
+    found: &mut List<Use>,
+) -> Result<(), AllocError>
     ensures { OnOk result (found.new ≡ all_in (map key_uses all.now) scope.now found.old) }
 {
     for key in all {
@@ -60,7 +72,7 @@ pub(crate) fn uses_of(sheet: &Sheet) -> Result<List<Use>, AllocError>
     ensures { IfOk result (λ uses. uses ≡ uses_of sheet.now) }
 {
     let alloc = sheet.globals.allocator();
-    let scope = Scope::new(alloc)?;
+    let scope = VariableScope::new(alloc)?;
     let mut found = List::new(alloc);
     push_globals(sheet.globals.as_slice(), &scope, &mut found)?;
     push_templates(sheet.templates.as_slice(), &scope, &mut found)?;
@@ -69,7 +81,11 @@ pub(crate) fn uses_of(sheet: &Sheet) -> Result<List<Use>, AllocError>
     Ok(found)
 }
 
-fn push_global_keys(all: &[Global], scope: &Scope, found: &mut List<Use>) -> Result<(), AllocError>
+fn push_global_keys(
+    all: &[Global],
+    scope: &VariableScope,
+    found: &mut List<Use>,
+) -> Result<(), AllocError>
     ensures { OnOk result (found.new ≡ all_in (map global_keys all.now) scope.now found.old) }
 {
     for global in all {
@@ -80,7 +96,7 @@ fn push_global_keys(all: &[Global], scope: &Scope, found: &mut List<Use>) -> Res
 
 fn push_template_keys(
     all: &[Template],
-    scope: &Scope,
+    scope: &VariableScope,
     found: &mut List<Use>,
 ) -> Result<(), AllocError>
     ensures { OnOk result (found.new ≡ all_in (map template_keys all.now) scope.now found.old) }
@@ -94,7 +110,7 @@ fn push_template_keys(
 
 fn push_function_keys(
     all: &[SheetFunction],
-    scope: &Scope,
+    scope: &VariableScope,
     found: &mut List<Use>,
 ) -> Result<(), AllocError>
     ensures { OnOk result (found.new ≡ all_in (map function_keys all.now) scope.now found.old) }
@@ -113,7 +129,7 @@ pub(crate) fn key_uses_of(sheet: &Sheet) -> Result<List<Use>, AllocError>
     ensures { IfOk result (λ uses. uses ≡ key_uses_of sheet.now) }
 {
     let alloc = sheet.globals.allocator();
-    let scope = Scope::new(alloc)?;
+    let scope = VariableScope::new(alloc)?;
     let mut found = List::new(alloc);
     push_global_keys(sheet.globals.as_slice(), &scope, &mut found)?;
     push_template_keys(sheet.templates.as_slice(), &scope, &mut found)?;

@@ -1,11 +1,12 @@
--- Parts of calls, one behind the other.
-use Rattle.std.proofs.Common.{◌≡◌, ℕ, ◌+◌, ◌<◌, ◌≤◌, Bool, List, [], ◌∷◌, ◌++◌, Option, Some, None, option_map, refl, sym, ap, ◌∙◌, append_assoc, append-nil, arith, map, drop, drop-cons, add-one, get_or, length}
+-- Parts of calls, one after the other.
+use Rattle.std.proofs.Common.{◌≡◌, ℕ, ◌+◌, ◌<◌, ◌≤◌, Bool, List, [], ◌∷◌, ◌++◌, Option, Some, None, option_map, refl, sym, ap, ◌∙◌, append_assoc, append-nil, arith, map, drop, get_or, length}
 use Rattle.std.proofs.Math.ListN.{drop_of_length-le, set}
 use Rattle.xt_names.specs.declared.names.Binding.{Binding}
 use Rattle.xt_syntax.specs.declared.prefixes.Prefixes.{Prefixes}
 use Rattle.expr_terms.specs.declared.raws.Raw.{Raw}
 use Rattle.sheet_expressions.specs.Parts.{key_literal, first_key, on_first, on_last, key_arguments}
 use Rattle.sheet_expressions.specs.Checked.{all_some, checked}
+use Rattle.xt_names.proofs.ListLemmas.{drop_next}
 
 -- the first part
 pub first_some : (bound : List Binding) (vs : List Raw) (w : Raw) → Some w ≡ first_key bound vs → Some (set vs 0 w) ≡ on_first (key_literal bound) vs
@@ -44,7 +45,7 @@ last_none bound all vs v e f = ap (option_map (λ u. vs ++ u ∷ [])) f ∙ sym 
 
 pub ruleset lasts = (last_some, last_none)
 
--- these parts behind those
+-- these parts after those
 pub behind : List Raw → Option (List Raw) → Option (List Raw)
 behind us o = option_map (λ vs. us ++ vs) o
 
@@ -68,9 +69,6 @@ nothing_first (Some vs) = refl
 ends_behind : (us : List Raw) → behind us (all_some []) ≡ Some us
 unfolding behind
 ends_behind us = ap Some (append-nil us)
-
-drop_next : {A : Type 0} (xs : List A) (k : ℕ) (d : A) → k < length xs → drop k xs ≡ get_or xs k d ∷ drop (k + 1) xs
-drop_next xs k d h = rw (add-one, drop-cons xs k d) refl
 
 module _ (p : Prefixes) (g : Bool) where
   pub begins_behind : (all : List Raw) → all_some (map (checked p g) all) ≡ behind [] (all_some (map (checked p g) all))

@@ -3,8 +3,8 @@
 use Rattle.std.specs.Prelude.{List, [], ◌∷◌, Bool, Option, Some, None, option_map}
 use Rattle.std.specs.Prelude.{option_and_then, if◌then◌else◌}
 use Rattle.xt_syntax.specs.declared.prefixes.Prefixes.{Prefixes}
-use Rattle.expr_terms.specs.declared.productions.Production.{Production}
-use Rattle.expr_terms.specs.declared.productions.Production.TheVariants as production
+use Rattle.expr_keys.specs.declared.productions.Production.{Production}
+use Rattle.expr_keys.specs.declared.productions.Production.TheVariants as production
 use Rattle.expr_terms.specs.declared.raws.Raw.{Raw}
 use Rattle.expr_terms.specs.declared.raws.Raw.TheVariants.{Leaf as leaf, Node as node}
 use Rattle.expr_terms.specs.declared.raws.Raw.TheFolds.{fold-Raw}
@@ -35,6 +35,6 @@ checked_layer p grouped (Leaf t) = Some (leaf t)
 checked_layer p grouped (Node q os) = option_and_then (checked_node p grouped q) (all_some os)
 
 -- the same value with the names of keys in place of the literals that write them; none where a call
--- stands in it that may not
+-- is in it that may not
 abbrev pub checked : Prefixes → Bool → Raw → Option Raw
 checked p grouped = fold-Raw (Option Raw) (checked_layer p grouped)

@@ -3,3 +3,4 @@ pub mod Keys
 pub mod Parts
 pub mod Checked
 pub mod Uses
+pub mod SheetNames

@@ -4,15 +4,15 @@ use Rattle.xt_names.specs.declared.names.Binding.{Binding}
 use Rattle.xt_names.specs.declared.names.ExprName.{ExprName}
 use Rattle.xt_names.specs.declared.codes.Code.{Code}
 use Rattle.xt_syntax.specs.declared.prefixes.Prefixes.{Prefixes}
-use Rattle.expr_terms.specs.declared.productions.Production.{Production}
-use Rattle.expr_terms.specs.declared.productions.Production.TheVariants as production
-use Rattle.expr_terms.specs.declared.tokens.Token.{Token}
-use Rattle.expr_terms.specs.declared.tokens.Token.TheVariants as token
+use Rattle.expr_keys.specs.declared.productions.Production.{Production}
+use Rattle.expr_keys.specs.declared.productions.Production.TheVariants as production
+use Rattle.expr_keys.specs.declared.tokens.Token.{Token}
+use Rattle.expr_keys.specs.declared.tokens.Token.TheVariants as token
 use Rattle.expr_terms.specs.declared.raws.Raw.{Raw}
 use Rattle.expr_terms.specs.declared.raws.Raw.TheVariants.{Leaf as leaf, Node as node}
 use Rattle.expr_terms.specs.declared.raws.Raw.TheViews.{out-Raw}
 use Rattle.expr_terms.specs.declared.raws.Raw.TheOpen.{Raw-F, Leaf, Node}
-use Rattle.sheet_values.specs.ExprMeant.Names.{written_in}
+use Rattle.sheet_values.specs.ExprRules.ExprMeant.Names.{written_in}
 use Rattle.expr_names.specs.Names.{undeclared_in, expr_name}
 use Rattle.expr_names.specs.declared.written.Written.{Written}
 use Rattle.sheet_expressions.specs.declared.calls.SheetCall.{SheetCall}
@@ -40,7 +40,7 @@ called_name p [] = no_name
 called_name p (v ∷ vs) = name_in p (out-Raw v)
 
 unfoldable pub argued_of : Production → List Raw → ℕ
-argued_of production.Argued vs = length vs
+argued_of production.ArgumentList vs = length vs
 argued_of _ vs = 0
 
 abbrev pub argued_in : Raw-F Raw → ℕ

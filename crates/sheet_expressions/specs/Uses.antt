@@ -72,7 +72,7 @@ expr_use (CommentC content) = false
 expr_use (PiC name content) = false
 expr_use (Direct name attrs parts) = false
 
--- nothing is asked of what stands in queries alone, or in the forms that bind variables
+-- nothing is asked of what is in queries alone, or in the forms that bind variables
 abbrev pub use_steps : Steps uses
 use_steps = record {
   of_expr = expr_use;

@@ -15,6 +15,7 @@
 mod calls;
 mod keys;
 mod parts;
+pub mod sheet_names;
 mod uses;
 mod whole;
 

@@ -17,7 +17,7 @@ use crate::keys::key_text;
 use bound_prefixes::BoundPrefixes;
 use expr_names::{ResolveFault, Written, expr_name, no_text};
 use expr_terms::{Production, Raw, Token};
-use sheet_values::expr_meant::written_in;
+use sheet_values::expr_rules::expr_meant::written_in;
 use std::alloc::{AllocError, Global};
 use xt_names::{ExprName, List, Text};
 use xt_syntax::Prefixes;
@@ -82,7 +82,7 @@ fn argued_of(production: Production, parts: &[Raw]) -> usize
     ensures { result ≡ argued_of production parts.now }
 {
     match production {
-        Production::Argued => parts.len(),
+        Production::ArgumentList => parts.len(),
         _ => 0,
     }
 }

@@ -15,7 +15,7 @@ fn is_key(name: &ExprName) -> bool
 }
 
 /// Whether a key may have the expression as its `use`: it names and binds no variable (so it has no
-/// `for`, `some` and `every`), and calls no key() (XSLT 2.0, 16.3.1). An expression that stands in
+/// `for`, `some` and `every`), and calls no key() (XSLT 2.0, 16.3.1). An expression that is in
 /// queries alone may not be one.
 #[cycle(uses)]
 pub fn is_key_use(e: &Expr) -> bool

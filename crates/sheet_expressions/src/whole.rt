@@ -84,8 +84,8 @@ fn checked_whole(
 }
 
 /// The same value with the names of keys in place of the literals that write them; None exactly
-/// where a call stands in it that may not: one of a function that is left out, one of
-/// current-group() or current-grouping-key() where it does not stand in an `xsl:for-each-group`, or
+/// where a call is in it that may not: one of a function that is left out, one of
+/// current-group() or current-grouping-key() where it is not in an `xsl:for-each-group`, or
 /// one of key() whose first argument is no literal (XSLT 2.0, 14.1, 16.3 and 16.6).
 #[cycle(checked)]
 pub fn checked(

@@ -16,8 +16,8 @@ use Rattle.sheet_table.specs.Attributes.{attribute, has}
 use Rattle.sheet_table.specs.Rules.{attribute_faults}
 use Rattle.sheet_values.specs.Rules.{broken}
 use Rattle.sheet_values.specs.Names.{declared_faults, qname_value}
-use Rattle.sheet_texts.specs.declared.places.Place.{Place}
-use Rattle.sheet_texts.specs.Readings.{Reading}
+use Rattle.sheet_values.specs.declared.sheet_texts.places.StaticContext.{StaticContext}
+use Rattle.sheet_values.specs.SheetTexts.Readings.{Reading}
 use Rattle.sheet_heads.specs.Attributes.{optional_faults, optional_value}
 use Rattle.sheet_heads.specs.Attributes.{needed_faults, needed_value}
 use Rattle.sheet_heads.specs.Parts.{both_broken}
@@ -30,7 +30,7 @@ is_yes (Some value) = bytes_eq value (codes "yes")
 abbrev pub is_required : List Attribute → Bool
 is_required attributes = is_yes (attribute attributes (codes "required"))
 
-module _ {E P : Type 0} (r : Reading E P) (p : Place) where
+module _ {E P : Type 0} (r : Reading E P) (p : StaticContext) where
   -- the attributes are those of the table; `select` and content exclude each other, and a value
   -- that must be passed excludes both; the name is one of no reserved namespace
   abbrev pub bound_faults : XslElement → List Attribute → Bool → List Code

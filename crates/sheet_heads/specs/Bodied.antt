@@ -8,26 +8,26 @@ use Rattle.xt_names.specs.declared.codes.SheetStaticCode.TheVariants.{XTSE0880, 
 use Rattle.xt_tree.specs.declared.attributes.Attribute.{Attribute}
 use Rattle.xt_sheets.specs.declared.instrs.Instr.{Instr}
 use Rattle.xt_sheets.specs.declared.instrs.Instr.TheVariants as instr
-use Rattle.expr_names.specs.Names.{uri_of}
 use Rattle.sheet_table.specs.declared.elements.XslElement.{XslElement}
 use Rattle.sheet_table.specs.declared.elements.XslElement.TheVariants as element
 use Rattle.sheet_table.specs.Attributes.{attribute, has}
 use Rattle.sheet_table.specs.Rules.{attribute_faults}
-use Rattle.sheet_nodes.specs.declared.nodes.Node.{Node}
+use Rattle.sheet_table.specs.declared.sheet_nodes.nodes.Node.{Node}
 use Rattle.sheet_values.specs.Rules.{broken}
-use Rattle.sheet_texts.specs.declared.places.Place.{Place}
-use Rattle.sheet_texts.specs.Places.{grouped}
-use Rattle.sheet_texts.specs.Readings.{Reading}
+use Rattle.sheet_values.specs.declared.sheet_texts.places.StaticContext.{StaticContext}
+use Rattle.sheet_values.specs.SheetTexts.Places.{grouped}
+use Rattle.sheet_values.specs.SheetTexts.Readings.{Reading}
 use Rattle.sheet_heads.specs.Attributes.{optional_faults, optional_value}
 use Rattle.sheet_heads.specs.Attributes.{needed_faults, needed_value}
-use Rattle.sheet_texts.specs.Templates.{template_faults, template_value}
+use Rattle.sheet_values.specs.SheetTexts.Templates.{template_faults, template_value}
 use Rattle.sheet_heads.specs.Parts.{both_broken, computed_name}
 use Rattle.sheet_heads.specs.Sorts.{keys_faults, keys_value}
 use Rattle.sheet_heads.specs.Groupings.{grouping_faults, grouping_value}
 use Rattle.sheet_heads.specs.declared.bodied.Head.{Head}
 use Rattle.sheet_heads.specs.declared.bodied.Head.TheVariants as head
+use Rattle.xt_names.specs.ExprNames.{uri_of}
 
-module _ {E P : Type 0} (r : Reading E P) (p : Place) where
+module _ {E P : Type 0} (r : Reading E P) (p : StaticContext) where
   abbrev pub select_faults : List Attribute → List Code
   select_faults attributes = optional_faults (r.expr_faults p) (attribute attributes (codes "select"))
 
@@ -40,7 +40,7 @@ module _ {E P : Type 0} (r : Reading E P) (p : Place) where
   abbrev pub name_faults : List Attribute → List Code
   name_faults attributes = needed_faults (template_faults r p) (attribute attributes (codes "name"))
 
-module _ {E P : Type 0} (r : Reading E P) (p : Place) where
+module _ {E P : Type 0} (r : Reading E P) (p : StaticContext) where
   -- 11.4.3: `select` or content, and not both
   abbrev pub value_of_faults : List Attribute → Bool → List Code
   value_of_faults attributes content =
@@ -136,7 +136,7 @@ module _ {E P : Type 0} (r : Reading E P) (p : Place) where
       head.PerformSort (optional_value (r.expr_value p) (attribute attributes (codes "select")))
       (keys_value r p sorts)
 
-module _ {E P : Type 0} (r : Reading E P) (p : Place) where
+module _ {E P : Type 0} (r : Reading E P) (p : StaticContext) where
   abbrev pub own_faults : XslElement → List Attribute → List Node → Bool → List Code
   own_faults element.ValueOf attributes sorts content = value_of_faults r p attributes content
   own_faults element.Element attributes sorts content = element_faults r p attributes

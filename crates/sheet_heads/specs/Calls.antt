@@ -13,14 +13,14 @@ use Rattle.sheet_table.specs.declared.elements.XslElement.{XslElement}
 use Rattle.sheet_table.specs.declared.elements.XslElement.TheVariants as element
 use Rattle.sheet_table.specs.Attributes.{attribute}
 use Rattle.sheet_table.specs.Rules.{attribute_faults}
-use Rattle.sheet_nodes.specs.declared.nodes.Node.{Node}
+use Rattle.sheet_table.specs.declared.sheet_nodes.nodes.Node.{Node}
 use Rattle.sheet_values.specs.Names.{qname_faults, qname_value}
 use Rattle.sheet_values.specs.Modes.{mode_choice_faults, mode_choice_value}
 use Rattle.sheet_values.specs.declared.modes.ModeChoice.{ModeChoice}
 use Rattle.sheet_values.specs.declared.modes.ModeChoice.TheVariants as choice
-use Rattle.sheet_texts.specs.declared.places.Place.{Place}
-use Rattle.sheet_texts.specs.Names.{number_of}
-use Rattle.sheet_texts.specs.Readings.{Reading}
+use Rattle.sheet_values.specs.declared.sheet_texts.places.StaticContext.{StaticContext}
+use Rattle.sheet_values.specs.SheetTexts.Names.{number_of}
+use Rattle.sheet_values.specs.SheetTexts.Readings.{Reading}
 use Rattle.sheet_heads.specs.Attributes.{optional_faults, optional_value}
 use Rattle.sheet_heads.specs.Attributes.{needed_faults, needed_value}
 use Rattle.sheet_heads.specs.Sorts.{keys_faults, keys_value}
@@ -28,27 +28,27 @@ use Rattle.sheet_heads.specs.declared.calls.CallHead.{CallHead}
 use Rattle.sheet_heads.specs.declared.calls.CallHead.TheVariants as head
 
 -- a mode by its number
-abbrev pub numbered : Place → ModeChoice → ModeUse
+abbrev pub numbered : StaticContext → ModeChoice → ModeUse
 numbered p choice.Current = Current
 numbered p (choice.Named name) = Number (number_of p.modes name)
 
 -- the default mode, which has the number 0, where the attribute is missing
-abbrev pub mode_faults : Place → Option (List ℕ) → List Code
+abbrev pub mode_faults : StaticContext → Option (List ℕ) → List Code
 mode_faults p None = []
 mode_faults p (Some text) = mode_choice_faults p.bound text
 
-abbrev pub mode_value : Place → Option (List ℕ) → ModeUse
+abbrev pub mode_value : StaticContext → Option (List ℕ) → ModeUse
 mode_value p None = Number 0
 mode_value p (Some text) = numbered p (mode_choice_value p.bound text)
 
 -- the name of the template that is called
-abbrev pub template_faults : Place → Option (List ℕ) → List Code
+abbrev pub template_faults : StaticContext → Option (List ℕ) → List Code
 template_faults p name = needed_faults (qname_faults p.bound) name
 
-abbrev pub template_value : Place → Option (List ℕ) → ℕ
+abbrev pub template_value : StaticContext → Option (List ℕ) → ℕ
 template_value p name = number_of p.called (needed_value (qname_value p.bound) name)
 
-module _ {E P : Type 0} (r : Reading E P) (p : Place) where
+module _ {E P : Type 0} (r : Reading E P) (p : StaticContext) where
   abbrev pub apply_faults : List Attribute → List Node → List Code
   apply_faults attributes front =
       optional_faults (r.expr_faults p) (attribute attributes (codes "select"))
@@ -60,7 +60,7 @@ module _ {E P : Type 0} (r : Reading E P) (p : Place) where
       head.Apply (optional_value (r.expr_value p) (attribute attributes (codes "select")))
       (mode_value p (attribute attributes (codes "mode"))) (keys_value r p front)
 
-module _ {E P : Type 0} (r : Reading E P) (p : Place) where
+module _ {E P : Type 0} (r : Reading E P) (p : StaticContext) where
   abbrev pub own_faults : XslElement → List Attribute → List Node → List Code
   own_faults element.ApplyTemplates attributes front = apply_faults r p attributes front
   own_faults element.ApplyImports attributes front = []

@@ -7,15 +7,15 @@ use Rattle.xt_sheets.specs.declared.values.Grouping.{Grouping}
 use Rattle.xt_sheets.specs.declared.values.Grouping.TheVariants.{By, Adjacent, Starting}
 use Rattle.sheet_table.specs.Attributes.{attribute, has}
 use Rattle.sheet_values.specs.Rules.{broken}
-use Rattle.sheet_texts.specs.declared.places.Place.{Place}
-use Rattle.sheet_texts.specs.Readings.{Reading}
+use Rattle.sheet_values.specs.declared.sheet_texts.places.StaticContext.{StaticContext}
+use Rattle.sheet_values.specs.SheetTexts.Readings.{Reading}
 use Rattle.sheet_heads.specs.Attributes.{needed_faults, needed_value}
 
 -- exactly one is true
 abbrev pub is_one : Bool → Bool → Bool → Bool
 is_one a b c = (a && not b && not c) || (not a && b && not c) || (not a && not b && c)
 
-module _ {E P : Type 0} (r : Reading E P) (p : Place) where
+module _ {E P : Type 0} (r : Reading E P) (p : StaticContext) where
   -- by the first attribute that stands
   abbrev pub key_faults : List Attribute → Bool → Bool → List Code
   key_faults attributes by adjacent =
@@ -29,7 +29,7 @@ module _ {E P : Type 0} (r : Reading E P) (p : Place) where
       else if adjacent then Adjacent (needed_value (r.expr_value p) (attribute attributes (codes "group-adjacent")))
       else Starting (needed_value (r.patterns_value p) (attribute attributes (codes "group-starting-with")))
 
-module _ {E P : Type 0} (r : Reading E P) (p : Place) where
+module _ {E P : Type 0} (r : Reading E P) (p : StaticContext) where
   -- exactly one of the three stands, and it is read
   abbrev pub grouping_faults : List Attribute → List Code
   grouping_faults attributes =

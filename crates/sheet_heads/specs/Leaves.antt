@@ -10,10 +10,10 @@ use Rattle.sheet_table.specs.declared.elements.XslElement.{XslElement}
 use Rattle.sheet_table.specs.declared.elements.XslElement.TheVariants as element
 use Rattle.sheet_table.specs.Attributes.{attribute}
 use Rattle.sheet_table.specs.Rules.{attribute_faults}
-use Rattle.sheet_nodes.specs.Parts.{none_faults}
-use Rattle.sheet_nodes.specs.declared.nodes.Node.{Node}
-use Rattle.sheet_texts.specs.declared.places.Place.{Place}
-use Rattle.sheet_texts.specs.Readings.{Reading}
+use Rattle.sheet_table.specs.SheetNodes.Parts.{none_faults}
+use Rattle.sheet_table.specs.declared.sheet_nodes.nodes.Node.{Node}
+use Rattle.sheet_values.specs.declared.sheet_texts.places.StaticContext.{StaticContext}
+use Rattle.sheet_values.specs.SheetTexts.Readings.{Reading}
 use Rattle.sheet_heads.specs.Attributes.{needed_faults, needed_value}
 use Rattle.sheet_heads.specs.Characters.{characters_faults, characters_value}
 
@@ -24,7 +24,7 @@ text_faults attributes kids = attribute_faults element.Text attributes ++ charac
 abbrev pub text_value : List Node → List ℕ
 text_value kids = characters_value kids
 
-module _ {E P : Type 0} (r : Reading E P) (p : Place) where
+module _ {E P : Type 0} (r : Reading E P) (p : StaticContext) where
   -- `select` and no content
   abbrev pub selected_faults : XslElement → List Attribute → List Node → List Code
   selected_faults e attributes kids =

@@ -10,5 +10,4 @@ pub mod Literals
 pub mod Bindings
 pub mod Calls
 pub mod Repeats
-pub use Rattle.sheet_texts.specs as SheetTexts
 pub use Rattle.sheet_values.specs as SheetValues

@@ -4,15 +4,15 @@ use Rattle.xt_names.specs.declared.codes.Code.{Code}
 use Rattle.xt_names.specs.declared.names.Name.{Name}
 use Rattle.xt_tree.specs.declared.attributes.Attribute.{Attribute}
 use Rattle.xt_sheets.specs.declared.values.LiteralAttr.{LiteralAttr}
-use Rattle.sheet_table.specs.Attributes.{is_in_xslt}
 use Rattle.sheet_table.specs.Rules.{literal_attribute_faults}
-use Rattle.sheet_texts.specs.declared.places.Place.{Place}
-use Rattle.sheet_texts.specs.Readings.{Reading}
-use Rattle.sheet_texts.specs.Templates.{template_faults, template_value}
+use Rattle.sheet_values.specs.declared.sheet_texts.places.StaticContext.{StaticContext}
+use Rattle.sheet_values.specs.SheetTexts.Readings.{Reading}
+use Rattle.sheet_values.specs.SheetTexts.Templates.{template_faults, template_value}
 use Rattle.sheet_heads.specs.declared.bodied.Head.{Head}
 use Rattle.sheet_heads.specs.declared.bodied.Head.TheVariants as head
+use Rattle.xt_names.specs.Names.{is_in_xslt}
 
-module _ {E P : Type 0} (r : Reading E P) (p : Place) where
+module _ {E P : Type 0} (r : Reading E P) (p : StaticContext) where
   abbrev pub one_faults : Attribute → List Code
   one_faults a = template_faults r p a.value
 

@@ -10,13 +10,13 @@ use Rattle.xt_sheets.specs.declared.values.Sort.{Sort}
 use Rattle.sheet_table.specs.declared.elements.XslElement.TheVariants as element
 use Rattle.sheet_table.specs.Attributes.{attribute}
 use Rattle.sheet_table.specs.Rules.{attribute_faults}
-use Rattle.sheet_nodes.specs.Parts.{none_faults, misplaced_node, is_sort}
-use Rattle.sheet_nodes.specs.declared.nodes.Node.{Node}
-use Rattle.sheet_nodes.specs.declared.nodes.Node.TheViews.{out-Node}
-use Rattle.sheet_nodes.specs.declared.nodes.Node.TheOpen.{Node-F, Elem, Chars}
-use Rattle.sheet_texts.specs.declared.places.Place.{Place}
-use Rattle.sheet_texts.specs.Places.{within}
-use Rattle.sheet_texts.specs.Readings.{Reading}
+use Rattle.sheet_table.specs.SheetNodes.Parts.{none_faults, misplaced_node, is_sort}
+use Rattle.sheet_table.specs.declared.sheet_nodes.nodes.Node.{Node}
+use Rattle.sheet_table.specs.declared.sheet_nodes.nodes.Node.TheViews.{out-Node}
+use Rattle.sheet_table.specs.declared.sheet_nodes.nodes.Node.TheOpen.{Node-F, Elem, Chars}
+use Rattle.sheet_values.specs.declared.sheet_texts.places.StaticContext.{StaticContext}
+use Rattle.sheet_values.specs.SheetTexts.Places.{within}
+use Rattle.sheet_values.specs.SheetTexts.Readings.{Reading}
 
 unfoldable pub is_descending : Option (List ℕ) → Bool
 is_descending None = false
@@ -31,14 +31,14 @@ number_of (Some kind) = Some (bytes_eq kind (codes "number"))
 abbrev pub key_text : List Attribute → List ℕ
 key_text attributes = unwrap_or (attribute attributes (codes "select")) (codes ".")
 
-module _ {E P : Type 0} (r : Reading E P) (p : Place) where
+module _ {E P : Type 0} (r : Reading E P) (p : StaticContext) where
   abbrev pub key_faults : List Attribute → List Code
   key_faults attributes = r.expr_faults p (key_text attributes)
 
   abbrev pub key_value : List Attribute → E
   key_value attributes = r.expr_value p (key_text attributes)
 
-module _ {E P : Type 0} (r : Reading E P) (p : Place) where
+module _ {E P : Type 0} (r : Reading E P) (p : StaticContext) where
   -- the attributes are those of the table, there is no content, and the key is read
   abbrev pub sort_faults : List Binding → List Attribute → List Node → List Code
   sort_faults own attributes kids =
@@ -71,7 +71,7 @@ module _ {E P : Type 0} (r : Reading E P) (p : Place) where
   abbrev pub sort_node_value : Node → Sort E
   sort_node_value n = sort_layer_value (out-Node n)
 
-module _ {E P : Type 0} (r : Reading E P) (p : Place) where
+module _ {E P : Type 0} (r : Reading E P) (p : StaticContext) where
   -- the elements xsl:sort among the nodes
   abbrev pub keys_faults : List Node → List Code
   keys_faults [] = []

@@ -5,12 +5,12 @@ ghost use Rattle.sheet_table.specs.Attributes.{attribute};
 ghost use Rattle.sheet_table.specs.Texts.{is_ascii};
 ghost use Rattle.sheet_heads.specs.Attributes.{optional_faults, optional_value};
 ghost use Rattle.sheet_heads.specs.Attributes.{needed_faults, needed_value};
-ghost use Rattle.sheet_texts.specs.Templates.{template_faults, template_value};
+ghost use Rattle.sheet_values.specs.SheetTexts.Templates.{template_faults, template_value};
 
 use expr_names::ResolveFault;
 use sheet_table::attribute;
-use sheet_texts::{Place, Reader, template};
 use sheet_values::sheet_fault;
+use sheet_values::sheet_texts::{Reader, StaticContext, template};
 use std::alloc::Global;
 use xt_names::{Shared, SheetStaticCode};
 use xt_sheets::values::Avt;
@@ -21,7 +21,7 @@ use xt_types::SeqType;
 pub fn optional_expr<R: Reader>(
     alloc: Global,
     reader: &R,
-    place: &Place,
+    place: &StaticContext,
     attributes: &[Attribute],
     local: &str,
 ) -> Result<Option<Shared<R::Expr>>, ResolveFault>
@@ -42,7 +42,7 @@ pub fn optional_expr<R: Reader>(
 pub fn needed_expr<R: Reader>(
     alloc: Global,
     reader: &R,
-    place: &Place,
+    place: &StaticContext,
     attributes: &[Attribute],
     local: &str,
 ) -> Result<Shared<R::Expr>, ResolveFault>
@@ -63,7 +63,7 @@ pub fn needed_expr<R: Reader>(
 pub fn optional_template<R: Reader>(
     alloc: Global,
     reader: &R,
-    place: &Place,
+    place: &StaticContext,
     attributes: &[Attribute],
     local: &str,
 ) -> Result<Option<Shared<Avt<R::Expr>>>, ResolveFault>
@@ -87,7 +87,7 @@ pub fn optional_template<R: Reader>(
 pub fn needed_template<R: Reader>(
     alloc: Global,
     reader: &R,
-    place: &Place,
+    place: &StaticContext,
     attributes: &[Attribute],
     local: &str,
 ) -> Result<Shared<Avt<R::Expr>>, ResolveFault>
@@ -112,7 +112,7 @@ pub fn needed_template<R: Reader>(
 pub fn optional_type<R: Reader>(
     alloc: Global,
     reader: &R,
-    place: &Place,
+    place: &StaticContext,
     attributes: &[Attribute],
     local: &str,
 ) -> Result<Option<SeqType>, ResolveFault>

@@ -13,7 +13,7 @@ use crate::attributes::{optional_expr, optional_type};
 use crate::parts::{check_one, refuse_if};
 use expr_names::ResolveFault;
 use sheet_table::{XslElement, attribute, check_attributes, has};
-use sheet_texts::{Place, Reader};
+use sheet_values::sheet_texts::{Reader, StaticContext};
 use sheet_values::{declared_name, sheet_fault};
 use std::alloc::Global;
 use xt_names::{ExprName, List, Shared, SheetStaticCode, is_ascii_text};
@@ -53,7 +53,7 @@ pub fn is_yes(attributes: &[Attribute], local: &str) -> bool
 /// where its namespace is reserved.
 pub fn needed_name(
     alloc: Global,
-    place: &Place,
+    place: &StaticContext,
     attributes: &[Attribute],
 ) -> Result<ExprName, ResolveFault>
     ensures { Answers result
@@ -73,7 +73,7 @@ pub fn needed_name(
 pub fn bound_head<R: Reader>(
     alloc: Global,
     reader: &R,
-    place: &Place,
+    place: &StaticContext,
     element: XslElement,
     attributes: &[Attribute],
     has_content: bool,

@@ -18,10 +18,10 @@ use crate::groupings::grouping;
 use crate::parts::{check_one, computed_name, default_uri, refuse_if};
 use crate::sorts::sort_keys;
 use expr_names::{ResolveFault, no_text};
-use sheet_nodes::Node;
+use sheet_table::sheet_nodes::Node;
 use sheet_table::{XslElement, check_attributes, has};
-use sheet_texts::{Place, Reader};
 use sheet_values::sheet_fault;
+use sheet_values::sheet_texts::{Reader, StaticContext};
 use std::alloc::{AllocError, Global};
 use xt_names::{List, Name, Shared, SheetStaticCode};
 use xt_sheets::instrs::Instr;
@@ -60,7 +60,7 @@ pub enum Head<E, P> {
 fn value_of<R: Reader>(
     alloc: Global,
     reader: &R,
-    place: &Place,
+    place: &StaticContext,
     attributes: &[Attribute],
     has_content: bool,
 ) -> Result<Head<R::Expr, R::Pattern>, ResolveFault>
@@ -81,7 +81,7 @@ fn value_of<R: Reader>(
 fn element_head<R: Reader>(
     alloc: Global,
     reader: &R,
-    place: &Place,
+    place: &StaticContext,
     attributes: &[Attribute],
 ) -> Result<Head<R::Expr, R::Pattern>, ResolveFault>
     ensures { Answers result (element_faults (R.reads reader.now) place.now attributes.now)
@@ -95,7 +95,7 @@ fn element_head<R: Reader>(
 fn attribute_head<R: Reader>(
     alloc: Global,
     reader: &R,
-    place: &Place,
+    place: &StaticContext,
     attributes: &[Attribute],
     has_content: bool,
 ) -> Result<Head<R::Expr, R::Pattern>, ResolveFault>
@@ -114,7 +114,7 @@ fn attribute_head<R: Reader>(
 fn comment<R: Reader>(
     alloc: Global,
     reader: &R,
-    place: &Place,
+    place: &StaticContext,
     attributes: &[Attribute],
     has_content: bool,
 ) -> Result<Head<R::Expr, R::Pattern>, ResolveFault>
@@ -130,7 +130,7 @@ fn comment<R: Reader>(
 fn processing_instruction<R: Reader>(
     alloc: Global,
     reader: &R,
-    place: &Place,
+    place: &StaticContext,
     attributes: &[Attribute],
     has_content: bool,
 ) -> Result<Head<R::Expr, R::Pattern>, ResolveFault>
@@ -147,7 +147,7 @@ fn processing_instruction<R: Reader>(
 fn condition<R: Reader>(
     alloc: Global,
     reader: &R,
-    place: &Place,
+    place: &StaticContext,
     attributes: &[Attribute],
 ) -> Result<Head<R::Expr, R::Pattern>, ResolveFault>
     ensures { Answers result (if_faults (R.reads reader.now) place.now attributes.now)
@@ -160,7 +160,7 @@ fn condition<R: Reader>(
 fn for_each<R: Reader>(
     alloc: Global,
     reader: &R,
-    place: &Place,
+    place: &StaticContext,
     attributes: &[Attribute],
     sorts: &[Node],
 ) -> Result<Head<R::Expr, R::Pattern>, ResolveFault>
@@ -177,7 +177,7 @@ fn for_each<R: Reader>(
 fn for_each_group<R: Reader>(
     alloc: Global,
     reader: &R,
-    place: &Place,
+    place: &StaticContext,
     attributes: &[Attribute],
     sorts: &[Node],
 ) -> Result<Head<R::Expr, R::Pattern>, ResolveFault>
@@ -196,7 +196,7 @@ fn for_each_group<R: Reader>(
 fn perform_sort<R: Reader>(
     alloc: Global,
     reader: &R,
-    place: &Place,
+    place: &StaticContext,
     attributes: &[Attribute],
     sorts: &[Node],
     has_content: bool,
@@ -212,11 +212,11 @@ fn perform_sort<R: Reader>(
     Ok(Head::PerformSort(select, sorts))
 }
 
-/// What the element says behind the rules of the table.
+/// What the element says after the rules of the table.
 fn own_head<R: Reader>(
     alloc: Global,
     reader: &R,
-    place: &Place,
+    place: &StaticContext,
     element: XslElement,
     attributes: &[Attribute],
     sorts: &[Node],
@@ -257,11 +257,11 @@ fn own_head<R: Reader>(
 
 /// The head of an element of XSLT that holds a sequence constructor (XSLT 2.0, 5.7). `sorts` are
 /// the elements `xsl:sort` at the front of its content, and `has_content` says whether anything
-/// stands behind them.
+/// comes after them.
 pub fn read_head<R: Reader>(
     alloc: Global,
     reader: &R,
-    place: &Place,
+    place: &StaticContext,
     element: XslElement,
     attributes: &[Attribute],
     sorts: &[Node],

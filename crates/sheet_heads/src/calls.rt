@@ -10,9 +10,9 @@ ghost use Rattle.sheet_heads.specs.Calls.{call_faults, with_passed};
 use crate::attributes::optional_expr;
 use crate::sorts::sort_keys;
 use expr_names::ResolveFault;
-use sheet_nodes::Node;
+use sheet_table::sheet_nodes::Node;
 use sheet_table::{XslElement, attribute, check_attributes};
-use sheet_texts::{Place, Reader};
+use sheet_values::sheet_texts::{Reader, StaticContext};
 use sheet_values::{ModeChoice, mode_choice, qname, sheet_fault};
 use std::alloc::Global;
 use xt_names::{List, Shared, SheetStaticCode};
@@ -34,7 +34,7 @@ pub enum CallHead<E> {
     Template(u32),
 }
 
-fn numbered(place: &Place, choice: &ModeChoice) -> ModeUse
+fn numbered(place: &StaticContext, choice: &ModeChoice) -> ModeUse
     ensures { result ≡ numbered place.now choice.now }
 {
     match choice {
@@ -43,7 +43,11 @@ fn numbered(place: &Place, choice: &ModeChoice) -> ModeUse
     }
 }
 
-fn mode(alloc: Global, place: &Place, attributes: &[Attribute]) -> Result<ModeUse, ResolveFault>
+fn mode(
+    alloc: Global,
+    place: &StaticContext,
+    attributes: &[Attribute],
+) -> Result<ModeUse, ResolveFault>
     ensures { Answers result (mode_faults place.now (attribute attributes.now (codes "mode")))
         (mode_value place.now (attribute attributes.now (codes "mode"))) }
 {
@@ -59,7 +63,7 @@ fn mode(alloc: Global, place: &Place, attributes: &[Attribute]) -> Result<ModeUs
 fn apply<R: Reader>(
     alloc: Global,
     reader: &R,
-    place: &Place,
+    place: &StaticContext,
     attributes: &[Attribute],
     front: &[Node],
 ) -> Result<CallHead<R::Expr>, ResolveFault>
@@ -76,7 +80,7 @@ fn apply<R: Reader>(
 
 fn template_number(
     alloc: Global,
-    place: &Place,
+    place: &StaticContext,
     attributes: &[Attribute],
 ) -> Result<u32, ResolveFault>
     ensures { Answers result
@@ -92,11 +96,11 @@ fn template_number(
     }
 }
 
-/// What the element says behind the rules of the table.
+/// What the element says after the rules of the table.
 fn own_head<R: Reader>(
     alloc: Global,
     reader: &R,
-    place: &Place,
+    place: &StaticContext,
     element: XslElement,
     attributes: &[Attribute],
     front: &[Node],
@@ -118,12 +122,12 @@ fn own_head<R: Reader>(
 }
 
 /// The head of an element of XSLT that passes parameters (XSLT 2.0, 6.3, 6.7 and 10.1). `front` are
-/// the nodes at the front of its content that may stand there, of which the elements `xsl:sort` are
+/// the nodes at the front of its content that may be there, of which the elements `xsl:sort` are
 /// read.
 pub fn call_head<R: Reader>(
     alloc: Global,
     reader: &R,
-    place: &Place,
+    place: &StaticContext,
     element: XslElement,
     attributes: &[Attribute],
     front: &[Node],

@@ -9,7 +9,7 @@ use sheet_table::XslElement;
 pub enum Form {
     /// An instruction that holds no instructions.
     Leaf,
-    /// An instruction that holds a sequence constructor, perhaps behind sort keys.
+    /// An instruction that holds a sequence constructor, perhaps after sort keys.
     Bodied,
     /// `xsl:choose` (8.2).
     Choice,

@@ -10,8 +10,8 @@ ghost use Rattle.sheet_heads.specs.Groupings.{key_faults, key_value, grouping_va
 use crate::parts::refuse_if;
 use expr_names::ResolveFault;
 use sheet_table::{attribute, has};
-use sheet_texts::{Place, Reader};
 use sheet_values::sheet_fault;
+use sheet_values::sheet_texts::{Reader, StaticContext};
 use std::alloc::Global;
 use xt_names::{Shared, SheetStaticCode};
 use xt_sheets::values::Grouping;
@@ -26,7 +26,7 @@ fn is_one(first: bool, second: bool, third: bool) -> bool
 fn starting<R: Reader>(
     alloc: Global,
     reader: &R,
-    place: &Place,
+    place: &StaticContext,
     attributes: &[Attribute],
 ) -> Result<Grouping<R::Expr, R::Pattern>, ResolveFault>
     ensures { Answers result
@@ -48,7 +48,7 @@ fn starting<R: Reader>(
 fn adjacent_key<R: Reader>(
     alloc: Global,
     reader: &R,
-    place: &Place,
+    place: &StaticContext,
     attributes: &[Attribute],
 ) -> Result<Grouping<R::Expr, R::Pattern>, ResolveFault>
     ensures { Answers result
@@ -66,7 +66,7 @@ fn adjacent_key<R: Reader>(
 fn key_of_all<R: Reader>(
     alloc: Global,
     reader: &R,
-    place: &Place,
+    place: &StaticContext,
     attributes: &[Attribute],
 ) -> Result<Grouping<R::Expr, R::Pattern>, ResolveFault>
     ensures { Answers result
@@ -85,7 +85,7 @@ fn key_of_all<R: Reader>(
 fn key<R: Reader>(
     alloc: Global,
     reader: &R,
-    place: &Place,
+    place: &StaticContext,
     attributes: &[Attribute],
     by: bool,
     adjacent: bool,
@@ -108,7 +108,7 @@ fn key<R: Reader>(
 pub(crate) fn grouping<R: Reader>(
     alloc: Global,
     reader: &R,
-    place: &Place,
+    place: &StaticContext,
     attributes: &[Attribute],
 ) -> Result<Grouping<R::Expr, R::Pattern>, ResolveFault>
     ensures { Answers result (grouping_faults (R.reads reader.now) place.now attributes.now)

@@ -7,10 +7,10 @@ ghost use Rattle.sheet_heads.specs.Leaves.{leaf_faults, leaf_value};
 use crate::attributes::needed_expr;
 use crate::texts::characters;
 use expr_names::ResolveFault;
-use sheet_nodes::{Node, check_none};
+use sheet_table::sheet_nodes::{Node, check_none};
 use sheet_table::{XslElement, check_attributes};
-use sheet_texts::{Place, Reader};
 use sheet_values::sheet_fault;
+use sheet_values::sheet_texts::{Reader, StaticContext};
 use std::alloc::Global;
 use xt_names::{Shared, SheetStaticCode, Text};
 use xt_sheets::instrs::Instr;
@@ -26,7 +26,7 @@ fn text(alloc: Global, attributes: &[Attribute], kids: &[Node]) -> Result<Text, 
 fn selected<R: Reader>(
     alloc: Global,
     reader: &R,
-    place: &Place,
+    place: &StaticContext,
     element: XslElement,
     attributes: &[Attribute],
     kids: &[Node],
@@ -45,7 +45,7 @@ fn selected<R: Reader>(
 pub fn leaf<R: Reader>(
     alloc: Global,
     reader: &R,
-    place: &Place,
+    place: &StaticContext,
     element: XslElement,
     attributes: &[Attribute],
     kids: &[Node],

@@ -35,7 +35,6 @@ pub use leaves::leaf;
 pub use literals::literal_head;
 pub use parts::{default_uri, refuse_if};
 pub use repeats::check_repeats;
-pub use sheet_texts;
 pub use sheet_values;
 pub use sorts::sort_keys;
 pub use texts::characters;

@@ -1,16 +1,15 @@
 // Literal result elements.
 ghost use Rattle.std.specs.Prelude.{◌≡◌, ◌++◌, OnOk};
 ghost use Rattle.expr_names.specs.Answers.{Answers};
-ghost use Rattle.sheet_table.specs.Attributes.{is_in_xslt};
-ghost use Rattle.sheet_heads.specs.Literals.{one_faults, one_value, values_faults, values_value};
-ghost use Rattle.sheet_heads.specs.Literals.{literal_faults, literal_value};
+ghost use Rattle.xt_names.specs.Names.{is_in_xslt};
+ghost use Rattle.sheet_heads.specs.Literals.{one_faults, one_value, values_faults, values_value, literal_faults, literal_value};
 
 use crate::bodied::Head;
 use expr_names::ResolveFault;
-use sheet_table::{check_literal_attributes, is_in_xslt};
-use sheet_texts::{Place, Reader, template};
+use sheet_table::check_literal_attributes;
+use sheet_values::sheet_texts::{Reader, StaticContext, template};
 use std::alloc::Global;
-use xt_names::{List, Name, Shared};
+use xt_names::{List, Name, Shared, is_in_xslt};
 use xt_sheets::values::LiteralAttr;
 use xt_tree::Attribute;
 
@@ -18,7 +17,7 @@ use xt_tree::Attribute;
 fn literal_attribute<R: Reader>(
     alloc: Global,
     reader: &R,
-    place: &Place,
+    place: &StaticContext,
     attribute: &Attribute,
 ) -> Result<LiteralAttr<R::Expr>, ResolveFault>
     ensures { Answers result (one_faults (R.reads reader.now) place.now attribute.now)
@@ -34,7 +33,7 @@ fn literal_attribute<R: Reader>(
 fn literal_attributes<R: Reader>(
     alloc: Global,
     reader: &R,
-    place: &Place,
+    place: &StaticContext,
     attributes: &[Attribute],
 ) -> Result<List<LiteralAttr<R::Expr>>, ResolveFault>
     ensures { Answers result (values_faults (R.reads reader.now) place.now attributes.now)
@@ -56,7 +55,7 @@ fn literal_attributes<R: Reader>(
 pub fn literal_head<R: Reader>(
     alloc: Global,
     reader: &R,
-    place: &Place,
+    place: &StaticContext,
     name: &Name,
     attributes: &[Attribute],
 ) -> Result<Head<R::Expr, R::Pattern>, ResolveFault>

@@ -1,20 +1,19 @@
 // Rules and parts that several elements have.
-ghost use Rattle.std.specs.Prelude.{◌≡◌, [], IfOk};
+ghost use Rattle.std.specs.Prelude.{◌≡◌, [], IfOk, codes};
 ghost use Rattle.expr_names.specs.Answers.{Answers};
-ghost use Rattle.expr_names.specs.Names.{uri_of};
+ghost use Rattle.xt_names.specs.ExprNames.{uri_of};
 ghost use Rattle.sheet_table.specs.Attributes.{attribute};
 ghost use Rattle.sheet_values.specs.Rules.{broken};
 ghost use Rattle.sheet_heads.specs.Attributes.{needed_faults};
-ghost use Rattle.sheet_texts.specs.Templates.{template_faults};
-ghost use Rattle.std.specs.Prelude.{codes};
+ghost use Rattle.sheet_values.specs.SheetTexts.Templates.{template_faults};
 ghost use Rattle.sheet_heads.specs.Parts.{both_broken, computed_name};
 
 use crate::attributes::needed_template;
 use bound_prefixes::BoundPrefixes;
 use expr_names::{ResolveFault, no_text, uri_of};
 use sheet_table::has;
-use sheet_texts::{Place, Reader};
 use sheet_values::sheet_fault;
+use sheet_values::sheet_texts::{Reader, StaticContext};
 use std::alloc::{AllocError, Global};
 use xt_names::{SheetStaticCode, Text};
 use xt_sheets::values::AvtName;
@@ -54,7 +53,7 @@ pub fn default_uri(alloc: Global, bound: &BoundPrefixes) -> Result<Text, AllocEr
 pub(crate) fn computed_name<R: Reader>(
     alloc: Global,
     reader: &R,
-    place: &Place,
+    place: &StaticContext,
     attributes: &[Attribute],
     default_uri: Text,
 ) -> Result<AvtName<R::Expr>, ResolveFault>

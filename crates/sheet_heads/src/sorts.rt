@@ -8,9 +8,9 @@ ghost use Rattle.sheet_heads.specs.Sorts.{sort_faults, sort_value, keys_faults, 
 ghost use Rattle.sheet_heads.specs.Sorts.{sort_node_faults, sort_node_value};
 
 use expr_names::ResolveFault;
-use sheet_nodes::{Node, check_none, is_sort, misplaced_node};
+use sheet_table::sheet_nodes::{Node, check_none, is_sort, misplaced_node};
 use sheet_table::{XslElement, attribute, check_attributes};
-use sheet_texts::{Place, Reader};
+use sheet_values::sheet_texts::{Reader, StaticContext};
 use std::alloc::{AllocError, Global};
 use xt_names::{Binding, List, Shared, Text, TextBuilder, is_ascii_text};
 use xt_sheets::values::Sort;
@@ -28,7 +28,7 @@ fn context_item(alloc: Global) -> Result<Text, AllocError>
 fn key<R: Reader>(
     alloc: Global,
     reader: &R,
-    place: &Place,
+    place: &StaticContext,
     attributes: &[Attribute],
 ) -> Result<Shared<R::Expr>, ResolveFault>
     ensures { Answers result (key_faults (R.reads reader.now) place.now attributes.now)
@@ -66,7 +66,7 @@ fn number_of(attributes: &[Attribute]) -> Option<bool>
 fn sort<R: Reader>(
     alloc: Global,
     reader: &R,
-    place: &Place,
+    place: &StaticContext,
     own: &List<Binding>,
     attributes: &[Attribute],
     kids: &[Node],
@@ -89,7 +89,7 @@ fn sort<R: Reader>(
 fn sort_node<R: Reader>(
     alloc: Global,
     reader: &R,
-    place: &Place,
+    place: &StaticContext,
     node: &Node,
 ) -> Result<Sort<R::Expr>, ResolveFault>
     ensures { Answers result (sort_node_faults (R.reads reader.now) place.now node.now)
@@ -112,7 +112,7 @@ fn sort_node<R: Reader>(
 pub fn sort_keys<R: Reader>(
     alloc: Global,
     reader: &R,
-    place: &Place,
+    place: &StaticContext,
     nodes: &[Node],
 ) -> Result<List<Sort<R::Expr>>, ResolveFault>
     ensures { Answers result (keys_faults (R.reads reader.now) place.now nodes.now)

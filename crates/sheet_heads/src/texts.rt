@@ -5,7 +5,7 @@ ghost use Rattle.sheet_heads.specs.Characters.{node_faults, node_characters};
 ghost use Rattle.sheet_heads.specs.Characters.{characters_faults, characters_value};
 
 use expr_names::ResolveFault;
-use sheet_nodes::{Node, misplaced_node};
+use sheet_table::sheet_nodes::{Node, misplaced_node};
 use std::alloc::{AllocError, Global};
 use xt_names::{Text, TextBuilder};
 

@@ -12,16 +12,16 @@ use Rattle.xt_syntax.specs.declared.patterns.Pattern.{Pattern}
 use Rattle.expr_terms.specs.declared.raws.Raw.{Raw}
 use Rattle.expr_reader.specs.declared.readings.Reading.{Reading as RawReading}
 use Rattle.expr_reader.specs.declared.readings.Reading.TheVariants as read
-use Rattle.pattern_readings.specs.ExprResolve.declared.setting.Setting.{Setting}
-use Rattle.pattern_readings.specs.ExprResolve.Folds.{broken_of, expr_meant, type_broken, type_meant}
-use Rattle.expr_readings.specs.Readings.{raw_reading, type_reading}
-use Rattle.pattern_readings.specs.PatternSyntax.Readings as pattern
-use Rattle.pattern_readings.specs.Readings.{text_reading}
-use Rattle.pattern_priorities.specs.Priorities.{priority_of}
+use Rattle.pattern_syntax.specs.ExprResolve.declared.setting.Setting.{Setting}
+use Rattle.pattern_syntax.specs.ExprResolve.Folds.{broken_of, expr_meant, type_broken, type_meant}
+use Rattle.xpath_syntax.specs.ExprReadings.Readings.{raw_reading, type_reading}
+use Rattle.pattern_syntax.specs.Readings as pattern
+use Rattle.pattern_syntax.specs.PatternReadings.Readings.{text_reading}
+use Rattle.pattern_syntax.specs.PatternPriorities.Priorities.{priority_of}
 use Rattle.sheet_expressions.specs.Checked.{checked}
 use Rattle.sheet_expressions.specs.Uses.{is_key_use}
-use Rattle.sheet_texts.specs.declared.places.Place.{Place}
-use Rattle.sheet_texts.specs.Readings.{Reading}
+use Rattle.sheet_values.specs.declared.sheet_texts.places.StaticContext.{StaticContext}
+use Rattle.sheet_values.specs.SheetTexts.Readings.{Reading}
 use Rattle.sheet_language.specs.Settings.{setting_at}
 
 -- how deep expressions, patterns and types may nest
@@ -55,10 +55,10 @@ raw_value s grouped read.TooDeep = expr.Root
 raw_value s grouped (read.Value raw) = checked_value s (checked s.prefixes grouped raw)
 
 -- expressions (XPath 2.0, 2 and A)
-abbrev pub expr_faults : Place → List ℕ → List Code
+abbrev pub expr_faults : StaticContext → List ℕ → List Code
 expr_faults p text = raw_faults (setting_at p.bound) p.in_group (raw_reading most_levels text)
 
-abbrev pub expr_value : Place → List ℕ → Expr
+abbrev pub expr_value : StaticContext → List ℕ → Expr
 expr_value p text = raw_value (setting_at p.bound) p.in_group (raw_reading most_levels text)
 
 abbrev pub answer_faults : pattern.Answer → List Code
@@ -74,10 +74,10 @@ answer_value (pattern.static c) = []
 answer_value pattern.too_deep = []
 
 -- patterns (XSLT 2.0, 5.5.2)
-abbrev pub patterns_faults : Place → List ℕ → List Code
+abbrev pub patterns_faults : StaticContext → List ℕ → List Code
 patterns_faults p text = answer_faults (text_reading (setting_at p.bound) most_levels text)
 
-abbrev pub patterns_value : Place → List ℕ → List Pattern
+abbrev pub patterns_value : StaticContext → List ℕ → List Pattern
 patterns_value p text = answer_value (text_reading (setting_at p.bound) most_levels text)
 
 abbrev pub raw_type_faults : Setting → RawReading → List Code
@@ -91,10 +91,10 @@ raw_type_value s read.TooDeep = sequence.Empty
 raw_type_value s (read.Value raw) = type_meant s raw
 
 -- sequence types (XPath 2.0, 2.5.3)
-abbrev pub type_faults : Place → List ℕ → List Code
+abbrev pub type_faults : StaticContext → List ℕ → List Code
 type_faults p text = raw_type_faults (setting_at p.bound) (type_reading most_levels text)
 
-abbrev pub type_value : Place → List ℕ → SeqType
+abbrev pub type_value : StaticContext → List ℕ → SeqType
 type_value p text = raw_type_value (setting_at p.bound) (type_reading most_levels text)
 
 -- the language of stylesheets

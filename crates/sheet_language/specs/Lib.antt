@@ -1,5 +1,5 @@
 pub mod Settings
 pub mod Language
 pub mod Meanings
-pub use Rattle.pattern_readings.specs as PatternReadings
-pub use Rattle.sheet_texts.specs as SheetTexts
+pub use Rattle.pattern_syntax.specs as PatternSyntax
+pub use Rattle.sheet_values.specs as SheetValues

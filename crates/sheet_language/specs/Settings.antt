@@ -2,7 +2,7 @@
 use Rattle.std.specs.Prelude.{List, [], true, codes}
 use Rattle.xt_names.specs.declared.names.Binding.{Binding}
 use Rattle.xt_syntax.specs.declared.prefixes.Prefixes.{Prefixes}
-use Rattle.pattern_readings.specs.ExprResolve.declared.setting.Setting.{Setting}
+use Rattle.pattern_syntax.specs.ExprResolve.declared.setting.Setting.{Setting}
 
 -- names of elements and types without prefix have no uri, functions have that of XPath's functions
 abbrev pub prefixes_at : List Binding → Prefixes
@@ -12,6 +12,6 @@ prefixes_at bound = record {
   function_default = codes "http://www.w3.org/2005/xpath-functions";
 }
 
--- no boundary white space stands in an expression
+-- no boundary white space is in an expression
 abbrev pub setting_at : List Binding → Setting
 setting_at bound = record { prefixes = prefixes_at bound; strip = true }

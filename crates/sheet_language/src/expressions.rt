@@ -1,6 +1,6 @@
 // Expressions.
 ghost use Rattle.expr_names.specs.Answers.{Answers};
-ghost use Rattle.pattern_readings.specs.ExprResolve.Folds.{broken_of, expr_meant};
+ghost use Rattle.pattern_syntax.specs.ExprResolve.Folds.{broken_of, expr_meant};
 ghost use Rattle.sheet_expressions.specs.Checked.{checked};
 ghost use Rattle.sheet_language.specs.Language.{checked_faults, checked_value};
 ghost use Rattle.sheet_language.specs.Language.{raw_faults, raw_value, expr_faults, expr_value};
@@ -8,13 +8,13 @@ ghost use Rattle.sheet_language.specs.Language.{raw_faults, raw_value, expr_faul
 use crate::settings::{LIMIT, nothing_spelled, setting_at, too_deep};
 use expr_names::ResolveFault;
 use expr_reader::Reading;
-use expr_readings::raw_expression;
 use expr_terms::Raw;
-use pattern_readings::expr_resolve::{Setting, resolve};
+use pattern_syntax::expr_resolve::{Setting, resolve};
 use sheet_expressions::checked;
-use sheet_texts::Place;
-use sheet_texts::sheet_values::sheet_fault;
+use sheet_values::sheet_fault;
+use sheet_values::sheet_texts::StaticContext;
 use std::alloc::Global;
+use xpath_syntax::expr_readings::raw_expression;
 use xt_names::{Shared, SheetStaticCode, Text};
 use xt_syntax::Expr;
 
@@ -80,7 +80,7 @@ fn read(
 /// stand there, and else the code of the first static rule that it breaks.
 pub(crate) fn expr_at(
     alloc: Global,
-    place: &Place,
+    place: &StaticContext,
     text: &Text,
 ) -> Result<Shared<Expr>, ResolveFault>
     ensures { Answers result (expr_faults place.now text.now) (expr_value place.now text.now) }

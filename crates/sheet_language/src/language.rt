@@ -3,9 +3,9 @@ use crate::expressions::expr_at;
 use crate::patterns::patterns_at;
 use crate::types::type_at;
 use expr_names::ResolveFault;
-use pattern_priorities::default_priority;
+use pattern_syntax::pattern_priorities::default_priority;
 use sheet_expressions::is_key_use;
-use sheet_texts::{Place, Reader};
+use sheet_values::sheet_texts::{Reader, StaticContext};
 use std::alloc::Global;
 use xt_names::{List, Shared, Text};
 use xt_syntax::{Expr, Pattern};
@@ -28,7 +28,7 @@ impl Reader for SheetLanguage {
     fn expr(
         &self,
         alloc: Global,
-        place: &Place,
+        place: &StaticContext,
         text: &Text,
     ) -> Result<Shared<Expr>, ResolveFault> {
         expr_at(alloc, place, text)
@@ -37,7 +37,7 @@ impl Reader for SheetLanguage {
     fn patterns(
         &self,
         alloc: Global,
-        place: &Place,
+        place: &StaticContext,
         text: &Text,
     ) -> Result<List<Pattern>, ResolveFault> {
         patterns_at(alloc, place, text)
@@ -46,7 +46,7 @@ impl Reader for SheetLanguage {
     fn sequence_type(
         &self,
         alloc: Global,
-        place: &Place,
+        place: &StaticContext,
         text: &Text,
     ) -> Result<SeqType, ResolveFault> {
         type_at(alloc, place, text)

@@ -1,13 +1,13 @@
 // Patterns.
 ghost use Rattle.expr_names.specs.Answers.{Answers};
-ghost use Rattle.pattern_readings.specs.PatternSyntax.Readings.{Answer, Gives};
+ghost use Rattle.pattern_syntax.specs.Readings.{Answer, Gives};
 ghost use Rattle.sheet_language.specs.Language.{answer_faults, answer_value};
 ghost use Rattle.sheet_language.specs.Language.{patterns_faults, patterns_value};
 
 use crate::settings::{nothing_spelled, setting_at, too_deep};
 use expr_names::ResolveFault;
-use pattern_readings::parse_text;
-use sheet_texts::Place;
+use pattern_syntax::pattern_readings::parse_text;
+use sheet_values::sheet_texts::StaticContext;
 use std::alloc::Global;
 use xt_names::{List, Text};
 use xt_syntax::{ParseFault, Pattern};
@@ -26,10 +26,10 @@ fn resolved(found: Result<List<Pattern>, ParseFault>) -> Result<List<Pattern>, R
 
 /// The alternatives of the pattern that the text means at the place (XSLT 2.0, 5.5.2). XPST0003
 /// where it spells no expression, XTLM0004 where it nests deeper than 40 levels, and else the codes
-/// of `pattern_readings::pattern_syntax::parse_pattern`.
+/// of `pattern_syntax::parse_pattern`.
 pub(crate) fn patterns_at(
     alloc: Global,
-    place: &Place,
+    place: &StaticContext,
     text: &Text,
 ) -> Result<List<Pattern>, ResolveFault>
     ensures { Answers result (patterns_faults place.now text.now)

@@ -9,8 +9,8 @@ ghost use Rattle.sheet_language.specs.Settings.{prefixes_at, setting_at};
 
 use bound_prefixes::BoundPrefixes;
 use expr_names::{ResolveFault, no_text, static_fault};
-use pattern_readings::expr_resolve::Setting;
-use sheet_texts::sheet_values::sheet_fault;
+use pattern_syntax::expr_resolve::Setting;
+use sheet_values::sheet_fault;
 use std::alloc::{AllocError, Global};
 use xt_names::{QueryStaticCode, SheetStaticCode, Text};
 use xt_syntax::Prefixes;
@@ -18,7 +18,7 @@ use xt_syntax::Prefixes;
 /// How deep expressions, patterns and types may nest.
 pub(crate) const LIMIT: u16 = 40;
 
-#[tactic(auto, using(crate::proofs::TextLemmas::ascii_same))]
+#[tactic(auto, using(xt_names::proofs::TextLemmas::ascii_same))]
 fn ascii_text(alloc: Global, text: &str) -> Result<Text, AllocError>
     requires { IsTrue (list_all (λ b. nat_lt b 128) text.now) }
     ensures { IfOk result (λ made. made ≡ text.now) }

@@ -1,17 +1,17 @@
 // Sequence types.
 ghost use Rattle.expr_names.specs.Answers.{Answers};
-ghost use Rattle.pattern_readings.specs.ExprResolve.Folds.{type_broken, type_meant};
+ghost use Rattle.pattern_syntax.specs.ExprResolve.Folds.{type_broken, type_meant};
 ghost use Rattle.sheet_language.specs.Language.{raw_type_faults, raw_type_value};
 ghost use Rattle.sheet_language.specs.Language.{type_faults, type_value};
 
 use crate::settings::{LIMIT, nothing_spelled, setting_at, too_deep};
 use expr_names::ResolveFault;
 use expr_reader::Reading;
-use expr_readings::raw_type;
 use expr_terms::Raw;
-use pattern_readings::expr_resolve::{Setting, resolve_type};
-use sheet_texts::Place;
+use pattern_syntax::expr_resolve::{Setting, resolve_type};
+use sheet_values::sheet_texts::StaticContext;
 use std::alloc::Global;
+use xpath_syntax::expr_readings::raw_type;
 use xt_names::Text;
 use xt_types::SeqType;
 
@@ -36,7 +36,11 @@ fn read(alloc: Global, setting: &Setting, reading: Reading) -> Result<SeqType, R
 
 /// The type that the text means at the place (XPath 2.0, 2.5.3). XPST0003 where it spells none, and
 /// else the code of the first static rule that it breaks.
-pub(crate) fn type_at(alloc: Global, place: &Place, text: &Text) -> Result<SeqType, ResolveFault>
+pub(crate) fn type_at(
+    alloc: Global,
+    place: &StaticContext,
+    text: &Text,
+) -> Result<SeqType, ResolveFault>
     ensures { Answers result (type_faults place.now text.now) (type_value place.now text.now) }
 {
     let reading = raw_type(alloc, text.as_str(), LIMIT)?;

@@ -5,11 +5,11 @@ use Rattle.xt_tree.specs.declared.trees.Tree.{Tree}
 use Rattle.xt_tree.specs.declared.trees.Tree.TheVariants.{Doc, Elem, Text, Comment, Pi, Attr}
 use Rattle.xt_tree.specs.Forest.{Forest, end, doc, elem, text, comment, pi, attr}
 use Rattle.xt_tree.specs.TreeView.{trees, kids_of}
-use Rattle.sheet_meaning.specs.First.{is_in_xslt}
 use Rattle.xt_tree.specs.White.{is_white_text}
 use Rattle.sheet_meaning.specs.Outcome.{Outcome, Ends, Fails, Deep, and_then, joined, IsOver}
 use Rattle.sheet_meaning.specs.Rules.{best_rule, templates_of}
 use Rattle.sheet_meaning.specs.Meaning.{Calls, applied, constructed, built_in, ruled, entered, listed, element_of, document_of, transform_meaning}
+use Rattle.xt_names.specs.Names.{is_in_xslt}
 
 -- the second outcome is the first, unless the first is Deep
 abbrev pub Reaches : {A : Type 0} → Outcome A → Outcome A → Type 0

@@ -1,7 +1,6 @@
 -- What a run makes of sound trees is sound, and no character of a text is lost.
 use Rattle.std.proofs.Common.{◌≡◌, ℕ, zero, suc, List, [], ◌∷◌, ◌++◌, Bool, true, false, not, ◌&&◌, refl, ap, ◌∙◌, append_assoc}
 use Rattle.std.proofs.lemmas.Bool.{and_parts}
-use Rattle.std.proofs.lemmas.List.Folds.{list_all-append}
 use Rattle.std.specs.Prelude.{Option, Some, None, if◌then◌else◌, nat_le}
 use Rattle.std.specs.Option.{option_or}
 use Rattle.xt_names.specs.Allowed.{is_empty_text}
@@ -16,15 +15,13 @@ use Rattle.xt_tree.specs.declared.trees.Tree.TheVariants.{Doc, Elem, Text, Comme
 use Rattle.xt_tree.specs.Forest.{Forest, end, doc, elem, text, comment, pi, attr, texts}
 use Rattle.xt_tree.specs.Sound.{is_sound_name, is_sound_attribute, are_sound_attributes, are_sound_behind, is_sound_root, is_sound_tree}
 use Rattle.xt_tree.specs.TreeView.{forest_of, trees, kids_of, tree_height, tree_size}
-use Rattle.sheet_meaning.specs.First.{is_in_xslt}
 use Rattle.xt_tree.specs.White.{is_white_text}
 use Rattle.sheet_meaning.specs.Outcome.{Outcome, Ends, Fails, Deep, and_then, joined}
 use Rattle.sheet_meaning.specs.Rules.{Template, pattern_matches, template_of, templates_among, root_content, templates_of, best_rule}
 use Rattle.sheet_meaning.specs.Meaning.{put_text, complex_content, is_within_limits, limited, Calls, applied, constructed, built_in, ruled, entered, listed, element_of, document_of, transform_meaning}
-
-both : (x y : Bool) → x ≡ true → y ≡ true → (x && y) ≡ true
-both true y h k = k
-both false y h k = absurd cc
+use Rattle.xt_names.proofs.BoolLemmas.{and_both as both}
+use Rattle.xt_names.proofs.ClassLemmas.{append_text}
+use Rattle.xt_names.specs.Names.{is_in_xslt}
 
 -- texts keep their characters
 texts-put_text : (t : List ℕ) (items : List Tree) → texts (forest_of (put_text t items)) ≡ t ++ texts (forest_of items)
@@ -66,10 +63,6 @@ items-append (x ∷ xs) ys h k =
     let p = and_parts (is_sound_item x) (are_sound_items xs) h in
     both (is_sound_item x) (are_sound_items (xs ++ ys)) p.0 (items-append xs ys p.1 k)
 
-xml_text-append : (t u : List ℕ) → is_xml_text t ≡ true → is_xml_text u ≡ true → is_xml_text (t ++ u) ≡ true
-unfolding is_xml_text
-xml_text-append t u h k = list_all-append _ t u ∙ both _ _ h k
-
 full : (c : ℕ) (cs : List ℕ) → not (is_empty_text (c ∷ cs)) ≡ true
 unfolding is_empty_text
 full c cs = refl
@@ -80,7 +73,7 @@ put_sound (c ∷ cs) [] h k = both _ _ (both _ _ (full c cs) h) refl
 put_sound (c ∷ cs) (Text u ∷ items) h k =
     let p = and_parts _ _ k in
     let q = and_parts _ _ p.0 in
-    both _ _ (both _ _ (full c (cs ++ u)) (xml_text-append (c ∷ cs) u h q.1)) p.1
+    both _ _ (both _ _ (full c (cs ++ u)) (append_text (c ∷ cs) u h q.1)) p.1
 put_sound (c ∷ cs) (Elem name attributes kids ∷ items) h k = both _ _ (both _ _ (full c cs) h) k
 put_sound (c ∷ cs) (Comment u ∷ items) h k = both _ _ (both _ _ (full c cs) h) k
 put_sound (c ∷ cs) (Pi target u ∷ items) h k = both _ _ (both _ _ (full c cs) h) k

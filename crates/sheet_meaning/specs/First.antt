@@ -9,9 +9,7 @@ use Rattle.xt_tree.specs.declared.trees.Tree.{Tree}
 use Rattle.xt_tree.specs.declared.trees.Tree.TheVariants.{Doc, Elem, Text, Comment, Pi, Attr}
 use Rattle.xt_tree.specs.White.{is_white_text}
 use Rattle.xt_tree.specs.Forest.{Forest, end, doc, elem, text, comment, pi, attr}
-
-unfoldable pub is_in_xslt : Name → Bool
-is_in_xslt name = bytes_eq name.uri (codes "http://www.w3.org/1999/XSL/Transform")
+use Rattle.xt_names.specs.Names.{is_in_xslt}
 
 unfoldable pub is_named_stylesheet : Name → Bool
 is_named_stylesheet name = is_in_xslt name && bytes_eq name.local (codes "stylesheet")

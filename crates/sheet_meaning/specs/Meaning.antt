@@ -7,10 +7,10 @@ use Rattle.xt_tree.specs.declared.trees.Tree.{Tree}
 use Rattle.xt_tree.specs.declared.trees.Tree.TheVariants.{Doc, Elem, Text, Comment, Pi, Attr}
 use Rattle.xt_tree.specs.Forest.{Forest, end, doc, elem, text, comment, pi, attr}
 use Rattle.xt_tree.specs.TreeView.{forest_of, trees, kids_of, tree_height, tree_size}
-use Rattle.sheet_meaning.specs.First.{is_in_xslt}
 use Rattle.xt_tree.specs.White.{is_white_text}
 use Rattle.sheet_meaning.specs.Outcome.{Outcome, Ends, Fails, Deep, and_then, joined}
 use Rattle.sheet_meaning.specs.Rules.{templates_of, best_rule}
+use Rattle.xt_names.specs.Names.{is_in_xslt}
 
 -- a text before others, where one that it stands beside becomes one with it
 abbrev pub put_text : List ℕ → List Tree → List Tree

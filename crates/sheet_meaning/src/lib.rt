@@ -8,7 +8,5 @@
 #![tactic(auto)]
 
 mod laws;
-mod names;
 
 pub use laws::{content_keeps_texts, deeper_runs_end_alike, last_match_is_best, results_are_sound};
-pub use names::is_in_xslt;

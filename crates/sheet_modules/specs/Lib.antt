@@ -1,1 +1,2 @@
+pub mod ModuleNames
 pub use Rattle.xt_sheets.specs as XtSheets

@@ -10,7 +10,9 @@
 #![tactic(auto)]
 
 mod links;
+pub mod module_names;
 mod modules;
+pub mod sheet_levels;
 mod templates;
 
 pub use links::Link;

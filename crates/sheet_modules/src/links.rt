@@ -8,7 +8,7 @@ pub struct Link {
     pub import: bool,
     /// The file that it names, as it is written.
     pub href: Text,
-    /// How many element children of the root stand before it, or the greatest number where there
+    /// How many element children of the root come before it, or the greatest number where there
     /// are more.
     pub before: u32,
 }

@@ -5,10 +5,10 @@ use Rattle.xt_tree.specs.declared.attributes.Attribute.{Attribute}
 use Rattle.sheet_table.specs.declared.elements.XslElement.TheVariants as element
 use Rattle.sheet_table.specs.Attributes.{attribute}
 use Rattle.sheet_table.specs.Rules.{attribute_faults}
-use Rattle.sheet_nodes.specs.declared.nodes.Node.{Node}
+use Rattle.sheet_table.specs.declared.sheet_nodes.nodes.Node.{Node}
 use Rattle.sheet_values.specs.Names.{function_faults, qname_value}
-use Rattle.sheet_texts.specs.declared.places.Place.{Place}
-use Rattle.sheet_texts.specs.Readings.{Reading}
+use Rattle.sheet_values.specs.declared.sheet_texts.places.StaticContext.{StaticContext}
+use Rattle.sheet_values.specs.SheetTexts.Readings.{Reading}
 use Rattle.sheet_bodies.specs.SheetHeads.Attributes.{optional_faults, optional_value}
 use Rattle.sheet_bodies.specs.SheetHeads.Attributes.{needed_faults, needed_value}
 use Rattle.sheet_modules.specs.declared.modules.FunctionPart.{FunctionPart}
@@ -18,7 +18,7 @@ use Rattle.sheet_parts.specs.declared.functions.FunctionHead.{FunctionHead}
 use Rattle.sheet_parts.specs.Parameters.{front, arguments_faults, arguments_value}
 use Rattle.sheet_parts.specs.Parameters.{behind_faults, behind_value}
 
-module _ {E P : Type 0} (r : Reading E P) (p : Place) where
+module _ {E P : Type 0} (r : Reading E P) (p : StaticContext) where
   -- the name has a prefix
   abbrev pub head_faults : List Attribute → List Code
   head_faults attributes =
@@ -32,7 +32,7 @@ module _ {E P : Type 0} (r : Reading E P) (p : Place) where
     kind = optional_value (r.type_value p) (attribute attributes (codes "as"));
   }
 
-module _ {E P : Type 0} (r : Reading E P) (p : Place) where
+module _ {E P : Type 0} (r : Reading E P) (p : StaticContext) where
   abbrev pub element_faults : List Attribute → List Node → List Code
   element_faults attributes kids =
       head_faults r p attributes

@@ -7,12 +7,12 @@ use Rattle.xt_tree.specs.declared.attributes.Attribute.{Attribute}
 use Rattle.sheet_table.specs.declared.elements.XslElement.TheVariants as element
 use Rattle.sheet_table.specs.Attributes.{attribute}
 use Rattle.sheet_table.specs.Rules.{attribute_faults}
-use Rattle.sheet_nodes.specs.Parts.{none_faults}
-use Rattle.sheet_nodes.specs.declared.nodes.Node.{Node}
+use Rattle.sheet_table.specs.SheetNodes.Parts.{none_faults}
+use Rattle.sheet_table.specs.declared.sheet_nodes.nodes.Node.{Node}
 use Rattle.sheet_values.specs.Rules.{broken}
 use Rattle.sheet_values.specs.Names.{qname_value}
-use Rattle.sheet_texts.specs.declared.places.Place.{Place}
-use Rattle.sheet_texts.specs.Readings.{Reading}
+use Rattle.sheet_values.specs.declared.sheet_texts.places.StaticContext.{StaticContext}
+use Rattle.sheet_values.specs.SheetTexts.Readings.{Reading}
 use Rattle.sheet_bodies.specs.SheetHeads.Attributes.{needed_faults, needed_value}
 use Rattle.sheet_modules.specs.declared.modules.KeyPart.{KeyPart}
 use Rattle.sheet_modules.specs.declared.modules.Part.{Part}
@@ -26,7 +26,7 @@ key_of name key pattern = record { name = name; pattern = pattern; key = key }
 abbrev pub keys_of : {E P : Type 0} → ExprName → E → List P → List (KeyPart E P)
 keys_of name key patterns = map (key_of name key) patterns
 
-module _ {E P : Type 0} (r : Reading E P) (p : Place) where
+module _ {E P : Type 0} (r : Reading E P) (p : StaticContext) where
   abbrev pub use_faults : List ℕ → List Code
   use_faults text = r.expr_faults p text ++ broken XTUN0001 (not (r.is_key_use (r.expr_value p text)))
 

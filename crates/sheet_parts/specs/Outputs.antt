@@ -9,10 +9,10 @@ use Rattle.sheet_table.specs.declared.elements.XslElement.{XslElement}
 use Rattle.sheet_table.specs.declared.elements.XslElement.TheVariants as element
 use Rattle.sheet_table.specs.Attributes.{attribute}
 use Rattle.sheet_table.specs.Rules.{attribute_faults}
-use Rattle.sheet_nodes.specs.Parts.{none_faults}
-use Rattle.sheet_nodes.specs.declared.nodes.Node.{Node}
+use Rattle.sheet_table.specs.SheetNodes.Parts.{none_faults}
+use Rattle.sheet_table.specs.declared.sheet_nodes.nodes.Node.{Node}
 use Rattle.sheet_values.specs.Elements.{name_tests_faults, name_tests_value}
-use Rattle.sheet_texts.specs.declared.places.Place.{Place}
+use Rattle.sheet_values.specs.declared.sheet_texts.places.StaticContext.{StaticContext}
 use Rattle.sheet_bodies.specs.SheetHeads.Attributes.{needed_faults, needed_value}
 use Rattle.sheet_modules.specs.declared.modules.Part.{Part}
 use Rattle.sheet_modules.specs.declared.modules.Part.TheVariants.{Space, Output}
@@ -27,12 +27,12 @@ space_rule strip test = record { strip = strip; test = test }
 abbrev pub space_rules : Bool → List NameTest → List SpaceRule
 space_rules strip tests = map (space_rule strip) tests
 
-abbrev pub space_faults : Place → XslElement → List Attribute → List Node → List Code
+abbrev pub space_faults : StaticContext → XslElement → List Attribute → List Node → List Code
 space_faults p e attributes kids =
     empty_faults e attributes kids
     ++ needed_faults (name_tests_faults p.bound) (attribute attributes (codes "elements"))
 
-abbrev pub space_value : {E P : Type 0} → Place → Bool → List Attribute → Part E P
+abbrev pub space_value : {E P : Type 0} → StaticContext → Bool → List Attribute → Part E P
 space_value p strip attributes =
     Space (space_rules strip (needed_value (name_tests_value p.bound) (attribute attributes (codes "elements"))))
 

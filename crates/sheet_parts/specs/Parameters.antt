@@ -1,4 +1,4 @@
--- Parameters of templates and functions, and the content behind them (XSLT 2.0, 9.2, 10.3 and 5.7).
+-- Parameters of templates and functions, and the content after them (XSLT 2.0, 9.2, 10.3 and 5.7).
 use Rattle.std.specs.Prelude.{ℕ, List, [], ◌∷◌, ◌++◌, Bool, false, not, ◌||◌, codes}
 use Rattle.xt_names.specs.declared.codes.Code.{Code}
 use Rattle.xt_names.specs.declared.codes.Code.TheVariants.{SheetStatic}
@@ -12,15 +12,15 @@ use Rattle.sheet_table.specs.declared.elements.XslElement.TheVariants as element
 use Rattle.sheet_table.specs.declared.contents.Content.TheVariants as content
 use Rattle.sheet_table.specs.Attributes.{attribute, has}
 use Rattle.sheet_table.specs.Rules.{attribute_faults}
-use Rattle.sheet_nodes.specs.Parts.{is_lead, leading, behind, misplaced_node}
-use Rattle.sheet_nodes.specs.declared.nodes.Node.{Node}
-use Rattle.sheet_nodes.specs.declared.nodes.Node.TheViews.{out-Node}
-use Rattle.sheet_nodes.specs.declared.nodes.Node.TheOpen.{Node-F, Elem, Chars}
+use Rattle.sheet_table.specs.SheetNodes.Parts.{is_lead, leading, behind, misplaced_node}
+use Rattle.sheet_table.specs.declared.sheet_nodes.nodes.Node.{Node}
+use Rattle.sheet_table.specs.declared.sheet_nodes.nodes.Node.TheViews.{out-Node}
+use Rattle.sheet_table.specs.declared.sheet_nodes.nodes.Node.TheOpen.{Node-F, Elem, Chars}
 use Rattle.sheet_values.specs.Rules.{broken}
 use Rattle.sheet_values.specs.Names.{declared_faults, qname_value}
-use Rattle.sheet_texts.specs.declared.places.Place.{Place}
-use Rattle.sheet_texts.specs.Places.{within}
-use Rattle.sheet_texts.specs.Readings.{Reading}
+use Rattle.sheet_values.specs.declared.sheet_texts.places.StaticContext.{StaticContext}
+use Rattle.sheet_values.specs.SheetTexts.Places.{within}
+use Rattle.sheet_values.specs.SheetTexts.Readings.{Reading}
 use Rattle.sheet_bodies.specs.SheetHeads.Attributes.{optional_faults, optional_value}
 use Rattle.sheet_bodies.specs.SheetHeads.Attributes.{needed_faults, needed_value}
 use Rattle.sheet_bodies.specs.SheetHeads.Bindings.{is_yes}
@@ -32,7 +32,7 @@ abbrev pub most_levels : ℕ
 most_levels = 40
 
 -- the name of what an element declares, in no reserved namespace
-abbrev pub name_faults : Place → List Attribute → List Code
+abbrev pub name_faults : StaticContext → List Attribute → List Code
 name_faults p attributes = needed_faults (declared_faults XTSE0020 p.bound) (attribute attributes (codes "name"))
 
 -- a parameter that is passed in no call of a template is no tunnel parameter (10.1.2)
@@ -48,14 +48,14 @@ rest kids = behind (is_lead content.Params) kids
 
 -- a parameter of a template (10.1.1)
 module _ {E P : Type 0} (r : Reading E P) where
-  abbrev pub param_faults : Place → List Attribute → List Node → List Code
+  abbrev pub param_faults : StaticContext → List Attribute → List Node → List Code
   param_faults p attributes kids = bind_faults r (body_faults r most_levels) element.Param p attributes kids
 
-  abbrev pub param_value : Place → List Attribute → List Node → Bound E P
+  abbrev pub param_value : StaticContext → List Attribute → List Node → Bound E P
   param_value p attributes kids = bind_value r (body_value r most_levels) p attributes kids
 
   -- a parameter of a function: it has no default, and `required` says nothing
-  abbrev pub argument_faults : Place → List Attribute → List Node → List Code
+  abbrev pub argument_faults : StaticContext → List Attribute → List Node → List Code
   argument_faults p attributes kids =
       attribute_faults element.Param attributes
       ++ (broken XTSE0760 (has attributes (codes "select") || not (is_none kids))
@@ -63,7 +63,7 @@ module _ {E P : Type 0} (r : Reading E P) where
       ++ (name_faults p attributes
       ++ optional_faults (r.type_faults p) (attribute attributes (codes "as")))))
 
-  abbrev pub argument_value : Place → List Attribute → Bound E P
+  abbrev pub argument_value : StaticContext → List Attribute → Bound E P
   argument_value p attributes = roll-Bound E P (record {
     name = needed_value (qname_value p.bound) (attribute attributes (codes "name"));
     kind = optional_value (r.type_value p) (attribute attributes (codes "as"));
@@ -71,7 +71,7 @@ module _ {E P : Type 0} (r : Reading E P) where
     tunnel = false;
   })
 
-module _ {E P : Type 0} (r : Reading E P) (p : Place) where
+module _ {E P : Type 0} (r : Reading E P) (p : StaticContext) where
   abbrev pub param_layer_faults : Node → Node-F Node → List Code
   param_layer_faults n (Elem own name attributes kids) = param_faults r (within p own) attributes kids
   param_layer_faults n (Chars t) = SheetStatic (misplaced_node n) ∷ []
@@ -104,8 +104,8 @@ module _ {E P : Type 0} (r : Reading E P) (p : Place) where
   arguments_value [] = []
   arguments_value (n ∷ ns) = argument_layer_value (out-Node n) ∷ arguments_value ns
 
-module _ {E P : Type 0} (r : Reading E P) (p : Place) where
-  -- what is behind the parameters, of which no two have one name
+module _ {E P : Type 0} (r : Reading E P) (p : StaticContext) where
+  -- what is after the parameters, of which no two have one name
   abbrev pub behind_faults : List (Bound E P) → List Node → List Code
   behind_faults params kids = repeats_broken XTSE0580 params ++ body_faults r most_levels p (rest kids)
 

@@ -8,16 +8,16 @@ use Rattle.xt_tree.specs.declared.attributes.Attribute.{Attribute}
 use Rattle.sheet_table.specs.declared.elements.XslElement.TheVariants as element
 use Rattle.sheet_table.specs.Attributes.{attribute, has}
 use Rattle.sheet_table.specs.Rules.{attribute_faults}
-use Rattle.sheet_nodes.specs.declared.nodes.Node.{Node}
+use Rattle.sheet_table.specs.declared.sheet_nodes.nodes.Node.{Node}
 use Rattle.sheet_values.specs.Rules.{broken}
 use Rattle.sheet_values.specs.Names.{declared_faults, qname_value}
 use Rattle.sheet_values.specs.Modes.{mode_list_faults, mode_list_value}
 use Rattle.sheet_values.specs.Priorities.{priority_faults, priority_value}
 use Rattle.sheet_values.specs.declared.modes.Modes.{Modes}
 use Rattle.sheet_values.specs.declared.modes.Modes.TheVariants as mode
-use Rattle.sheet_texts.specs.declared.places.Place.{Place}
-use Rattle.sheet_texts.specs.Names.{number_of}
-use Rattle.sheet_texts.specs.Readings.{Reading}
+use Rattle.sheet_values.specs.declared.sheet_texts.places.StaticContext.{StaticContext}
+use Rattle.sheet_values.specs.SheetTexts.Names.{number_of}
+use Rattle.sheet_values.specs.SheetTexts.Readings.{Reading}
 use Rattle.sheet_bodies.specs.SheetHeads.Attributes.{optional_faults, optional_value}
 use Rattle.sheet_modules.specs.declared.templates.ModeSet.{ModeSet}
 use Rattle.sheet_modules.specs.declared.templates.ModeSet.TheVariants.{All, Numbers}
@@ -37,11 +37,11 @@ mode_set table mode.All = All
 mode_set table (mode.Names names) = Numbers (numbers_of table names)
 
 -- the default mode, which has the number 0, where the attribute is missing
-abbrev pub modes_faults : Place → Option (List ℕ) → List Code
+abbrev pub modes_faults : StaticContext → Option (List ℕ) → List Code
 modes_faults p None = []
 modes_faults p (Some text) = mode_list_faults p.bound text
 
-abbrev pub modes_value : Place → Option (List ℕ) → ModeSet
+abbrev pub modes_value : StaticContext → Option (List ℕ) → ModeSet
 modes_value p None = Numbers (0 ∷ [])
 modes_value p (Some text) = mode_set p.modes (mode_list_value p.bound text)
 
@@ -74,7 +74,7 @@ use_faults attributes =
     ++ broken XTSE0500 (not (has attributes (codes "match"))
     && (has attributes (codes "mode") || has attributes (codes "priority"))))
 
-module _ {E P : Type 0} (r : Reading E P) (p : Place) where
+module _ {E P : Type 0} (r : Reading E P) (p : StaticContext) where
   -- what its rules say
   abbrev pub rules_faults : List Attribute → List Code
   rules_faults attributes =
@@ -88,7 +88,7 @@ module _ {E P : Type 0} (r : Reading E P) (p : Place) where
       (optional_value priority_value (attribute attributes (codes "priority")))
       (optional_value (r.patterns_value p) (attribute attributes (codes "match")))
 
-module _ {E P : Type 0} (r : Reading E P) (p : Place) where
+module _ {E P : Type 0} (r : Reading E P) (p : StaticContext) where
   abbrev pub head_faults : List Attribute → List Code
   head_faults attributes =
       use_faults attributes
@@ -104,8 +104,8 @@ module _ {E P : Type 0} (r : Reading E P) (p : Place) where
     rules = rules_value r p attributes;
   }
 
-module _ {E P : Type 0} (r : Reading E P) (p : Place) where
-  -- the head, the parameters, and what is behind them
+module _ {E P : Type 0} (r : Reading E P) (p : StaticContext) where
+  -- the head, the parameters, and what is after them
   abbrev pub template_faults : List Attribute → List Node → List Code
   template_faults attributes kids =
       head_faults r p attributes

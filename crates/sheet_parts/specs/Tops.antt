@@ -1,4 +1,4 @@
--- What stands at the top of a stylesheet (XSLT 2.0, 3.6.2).
+-- What is at the top of a stylesheet (XSLT 2.0, 3.6.2).
 use Rattle.std.specs.Prelude.{List, [], ◌∷◌, Bool, true, false, if◌then◌else◌, Option, Some, None}
 use Rattle.xt_names.specs.Allowed.{is_empty_text}
 use Rattle.xt_names.specs.declared.names.Name.{Name}
@@ -8,15 +8,14 @@ use Rattle.xt_names.specs.declared.codes.SheetStaticCode.TheVariants.{XTSE0010, 
 use Rattle.xt_tree.specs.declared.attributes.Attribute.{Attribute}
 use Rattle.sheet_table.specs.declared.elements.XslElement.{XslElement}
 use Rattle.sheet_table.specs.declared.elements.XslElement.TheVariants as element
-use Rattle.sheet_table.specs.Attributes.{is_in_xslt}
 use Rattle.sheet_table.specs.Elements.{xsl_element, misplaced}
-use Rattle.sheet_nodes.specs.declared.nodes.Node.{Node}
-use Rattle.sheet_nodes.specs.declared.nodes.Node.TheViews.{out-Node}
-use Rattle.sheet_nodes.specs.declared.nodes.Node.TheOpen.{Node-F, Elem, Chars}
+use Rattle.sheet_table.specs.declared.sheet_nodes.nodes.Node.{Node}
+use Rattle.sheet_table.specs.declared.sheet_nodes.nodes.Node.TheViews.{out-Node}
+use Rattle.sheet_table.specs.declared.sheet_nodes.nodes.Node.TheOpen.{Node-F, Elem, Chars}
 use Rattle.sheet_values.specs.Rules.{broken}
-use Rattle.sheet_texts.specs.declared.places.Place.{Place}
-use Rattle.sheet_texts.specs.Places.{within}
-use Rattle.sheet_texts.specs.Readings.{Reading}
+use Rattle.sheet_values.specs.declared.sheet_texts.places.StaticContext.{StaticContext}
+use Rattle.sheet_values.specs.SheetTexts.Places.{within}
+use Rattle.sheet_values.specs.SheetTexts.Readings.{Reading}
 use Rattle.sheet_modules.specs.declared.modules.Part.{Part}
 use Rattle.sheet_modules.specs.declared.modules.Part.TheVariants.{Ignored, Linked}
 use Rattle.sheet_parts.specs.Templates.{template_faults, template_value}
@@ -24,9 +23,10 @@ use Rattle.sheet_parts.specs.Functions as function
 use Rattle.sheet_parts.specs.Globals.{variable_faults, variable_value, parameter_faults, parameter_value}
 use Rattle.sheet_parts.specs.Keys as key
 use Rattle.sheet_parts.specs.Outputs.{empty_faults, space_faults, space_value, output_value}
+use Rattle.xt_names.specs.Names.{is_in_xslt}
 
-module _ {E P : Type 0} (r : Reading E P) (p : Place) where
-  -- the declarations; no other element of XSLT stands at the top
+module _ {E P : Type 0} (r : Reading E P) (p : StaticContext) where
+  -- the declarations; no other element of XSLT is at the top
   abbrev pub declaration_faults : XslElement → List Attribute → List Node → List Code
   declaration_faults element.Import attributes kids = empty_faults element.Import attributes kids
   declaration_faults element.Include attributes kids = empty_faults element.Include attributes kids
@@ -69,7 +69,7 @@ module _ {E P : Type 0} (r : Reading E P) (p : Place) where
   any_value name attributes kids =
       if is_in_xslt name then xsl_value (xsl_element name) attributes kids else Ignored
 
-module _ {E P : Type 0} (r : Reading E P) (p : Place) where
+module _ {E P : Type 0} (r : Reading E P) (p : StaticContext) where
   -- and no text either
   abbrev pub layer_faults : Node-F Node → List Code
   layer_faults (Elem own name attributes kids) = any_faults r (within p own) name attributes kids

@@ -16,9 +16,9 @@ use crate::parameters::{Content, arguments, with_behind};
 use expr_names::ResolveFault;
 use sheet_bodies::sheet_heads::optional_type;
 use sheet_modules::{FunctionPart, Part};
-use sheet_nodes::{Node, split_front};
+use sheet_table::sheet_nodes::{Node, split_front};
 use sheet_table::{Content as Contents, XslElement, attribute, check_attributes};
-use sheet_texts::{Place, Reader};
+use sheet_values::sheet_texts::{Reader, StaticContext};
 use sheet_values::{function_name, sheet_fault};
 use std::alloc::Global;
 use xt_names::{ExprName, SheetStaticCode};
@@ -34,7 +34,7 @@ pub(crate) struct FunctionHead {
 
 fn own_name(
     alloc: Global,
-    place: &Place,
+    place: &StaticContext,
     attributes: &[Attribute],
 ) -> Result<ExprName, ResolveFault>
     ensures { Answers result
@@ -51,7 +51,7 @@ fn own_name(
 fn head<R: Reader>(
     alloc: Global,
     reader: &R,
-    place: &Place,
+    place: &StaticContext,
     attributes: &[Attribute],
 ) -> Result<FunctionHead, ResolveFault>
     ensures { Answers result (head_faults (R.reads reader.now) place.now attributes.now)
@@ -66,7 +66,7 @@ fn head<R: Reader>(
 fn content<R: Reader>(
     alloc: Global,
     reader: &R,
-    place: &Place,
+    place: &StaticContext,
     kids: &[Node],
 ) -> Result<Content<R::Expr, R::Pattern>, ResolveFault>
     ensures { Answers result
@@ -115,7 +115,7 @@ fn with_content<E: Drop, P: Drop>(
 pub(crate) fn function<R: Reader>(
     alloc: Global,
     reader: &R,
-    place: &Place,
+    place: &StaticContext,
     attributes: &[Attribute],
     kids: &[Node],
 ) -> Result<Part<R::Expr, R::Pattern>, ResolveFault>

@@ -11,9 +11,9 @@ use crate::parameters::{MOST_LEVELS, check_tunnel};
 use expr_names::ResolveFault;
 use sheet_bodies::read_bound;
 use sheet_modules::{GlobalPart, Part};
-use sheet_nodes::Node;
 use sheet_table::XslElement;
-use sheet_texts::{Place, Reader};
+use sheet_table::sheet_nodes::Node;
+use sheet_values::sheet_texts::{Reader, StaticContext};
 use std::alloc::Global;
 use xt_sheets::instrs::Bound;
 use xt_tree::Attribute;
@@ -35,7 +35,7 @@ fn global<E: Drop, P: Drop>(
 pub(crate) fn variable<R: Reader>(
     alloc: Global,
     reader: &R,
-    place: &Place,
+    place: &StaticContext,
     attributes: &[Attribute],
     kids: &[Node],
 ) -> Result<Part<R::Expr, R::Pattern>, ResolveFault>
@@ -59,7 +59,7 @@ pub(crate) fn variable<R: Reader>(
 pub(crate) fn parameter<R: Reader>(
     alloc: Global,
     reader: &R,
-    place: &Place,
+    place: &StaticContext,
     attributes: &[Attribute],
     kids: &[Node],
 ) -> Result<Part<R::Expr, R::Pattern>, ResolveFault>

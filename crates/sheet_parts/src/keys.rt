@@ -9,10 +9,10 @@ ghost use Rattle.sheet_parts.specs.Keys.{element_faults, element_value};
 use expr_names::ResolveFault;
 use sheet_bodies::sheet_heads::{needed_name, refuse_if};
 use sheet_modules::{KeyPart, Part};
-use sheet_nodes::{Node, check_none};
+use sheet_table::sheet_nodes::{Node, check_none};
 use sheet_table::{XslElement, attribute, check_attributes};
-use sheet_texts::{Place, Reader};
 use sheet_values::sheet_fault;
+use sheet_values::sheet_texts::{Reader, StaticContext};
 use std::alloc::{AllocError, Global};
 use std::collections::VecDeque;
 use xt_names::{ExprName, List, Shared, SheetStaticCode, Text};
@@ -21,7 +21,7 @@ use xt_tree::Attribute;
 fn key_use<R: Reader>(
     alloc: Global,
     reader: &R,
-    place: &Place,
+    place: &StaticContext,
     text: &Text,
 ) -> Result<Shared<R::Expr>, ResolveFault>
     ensures { Answers result (use_faults (R.reads reader.now) place.now text.now)
@@ -35,7 +35,7 @@ fn key_use<R: Reader>(
 fn needed_use<R: Reader>(
     alloc: Global,
     reader: &R,
-    place: &Place,
+    place: &StaticContext,
     attributes: &[Attribute],
 ) -> Result<Shared<R::Expr>, ResolveFault>
     ensures { Answers result
@@ -53,7 +53,7 @@ fn needed_use<R: Reader>(
 fn needed_patterns<R: Reader>(
     alloc: Global,
     reader: &R,
-    place: &Place,
+    place: &StaticContext,
     attributes: &[Attribute],
 ) -> Result<List<R::Pattern>, ResolveFault>
     ensures { Answers result
@@ -91,7 +91,7 @@ fn keys_of<E: Drop, P: Drop>(
 pub(crate) fn key<R: Reader>(
     alloc: Global,
     reader: &R,
-    place: &Place,
+    place: &StaticContext,
     attributes: &[Attribute],
     kids: &[Node],
 ) -> Result<Part<R::Expr, R::Pattern>, ResolveFault>

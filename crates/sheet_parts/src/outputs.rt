@@ -11,9 +11,9 @@ ghost use Rattle.sheet_parts.specs.Outputs.{space_faults, space_value, output_va
 
 use expr_names::ResolveFault;
 use sheet_modules::Part;
-use sheet_nodes::{Node, check_none};
+use sheet_table::sheet_nodes::{Node, check_none};
 use sheet_table::{XslElement, attribute, check_attributes};
-use sheet_texts::Place;
+use sheet_values::sheet_texts::StaticContext;
 use sheet_values::{name_tests, sheet_fault};
 use std::alloc::{AllocError, Global};
 use std::collections::VecDeque;
@@ -47,7 +47,7 @@ pub(crate) fn link<E, P>(
 
 fn needed_tests(
     alloc: Global,
-    place: &Place,
+    place: &StaticContext,
     attributes: &[Attribute],
 ) -> Result<List<NameTest>, ResolveFault>
     ensures { Answers result
@@ -80,7 +80,7 @@ fn space_rules(
 /// The rules of `xsl:strip-space`, or of `xsl:preserve-space` (XSLT 2.0, 4.4).
 pub(crate) fn space<E, P>(
     alloc: Global,
-    place: &Place,
+    place: &StaticContext,
     element: XslElement,
     strip: bool,
     attributes: &[Attribute],

@@ -1,10 +1,10 @@
-// Parameters of templates and functions, and the content behind them.
+// Parameters of templates and functions, and the content after them.
 ghost use Rattle.std.specs.Prelude.{◌≡◌, ◌++◌, List as Items};
 ghost use Rattle.expr_names.specs.Answers.{Answers};
 ghost use Rattle.xt_names.specs.declared.codes.Code.{Code};
 ghost use Rattle.xt_sheets.specs.declared.instrs.Instr.{Instr as AnyInstr};
-ghost use Rattle.sheet_nodes.specs.declared.nodes.Node.TheViews.{out-Node};
-ghost use Rattle.sheet_texts.specs.Places.{within};
+ghost use Rattle.sheet_table.specs.declared.sheet_nodes.nodes.Node.TheViews.{out-Node};
+ghost use Rattle.sheet_values.specs.SheetTexts.Places.{within};
 ghost use Rattle.sheet_parts.specs.Parameters.{tunnel_faults, param_faults, param_value};
 ghost use Rattle.sheet_parts.specs.Parameters.{argument_faults, argument_value};
 ghost use Rattle.sheet_parts.specs.Parameters.{param_layer_faults, param_layer_value};
@@ -16,9 +16,9 @@ ghost use Rattle.sheet_parts.specs.Parameters.{behind_faults, behind_value};
 use expr_names::ResolveFault;
 use sheet_bodies::sheet_heads::{check_repeats, is_yes, needed_name, optional_type, refuse_if};
 use sheet_bodies::{is_none, read_body, read_bound, with_item};
-use sheet_nodes::{Node, misplaced_node, split_front};
+use sheet_table::sheet_nodes::{Node, misplaced_node, split_front};
 use sheet_table::{Content as Contents, XslElement, check_attributes, has};
-use sheet_texts::{Place, Reader};
+use sheet_values::sheet_texts::{Reader, StaticContext};
 use std::alloc::Global;
 use xt_names::{Binding, List, SheetStaticCode};
 use xt_sheets::instrs::{Bound, Instr, Value};
@@ -27,7 +27,7 @@ use xt_tree::Attribute;
 /// How deep instructions may nest.
 pub(crate) const MOST_LEVELS: u32 = 40;
 
-/// Parameters, and the instructions behind them.
+/// Parameters, and the instructions after them.
 #[derive(Drop)]
 pub(crate) struct Content<E, P> {
     pub(crate) params: List<Bound<E, P>>,
@@ -44,7 +44,7 @@ pub(crate) fn check_tunnel(attributes: &[Attribute]) -> Result<(), ResolveFault>
 fn param<R: Reader>(
     alloc: Global,
     reader: &R,
-    place: &Place,
+    place: &StaticContext,
     own: &List<Binding>,
     attributes: &[Attribute],
     kids: &[Node],
@@ -68,7 +68,7 @@ fn param<R: Reader>(
 fn param_node<R: Reader>(
     alloc: Global,
     reader: &R,
-    place: &Place,
+    place: &StaticContext,
     node: &Node,
 ) -> Result<Bound<R::Expr, R::Pattern>, ResolveFault>
     ensures { Answers result
@@ -92,7 +92,7 @@ fn param_node<R: Reader>(
 pub(crate) fn params<R: Reader>(
     alloc: Global,
     reader: &R,
-    place: &Place,
+    place: &StaticContext,
     nodes: &[Node],
 ) -> Result<List<Bound<R::Expr, R::Pattern>>, ResolveFault>
     ensures { Answers result (params_faults (R.reads reader.now) place.now nodes.now)
@@ -111,7 +111,7 @@ pub(crate) fn params<R: Reader>(
 fn argument<R: Reader>(
     alloc: Global,
     reader: &R,
-    place: &Place,
+    place: &StaticContext,
     own: &List<Binding>,
     attributes: &[Attribute],
     kids: &[Node],
@@ -140,7 +140,7 @@ fn argument<R: Reader>(
 fn argument_node<R: Reader>(
     alloc: Global,
     reader: &R,
-    place: &Place,
+    place: &StaticContext,
     node: &Node,
 ) -> Result<Bound<R::Expr, R::Pattern>, ResolveFault>
     ensures { Answers result
@@ -164,7 +164,7 @@ fn argument_node<R: Reader>(
 pub(crate) fn arguments<R: Reader>(
     alloc: Global,
     reader: &R,
-    place: &Place,
+    place: &StaticContext,
     nodes: &[Node],
 ) -> Result<List<Bound<R::Expr, R::Pattern>>, ResolveFault>
     ensures { Answers result (arguments_faults (R.reads reader.now) place.now nodes.now)
@@ -206,11 +206,11 @@ fn with_body<E: Drop, P: Drop>(
     }
 }
 
-/// The parameters, of which no two have one name, and the instructions behind them.
+/// The parameters, of which no two have one name, and the instructions after them.
 pub(crate) fn with_behind<R: Reader>(
     alloc: Global,
     reader: &R,
-    place: &Place,
+    place: &StaticContext,
     params: List<Bound<R::Expr, R::Pattern>>,
     kids: &[Node],
 ) -> Result<Content<R::Expr, R::Pattern>, ResolveFault>

@@ -5,7 +5,7 @@ ghost use Rattle.xt_names.specs.declared.codes.Code.{Code};
 ghost use Rattle.xt_names.specs.declared.codes.SheetStaticCode.TheVariants.{XTSE0020};
 ghost use Rattle.sheet_table.specs.Attributes.{attribute};
 ghost use Rattle.sheet_bodies.specs.SheetHeads.Attributes.{optional_faults, optional_value};
-ghost use Rattle.sheet_texts.specs.Names.{number_of};
+ghost use Rattle.sheet_values.specs.SheetTexts.Names.{number_of};
 ghost use Rattle.sheet_values.specs.Names.{declared_faults, qname_value};
 ghost use Rattle.sheet_values.specs.Priorities.{priority_faults, priority_value};
 ghost use Rattle.sheet_modules.specs.declared.modules.Part.TheVariants.{Template};
@@ -22,9 +22,9 @@ use crate::parameters::{Content, params, with_behind};
 use expr_names::ResolveFault;
 use sheet_bodies::sheet_heads::{optional_type, refuse_if};
 use sheet_modules::{ModeSet, Part, RulePart, TemplatePart};
-use sheet_nodes::{Node, split_front};
+use sheet_table::sheet_nodes::{Node, split_front};
 use sheet_table::{Content as Contents, XslElement, attribute, check_attributes, has};
-use sheet_texts::{NameTable, Place, Reader};
+use sheet_values::sheet_texts::{NameTable, Reader, StaticContext};
 use sheet_values::{Modes, declared_name, mode_list, priority};
 use std::alloc::{AllocError, Global};
 use std::collections::VecDeque;
@@ -75,7 +75,11 @@ fn default_modes(alloc: Global) -> Result<Shared<List<u32>>, AllocError>
     Shared::make(alloc, made)
 }
 
-fn modes(alloc: Global, place: &Place, attributes: &[Attribute]) -> Result<ModeSet, ResolveFault>
+fn modes(
+    alloc: Global,
+    place: &StaticContext,
+    attributes: &[Attribute],
+) -> Result<ModeSet, ResolveFault>
     ensures { Answers result (modes_faults place.now (attribute attributes.now (codes "mode")))
         (modes_value place.now (attribute attributes.now (codes "mode"))) }
 {
@@ -94,7 +98,7 @@ fn modes(alloc: Global, place: &Place, attributes: &[Attribute]) -> Result<ModeS
 
 fn own_name(
     alloc: Global,
-    place: &Place,
+    place: &StaticContext,
     attributes: &[Attribute],
 ) -> Result<Option<ExprName>, ResolveFault>
     ensures { Answers result
@@ -126,7 +130,7 @@ fn own_priority(alloc: Global, attributes: &[Attribute]) -> Result<Option<i64>, 
 fn patterns<R: Reader>(
     alloc: Global,
     reader: &R,
-    place: &Place,
+    place: &StaticContext,
     attributes: &[Attribute],
 ) -> Result<Option<List<R::Pattern>>, ResolveFault>
     ensures { Answers result
@@ -208,7 +212,7 @@ fn check_use(attributes: &[Attribute]) -> Result<(), ResolveFault>
 fn rules<R: Reader>(
     alloc: Global,
     reader: &R,
-    place: &Place,
+    place: &StaticContext,
     attributes: &[Attribute],
 ) -> Result<List<RulePart<R::Pattern>>, ResolveFault>
     ensures { Answers result (rules_faults (R.reads reader.now) place.now attributes.now)
@@ -224,7 +228,7 @@ fn rules<R: Reader>(
 fn head<R: Reader>(
     alloc: Global,
     reader: &R,
-    place: &Place,
+    place: &StaticContext,
     attributes: &[Attribute],
 ) -> Result<TemplateHead<R::Pattern>, ResolveFault>
     ensures { Answers result (head_faults (R.reads reader.now) place.now attributes.now)
@@ -245,7 +249,7 @@ fn head<R: Reader>(
 fn content<R: Reader>(
     alloc: Global,
     reader: &R,
-    place: &Place,
+    place: &StaticContext,
     kids: &[Node],
 ) -> Result<Content<R::Expr, R::Pattern>, ResolveFault>
     ensures { Answers result
@@ -300,7 +304,7 @@ fn with_content<E: Drop, P: Drop>(
 pub(crate) fn template<R: Reader>(
     alloc: Global,
     reader: &R,
-    place: &Place,
+    place: &StaticContext,
     attributes: &[Attribute],
     kids: &[Node],
 ) -> Result<Part<R::Expr, R::Pattern>, ResolveFault>

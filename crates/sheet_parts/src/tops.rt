@@ -1,7 +1,7 @@
-// What stands at the top of a stylesheet.
+// What is at the top of a stylesheet.
 ghost use Rattle.expr_names.specs.Answers.{Answers};
 ghost use Rattle.sheet_table.specs.Elements.{xsl_element};
-ghost use Rattle.sheet_texts.specs.Places.{within};
+ghost use Rattle.sheet_values.specs.SheetTexts.Places.{within};
 ghost use Rattle.sheet_parts.specs.Tops.{declaration_faults, declaration_value};
 ghost use Rattle.sheet_parts.specs.Tops.{xsl_faults, xsl_value, any_faults, any_value};
 ghost use Rattle.sheet_parts.specs.Tops.{top_faults, top_value};
@@ -14,18 +14,18 @@ use crate::templates::template;
 use expr_names::ResolveFault;
 use sheet_bodies::sheet_heads::refuse_if;
 use sheet_modules::Part;
-use sheet_nodes::Node;
-use sheet_table::{XslElement, is_in_xslt, misplaced, xsl_element};
-use sheet_texts::{Place, Reader};
+use sheet_table::sheet_nodes::Node;
+use sheet_table::{XslElement, misplaced, xsl_element};
 use sheet_values::sheet_fault;
+use sheet_values::sheet_texts::{Reader, StaticContext};
 use std::alloc::Global;
-use xt_names::{Binding, List, Name, SheetStaticCode};
+use xt_names::{Binding, List, Name, SheetStaticCode, is_in_xslt};
 use xt_tree::Attribute;
 
 fn declaration<R: Reader>(
     alloc: Global,
     reader: &R,
-    place: &Place,
+    place: &StaticContext,
     element: XslElement,
     attributes: &[Attribute],
     kids: &[Node],
@@ -61,7 +61,7 @@ fn declaration<R: Reader>(
 fn xsl_part<R: Reader>(
     alloc: Global,
     reader: &R,
-    place: &Place,
+    place: &StaticContext,
     name: &Name,
     attributes: &[Attribute],
     kids: &[Node],
@@ -80,7 +80,7 @@ fn xsl_part<R: Reader>(
 fn element_part<R: Reader>(
     alloc: Global,
     reader: &R,
-    place: &Place,
+    place: &StaticContext,
     own: &List<Binding>,
     name: &Name,
     attributes: &[Attribute],
@@ -102,12 +102,12 @@ fn element_part<R: Reader>(
 
 /// What a child of the root declares (XSLT 2.0, 3.6.2). XTSE0120 comes of a text, XTSE0130 of an
 /// element without namespace, XTUN0001 of an element of XSLT that is left out, and XTSE0010 of
-/// another one that may not stand there; else the code is that of the first rule that the
+/// another one that may not be there; else the code is that of the first rule that the
 /// declaration breaks.
 pub fn part<R: Reader>(
     alloc: Global,
     reader: &R,
-    place: &Place,
+    place: &StaticContext,
     node: &Node,
 ) -> Result<Part<R::Expr, R::Pattern>, ResolveFault>
     ensures { Answers result (top_faults (R.reads reader.now) place.now node.now)

@@ -7,7 +7,8 @@ use Rattle.xt_tree.specs.declared.trees.Tree.{Tree}
 use Rattle.xt_tree.specs.declared.trees.Tree.TheVariants.{Doc, Elem, Text, Comment, Pi, Attr}
 use Rattle.xt_tree.specs.Forest.{Forest}
 use Rattle.xt_tree.specs.White.{is_white_text}
-use Rattle.sheet_meaning.specs.First.{is_in_xslt, is_named_apply_templates, is_no_attribute, is_blank, is_content, is_template, is_stylesheet}
+use Rattle.sheet_meaning.specs.First.{is_named_apply_templates, is_no_attribute, is_blank, is_content, is_template, is_stylesheet}
+use Rattle.xt_names.specs.Names.{is_in_xslt}
 
 abbrev pub is_blank_part : Tree → Bool
 is_blank_part (Doc kids) = false

@@ -2,8 +2,7 @@
 ghost use Rattle.std.specs.Prelude.{◌≡◌};
 ghost use Rattle.sheet_meaning.specs.First.{is_named_stylesheet, is_named_template, is_named_apply_templates};
 
-use sheet_meaning::is_in_xslt;
-use xt_names::{Name, is_ascii_text};
+use xt_names::{Name, is_ascii_text, is_in_xslt};
 
 /// Whether it is the name xsl:stylesheet.
 #[tactic(auto, unfolding(sheet_meaning::specs::First::is_named_stylesheet))]

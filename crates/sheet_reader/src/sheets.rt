@@ -6,8 +6,7 @@ ghost use Rattle.sheet_reader.specs.Parts.{is_root_part, is_declaration, is_inst
 
 use crate::attributes::{is_match, is_none, is_version};
 use crate::names;
-use sheet_meaning::is_in_xslt;
-use xt_names::Name;
+use xt_names::{Name, is_in_xslt};
 use xt_tree::{Attribute, Tree, is_white};
 
 /// How many literal elements may be nested in a template.

@@ -1,0 +1,2 @@
+pub mod SheetDeclarations
+pub mod WideRules

@@ -1,4 +1,6 @@
 pub mod Names
 pub mod Uses
 pub mod Rules
-pub use Rattle.sheet_names.specs as SheetNames
+pub mod SheetDeclarations
+pub mod WideRules
+pub use Rattle.sheet_expressions.specs as SheetExpressions

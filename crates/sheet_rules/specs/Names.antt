@@ -9,11 +9,11 @@ use Rattle.name_rules.specs.Scopes.{has_name, with_names, with_function}
 use Rattle.sheet_modules.specs.declared.modules.Part.{Part}
 use Rattle.sheet_modules.specs.declared.modules.Part.TheVariants as part
 use Rattle.sheet_modules.specs.declared.modules.KeyPart.{KeyPart}
-use Rattle.sheet_declarations.specs.declared.lists.Declaration.{Declaration}
-use Rattle.sheet_declarations.specs.Counts.{global_name}
-use Rattle.sheet_names.specs.SheetExpressions.Keys.{braced}
-use Rattle.sheet_names.specs.declared.names.Names.{Names}
-use Rattle.sheet_names.specs.Names.{as_name}
+use Rattle.sheet_rules.specs.declared.sheet_declarations.lists.Declaration.{Declaration}
+use Rattle.sheet_rules.specs.SheetDeclarations.Counts.{global_name}
+use Rattle.sheet_expressions.specs.Keys.{braced}
+use Rattle.sheet_expressions.specs.declared.sheet_names.names.Names.{Names}
+use Rattle.sheet_expressions.specs.SheetNames.Names.{as_name}
 
 abbrev pub if_name : Option ExprName → List ExprName → List ExprName
 if_name None names = names

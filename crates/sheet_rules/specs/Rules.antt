@@ -6,13 +6,13 @@ use Rattle.xt_names.specs.declared.codes.SheetStaticCode.TheVariants.{XTSE1560}
 use Rattle.xt_syntax.specs.declared.exprs.Expr.{Expr}
 use Rattle.xt_syntax.specs.declared.patterns.Pattern.{Pattern}
 use Rattle.name_rules.specs.Scopes.{with_names}
-use Rattle.sheet_declarations.specs.declared.lists.Declaration.{Declaration}
-use Rattle.sheet_names.specs.Uses.{broken_uses}
-use Rattle.wide_rules.specs.declared.passing.Parameters.{Parameters}
-use Rattle.wide_rules.specs.Doubles.{doubles_of, double_codes, code_if}
-use Rattle.wide_rules.specs.Outputs.{outputs_differ}
-use Rattle.wide_rules.specs.Passing.{broken_passings}
-use Rattle.key_calls.specs.Called.{called_codes}
+use Rattle.sheet_rules.specs.declared.sheet_declarations.lists.Declaration.{Declaration}
+use Rattle.sheet_expressions.specs.SheetNames.Uses.{broken_uses}
+use Rattle.sheet_rules.specs.declared.wide_rules.passing.Parameters.{Parameters}
+use Rattle.sheet_rules.specs.WideRules.Doubles.{doubles_of, double_codes, code_if}
+use Rattle.sheet_rules.specs.WideRules.Outputs.{outputs_differ}
+use Rattle.sheet_rules.specs.WideRules.Passing.{broken_passings}
+use Rattle.sheet_uses.specs.KeyCalls.Called.{called_codes}
 use Rattle.sheet_rules.specs.Names.{names_of, template_names, with_functions, missing_codes}
 use Rattle.sheet_rules.specs.Uses.{declared_uses, declared_keys}
 

@@ -5,10 +5,10 @@ use Rattle.xt_syntax.specs.declared.patterns.Pattern.{Pattern}
 use Rattle.sheet_modules.specs.declared.modules.Part.{Part}
 use Rattle.sheet_modules.specs.declared.modules.Part.TheVariants as part
 use Rattle.sheet_modules.specs.declared.modules.KeyPart.{KeyPart}
-use Rattle.sheet_declarations.specs.declared.lists.Declaration.{Declaration}
+use Rattle.sheet_rules.specs.declared.sheet_declarations.lists.Declaration.{Declaration}
 use Rattle.sheet_uses.specs.Exprs.{Finds, nothing, all_in, expr_uses}
 use Rattle.sheet_uses.specs.Bodies.{bound_uses, callee_uses}
-use Rattle.key_calls.specs.Bodies.{bound_keys, callee_keys}
+use Rattle.sheet_uses.specs.KeyCalls.Bodies.{bound_keys, callee_keys}
 
 abbrev pub use_of_key : KeyPart Expr Pattern → Finds
 use_of_key k = (expr_uses k.key).finds

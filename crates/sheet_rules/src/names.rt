@@ -1,26 +1,26 @@
 // What a stylesheet declares by names.
 ghost use Rattle.std.specs.Prelude.{◌≡◌, ◌++◌, [], map, IfOk, OnOk};
 ghost use Rattle.name_rules.specs.Scopes.{with_name, with_names};
-ghost use Rattle.sheet_names.specs.Names.{as_name};
-ghost use Rattle.sheet_names.specs.SheetExpressions.Keys.{braced};
+ghost use Rattle.sheet_expressions.specs.SheetNames.Names.{as_name};
+ghost use Rattle.sheet_expressions.specs.Keys.{braced};
 ghost use Rattle.sheet_rules.specs.Names.{global_names, template_names, with_functions, with_keys};
 ghost use Rattle.sheet_rules.specs.Names.{with_function_of, with_keys_of, key_name, names_of};
 ghost use Rattle.sheet_rules.specs.Names.{missing_codes};
 
-use name_rules::{Functions, Scope};
-use sheet_declarations::Declaration;
+use crate::sheet_declarations::Declaration;
+use name_rules::{Functions, VariableScope};
+use sheet_expressions::sheet_names::{Names, with_key};
 use sheet_modules::{KeyPart, Part};
-use sheet_names::{Names, with_key};
 use std::alloc::{AllocError, Global};
 use xt_names::{Code, ExprName, List, SheetStaticCode};
 
 fn variables_of<E, P>(
     alloc: Global,
     declarations: &[Declaration<E, P>],
-) -> Result<Scope, AllocError>
+) -> Result<VariableScope, AllocError>
     ensures { IfOk result (λ scope. scope ≡ with_names [] (global_names declarations.now)) }
 {
-    let mut scope = Scope::new(alloc)?;
+    let mut scope = VariableScope::new(alloc)?;
     for one in declarations {
         if let Part::Global(global) = one.part.get() {
             scope = scope.with(global.bound.name.copy()?)?;
@@ -32,10 +32,10 @@ fn variables_of<E, P>(
 fn templates_of<E, P>(
     alloc: Global,
     declarations: &[Declaration<E, P>],
-) -> Result<Scope, AllocError>
+) -> Result<VariableScope, AllocError>
     ensures { IfOk result (λ scope. scope ≡ with_names [] (template_names declarations.now)) }
 {
-    let mut scope = Scope::new(alloc)?;
+    let mut scope = VariableScope::new(alloc)?;
     for one in declarations {
         if let Part::Template(template, _) = one.part.get()
             && let Some(name) = &template.name
@@ -63,9 +63,9 @@ fn functions_of<E, P>(
 
 fn with_all_keys<E, P>(
     alloc: Global,
-    scope: Scope,
+    scope: VariableScope,
     keys: &[KeyPart<E, P>],
-) -> Result<Scope, AllocError>
+) -> Result<VariableScope, AllocError>
     ensures { IfOk result (λ all. all ≡ with_names scope (map key_name keys.now)) }
 {
     let mut all = scope;
@@ -75,10 +75,13 @@ fn with_all_keys<E, P>(
     Ok(all)
 }
 
-fn keys_of<E, P>(alloc: Global, declarations: &[Declaration<E, P>]) -> Result<Scope, AllocError>
+fn keys_of<E, P>(
+    alloc: Global,
+    declarations: &[Declaration<E, P>],
+) -> Result<VariableScope, AllocError>
     ensures { IfOk result (λ scope. scope ≡ with_keys [] declarations.now) }
 {
-    let mut scope = Scope::new(alloc)?;
+    let mut scope = VariableScope::new(alloc)?;
     for one in declarations {
         if let Part::Key(keys) = one.part.get() {
             scope = with_all_keys(alloc, scope, keys.as_slice())?;
@@ -104,7 +107,7 @@ pub fn names_of<E, P>(
     })
 }
 
-/// Puts XTSE0650 behind the codes for each of these names that no template has (XSLT 2.0, 10.1).
+/// Puts XTSE0650 after the codes for each of these names that no template has (XSLT 2.0, 10.1).
 pub fn push_missing<E, P>(
     alloc: Global,
     called: &[ExprName],
@@ -119,7 +122,7 @@ pub fn push_missing<E, P>(
 }
 
 fn push_missing_of(
-    declared: &Scope,
+    declared: &VariableScope,
     called: &[ExprName],
     codes: &mut List<Code>,
 ) -> Result<(), AllocError>

@@ -3,16 +3,16 @@ ghost use Rattle.std.specs.Prelude.{◌≡◌, ◌++◌, OnOk};
 ghost use Rattle.sheet_rules.specs.Rules.{broken_rules};
 
 use crate::names::{names_of, push_missing};
+use crate::sheet_declarations::Declaration;
 use crate::uses::{key_uses_of, uses_of};
-use key_calls::push_called;
-use sheet_declarations::Declaration;
-use sheet_names::push_broken_uses;
+use crate::wide_rules::{Parameters, push_broken_passing, push_doubles, push_outputs};
+use sheet_expressions::sheet_names::push_broken_uses;
+use sheet_uses::key_calls::push_called;
 use std::alloc::{AllocError, Global};
-use wide_rules::{Parameters, push_broken_passing, push_doubles, push_outputs};
 use xt_names::{Code, ExprName, List};
 use xt_syntax::{Expr, Pattern};
 
-/// Puts the codes of the rules that the declarations break together behind the others: XPST0008,
+/// Puts the codes of the rules that the declarations break together after the others: XPST0008,
 /// XPST0017 and XTDE1260 of names that are not declared, XTSE0650 of each name in `called` that no
 /// template has, XTSE0630, XTSE0660 and XTSE0770 of what stands twice at one precedence, XTSE0680
 /// and XTSE0690 of calls of the templates that have these parameters, by their numbers, XTUN0001

@@ -4,10 +4,10 @@ ghost use Rattle.sheet_uses.specs.Exprs.{all_in};
 ghost use Rattle.sheet_rules.specs.Uses.{use_of_key, part_uses, part_keys};
 ghost use Rattle.sheet_rules.specs.Uses.{declared_uses, declared_keys};
 
-use key_calls::{push_bound_keys, push_callee_keys};
-use name_rules::Scope;
-use sheet_declarations::Declaration;
+use crate::sheet_declarations::Declaration;
+use name_rules::VariableScope;
 use sheet_modules::{KeyPart, Part};
+use sheet_uses::key_calls::{push_bound_keys, push_callee_keys};
 use sheet_uses::{Use, push_bound_uses, push_callee_uses, push_expr_uses};
 use std::alloc::{AllocError, Global};
 use xt_names::List;
@@ -15,7 +15,7 @@ use xt_syntax::{Expr, Pattern};
 
 fn push_keys(
     keys: &[KeyPart<Expr, Pattern>],
-    scope: &Scope,
+    scope: &VariableScope,
     found: &mut List<Use>,
 ) -> Result<(), AllocError>
     ensures { OnOk result (found.new ≡ all_in (map use_of_key keys.now) scope.now found.old) }
@@ -28,7 +28,7 @@ fn push_keys(
 
 fn push_part_uses(
     part: &Part<Expr, Pattern>,
-    scope: &Scope,
+    scope: &VariableScope,
     found: &mut List<Use>,
 ) -> Result<(), AllocError>
     ensures { OnOk result (found.new ≡ part_uses part.now scope.now found.old) }
@@ -55,7 +55,7 @@ pub fn uses_of(
 ) -> Result<List<Use>, AllocError>
     ensures { IfOk result (λ uses. uses ≡ declared_uses declarations.now [] []) }
 {
-    let scope = Scope::new(alloc)?;
+    let scope = VariableScope::new(alloc)?;
     let mut found = List::new(alloc);
     push_uses(declarations, &scope, &mut found)?;
     Ok(found)
@@ -63,7 +63,7 @@ pub fn uses_of(
 
 fn push_uses(
     declarations: &[Declaration<Expr, Pattern>],
-    scope: &Scope,
+    scope: &VariableScope,
     found: &mut List<Use>,
 ) -> Result<(), AllocError>
     ensures { OnOk result (found.new ≡ declared_uses declarations.now scope.now found.old) }
@@ -76,7 +76,7 @@ fn push_uses(
 
 fn push_part_keys(
     part: &Part<Expr, Pattern>,
-    scope: &Scope,
+    scope: &VariableScope,
     found: &mut List<Use>,
 ) -> Result<(), AllocError>
     ensures { OnOk result (found.new ≡ part_keys part.now scope.now found.old) }
@@ -104,7 +104,7 @@ pub fn key_uses_of(
 ) -> Result<List<Use>, AllocError>
     ensures { IfOk result (λ uses. uses ≡ declared_keys declarations.now [] []) }
 {
-    let scope = Scope::new(alloc)?;
+    let scope = VariableScope::new(alloc)?;
     let mut found = List::new(alloc);
     push_key_uses(declarations, &scope, &mut found)?;
     Ok(found)
@@ -112,7 +112,7 @@ pub fn key_uses_of(
 
 fn push_key_uses(
     declarations: &[Declaration<Expr, Pattern>],
-    scope: &Scope,
+    scope: &VariableScope,
     found: &mut List<Use>,
 ) -> Result<(), AllocError>
     ensures { OnOk result (found.new ≡ declared_keys declarations.now scope.now found.old) }

@@ -1,2 +1,3 @@
 pub mod Firsts
 pub mod Turns
+pub mod SheetNodes

@@ -1,14 +1,9 @@
 -- The attributes of one element.
-use Rattle.std.specs.Prelude.{ℕ, List, [], ◌∷◌, Bool, ◌&&◌, Option, Some, None, if◌then◌else◌, codes}
+use Rattle.std.specs.Prelude.{ℕ, List, [], ◌∷◌, Bool, ◌&&◌, Option, Some, None, if◌then◌else◌}
 use Rattle.std.specs.List.{list_any}
 use Rattle.std.specs.Str.{bytes_eq}
 use Rattle.xt_names.specs.Allowed.{is_empty_text}
-use Rattle.xt_names.specs.declared.names.Name.{Name}
 use Rattle.xt_tree.specs.declared.attributes.Attribute.{Attribute}
-
--- the namespace of XSLT (3.1)
-unfoldable pub is_in_xslt : Name → Bool
-is_in_xslt name = bytes_eq name.uri (codes "http://www.w3.org/1999/XSL/Transform")
 
 abbrev pub is_named : List ℕ → Attribute → Bool
 is_named local a = is_empty_text a.name.uri && bytes_eq a.name.local local

@@ -41,7 +41,7 @@ content_of element.Copy = content.Body
 content_of element.CopyOf = content.Nothing
 content_of element.Sequence = content.Nothing
 
--- the child may stand at the front of such content, before what else it holds
+-- the child may be at the front of such content, before what else it holds
 abbrev pub leads : Content → Option XslElement → Bool
 leads content.Params (Some element.Param) = true
 leads content.Sorts (Some element.Sort) = true
@@ -51,7 +51,7 @@ leads content.SortsAndPassed (Some element.WithParam) = true
 leads content.Whens (Some element.When) = true
 leads c child = false
 
--- a sequence constructor stands behind that front
+-- a sequence constructor comes after that front
 abbrev pub holds_body : Content → Bool
 holds_body content.Body = true
 holds_body content.Params = true

@@ -6,8 +6,8 @@ use Rattle.xt_names.specs.declared.codes.SheetStaticCode.{SheetStaticCode}
 use Rattle.xt_names.specs.declared.codes.SheetStaticCode.TheVariants.{XTSE0010, XTUN0001}
 use Rattle.sheet_table.specs.declared.elements.XslElement.{XslElement}
 use Rattle.sheet_table.specs.declared.elements.XslElement.TheVariants as element
-use Rattle.sheet_table.specs.Attributes.{is_in_xslt}
 use Rattle.sheet_table.specs.Texts.{Named, named, is_one_of}
+use Rattle.xt_names.specs.Names.{is_in_xslt}
 
 -- the elements that the product reads
 abbrev pub elements : List Named

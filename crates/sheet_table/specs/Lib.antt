@@ -7,4 +7,5 @@ pub mod Choices
 pub mod ChoicesOfCode
 pub mod Contents
 pub mod Rules
+pub mod SheetNodes
 pub use Rattle.expr_names.specs as ExprNames

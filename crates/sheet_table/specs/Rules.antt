@@ -9,10 +9,11 @@ use Rattle.xt_names.specs.declared.codes.SheetStaticCode.{SheetStaticCode}
 use Rattle.xt_names.specs.declared.codes.SheetStaticCode.TheVariants.{XTSE0010, XTSE0090, XTUN0001}
 use Rattle.xt_tree.specs.declared.attributes.Attribute.{Attribute}
 use Rattle.sheet_table.specs.declared.elements.XslElement.{XslElement}
-use Rattle.sheet_table.specs.Attributes.{is_in_xslt, attribute, has}
+use Rattle.sheet_table.specs.Attributes.{attribute, has}
 use Rattle.sheet_table.specs.Texts.{is_one_of}
 use Rattle.sheet_table.specs.Rows.{Row, row_of, left_out_everywhere}
 use Rattle.sheet_table.specs.Choices.{Choice, choices_of}
+use Rattle.xt_names.specs.Names.{is_in_xslt}
 
 -- a rule: its code where it is broken
 abbrev pub broken : SheetStaticCode → Bool → List Code

@@ -1,19 +1,11 @@
 // The attributes of one element.
 ghost use Rattle.std.specs.Prelude.{◌≡◌, IsTrue};
 ghost use Rattle.std.specs.Option.{option_copied};
-ghost use Rattle.sheet_table.specs.Attributes.{attribute, has, is_in_xslt};
+ghost use Rattle.sheet_table.specs.Attributes.{attribute, has};
 ghost use Rattle.sheet_table.specs.Texts.{is_ascii};
 
-use xt_names::{Name, Text, is_ascii_text};
+use xt_names::{Text, is_ascii_text};
 use xt_tree::Attribute;
-
-/// Whether the name is in the namespace of XSLT (XSLT 2.0, 3.1).
-#[tactic(auto, unfolding(crate::specs::Attributes::is_in_xslt))]
-pub fn is_in_xslt(name: &Name) -> bool
-    ensures { result ≡ is_in_xslt name.now }
-{
-    is_ascii_text(name.uri.as_str(), "http://www.w3.org/1999/XSL/Transform")
-}
 
 /// The value of the attribute without uri that has this local name (XSLT 2.0, 2.2).
 pub fn attribute<'a>(attributes: &'a [Attribute], local: &str) -> Option<&'a Text>

@@ -65,7 +65,7 @@ pub fn content_of(element: XslElement) -> Content
     }
 }
 
-/// Whether the child may stand at the front of such content, before what else it holds (XSLT 2.0,
+/// Whether the child may be at the front of such content, before what else it holds (XSLT 2.0,
 /// appendix D).
 pub fn leads(content: Content, child: Option<XslElement>) -> bool
     ensures { result ≡ leads content child }
@@ -81,7 +81,7 @@ pub fn leads(content: Content, child: Option<XslElement>) -> bool
     }
 }
 
-/// Whether a sequence constructor stands behind that front (XSLT 2.0, 5.7).
+/// Whether a sequence constructor comes after that front (XSLT 2.0, 5.7).
 pub fn holds_body(content: Content) -> bool
     ensures { result ≡ holds_body content }
 {

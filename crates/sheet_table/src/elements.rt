@@ -6,9 +6,8 @@ ghost use Rattle.sheet_table.specs.Elements.{elements, element_in, element_named
 ghost use Rattle.sheet_table.specs.Elements.{left_out_elements, is_left_out_element, misplaced};
 ghost use Rattle.sheet_table.specs.Texts.{are_ascii, entries_as, are_ascii_entries};
 
-use crate::attributes::is_in_xslt;
 use crate::texts::is_one_of;
-use xt_names::{Code, Name, SheetStaticCode, is_ascii_text};
+use xt_names::{Code, Name, SheetStaticCode, is_ascii_text, is_in_xslt};
 
 /// An element of the namespace of XSLT (XSLT 2.0, appendix D).
 #[derive(Clone, Copy, PartialEq, Eq, Debug)]

@@ -16,9 +16,10 @@ mod contents;
 mod elements;
 mod rows;
 mod rules;
+pub mod sheet_nodes;
 mod texts;
 
-pub use attributes::{attribute, has, is_in_xslt};
+pub use attributes::{attribute, has};
 pub use contents::{Content, content_of, holds_body, leads};
 pub use elements::{XslElement, is_left_out_element, misplaced, xsl_element};
 pub use expr_names;

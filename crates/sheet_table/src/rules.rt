@@ -14,13 +14,13 @@ ghost use Rattle.sheet_table.specs.Rules.{name_faults, missing_faults, value_fau
 ghost use Rattle.sheet_table.specs.Rules.{literal_faults, literal_attribute_faults};
 ghost use Rattle.xt_names.specs.declared.codes.Code.TheVariants.{SheetStatic};
 
-use crate::attributes::{attribute, has, is_in_xslt};
+use crate::attributes::{attribute, has};
 use crate::choices::{Choice, choices_of};
 use crate::elements::XslElement;
 use crate::rows::{Row, left_out_everywhere, row_of};
 use crate::texts::is_one_of;
 use expr_names::ResolveFault;
-use xt_names::{Code, SheetStaticCode, is_ascii_text};
+use xt_names::{Code, SheetStaticCode, is_ascii_text, is_in_xslt};
 use xt_tree::Attribute;
 
 #[tactic(auto, unfolding(crate::specs::Rules::preserves_space))]

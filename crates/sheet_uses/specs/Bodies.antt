@@ -30,7 +30,7 @@ pub record BoundFound : Type 0 where
   pub tunnel : Bool
   pub source : Finds
 
--- an instruction binds the variable of xsl:variable for those behind it
+-- an instruction binds the variable of xsl:variable for those after it
 abbrev pub uses : Kinds
 uses = record { Instrs = Binder; Values = Finds; Bounds = BoundFound; Whens = Finds }
 
@@ -125,7 +125,7 @@ when_uses = when_gives uses use_steps
 abbrev pub body_uses : List (Instr Expr Pattern) → Finds
 body_uses all = binders_in (map instr_uses all)
 
--- a parameter, which those behind it see
+-- a parameter, which those after it see
 abbrev pub param_uses : Bound Expr Pattern → Binder
 param_uses b = record { names = (bound_uses b).name ∷ []; source = (bound_uses b).source }
 

@@ -20,7 +20,7 @@ use Rattle.name_rules.specs.Scopes.{has_name, with_names}
 use Rattle.sheet_uses.specs.declared.uses.Use.{Use}
 use Rattle.sheet_uses.specs.declared.uses.Use.TheVariants as use_of
 
--- what a part uses, in reading order, put behind what was found before it; the names are those of
+-- what a part uses, in reading order, put after what was found before it; the names are those of
 -- the variables that are bound around the part within the whole, and are not told
 abbrev pub Finds : Type 0
 Finds = List ExprName → List Use → List Use
@@ -68,7 +68,7 @@ binders_in [] scope found = found
 binders_in (b ∷ bs) scope found =
     binders_in bs (with_names scope b.names) (b.source scope found)
 
--- the variables that are bound behind what binds
+-- the variables that are bound after what binds
 abbrev pub behind : List Binder → List ExprName → List ExprName
 behind [] scope = scope
 behind (b ∷ bs) scope = behind bs (with_names scope b.names)
@@ -136,7 +136,7 @@ abbrev pub clause_layer : ClauseLayer uses → Binder
 clause_layer (For bind place) = bind
 clause_layer (Let bind) = bind
 
--- no constructor, `where` or order stands in XPath, so nothing is looked for in them
+-- no constructor, `where` or order is in XPath, so nothing is looked for in them
 abbrev pub use_steps : Steps uses
 use_steps = record {
   of_expr = expr_layer;

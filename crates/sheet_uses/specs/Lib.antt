@@ -1,3 +1,4 @@
 pub mod Bodies
 pub mod Exprs
 pub mod Values
+pub mod KeyCalls

@@ -11,13 +11,13 @@ use crate::uses::Use;
 use crate::values::{
     push_attributes, push_grouping, push_if_expr, push_if_template, push_sorts, push_template,
 };
-use name_rules::Scope;
+use name_rules::VariableScope;
 use std::alloc::{AllocError, Global};
 use xt_names::{ExprName, List};
 use xt_sheets::{Bound, Instr, Value, When};
 
-/// The scope with the variable that the instruction binds for those behind it.
-fn with_instr(scope: Scope, instr: &Instr) -> Result<Scope, AllocError>
+/// The scope with the variable that the instruction binds for those after it.
+fn with_instr(scope: VariableScope, instr: &Instr) -> Result<VariableScope, AllocError>
     ensures { IfOk result (λ inner. inner ≡ with_names scope (instr_uses instr.now).names) }
 {
     match instr {
@@ -58,7 +58,7 @@ fn ordinary_names(alloc: Global, params: &[Bound]) -> Result<List<ExprName>, All
     Ok(names)
 }
 
-/// Puts the call of the template behind the others.
+/// Puts the call of the template after the others.
 fn push_call(number: u32, params: &[Bound], found: &mut List<Use>) -> Result<(), AllocError>
     ensures { OnOk result (found.new
         ≡ found.old ++ Template number (ordinary (map bound_uses params.now)) ∷ []) }
@@ -68,7 +68,7 @@ fn push_call(number: u32, params: &[Bound], found: &mut List<Use>) -> Result<(),
 }
 
 #[cycle(uses)]
-fn push_instr(instr: &Instr, scope: &Scope, found: &mut List<Use>) -> Result<(), AllocError>
+fn push_instr(instr: &Instr, scope: &VariableScope, found: &mut List<Use>) -> Result<(), AllocError>
     ensures { OnOk result (found.new ≡ (instr_uses instr.now).source scope.now found.old) }
 {
     match instr {
@@ -146,11 +146,15 @@ fn push_instr(instr: &Instr, scope: &Scope, found: &mut List<Use>) -> Result<(),
     }
 }
 
-/// Puts what the sequence constructor uses behind the others, in reading order (XSLT 2.0, 5.7):
+/// Puts what the sequence constructor uses after the others, in reading order (XSLT 2.0, 5.7):
 /// variables but for those in the scope and those that it binds itself, calls of functions and of
 /// templates, and the modes in which templates are applied.
 #[cycle(uses)]
-pub fn push_body_uses(all: &[Instr], scope: &Scope, found: &mut List<Use>) -> Result<(), AllocError>
+pub fn push_body_uses(
+    all: &[Instr],
+    scope: &VariableScope,
+    found: &mut List<Use>,
+) -> Result<(), AllocError>
     ensures { OnOk result (found.new ≡ body_uses all.now scope.now found.old) }
 {
     let mut inner = scope.inside()?;
@@ -162,7 +166,7 @@ pub fn push_body_uses(all: &[Instr], scope: &Scope, found: &mut List<Use>) -> Re
 }
 
 #[cycle(uses)]
-fn push_whens(all: &[When], scope: &Scope, found: &mut List<Use>) -> Result<(), AllocError>
+fn push_whens(all: &[When], scope: &VariableScope, found: &mut List<Use>) -> Result<(), AllocError>
     ensures { OnOk result (found.new ≡ all_in (map when_uses all.now) scope.now found.old) }
 {
     for when in all {
@@ -172,7 +176,7 @@ fn push_whens(all: &[When], scope: &Scope, found: &mut List<Use>) -> Result<(), 
 }
 
 #[cycle(uses)]
-fn push_when(when: &When, scope: &Scope, found: &mut List<Use>) -> Result<(), AllocError>
+fn push_when(when: &When, scope: &VariableScope, found: &mut List<Use>) -> Result<(), AllocError>
     ensures { OnOk result (found.new ≡ when_uses when.now scope.now found.old) }
 {
     push_expr_uses(when.test.get(), scope, found)?;
@@ -180,7 +184,11 @@ fn push_when(when: &When, scope: &Scope, found: &mut List<Use>) -> Result<(), Al
 }
 
 #[cycle(uses)]
-fn push_bounds(all: &[Bound], scope: &Scope, found: &mut List<Use>) -> Result<(), AllocError>
+fn push_bounds(
+    all: &[Bound],
+    scope: &VariableScope,
+    found: &mut List<Use>,
+) -> Result<(), AllocError>
     ensures { OnOk result (found.new ≡ sources_in (map bound_uses all.now) scope.now found.old) }
 {
     for bound in all {
@@ -189,11 +197,11 @@ fn push_bounds(all: &[Bound], scope: &Scope, found: &mut List<Use>) -> Result<()
     Ok(())
 }
 
-/// Puts what the value of the variable or parameter uses behind the others (XSLT 2.0, 9.3).
+/// Puts what the value of the variable or parameter uses after the others (XSLT 2.0, 9.3).
 #[cycle(uses)]
 pub fn push_bound_uses(
     bound: &Bound,
-    scope: &Scope,
+    scope: &VariableScope,
     found: &mut List<Use>,
 ) -> Result<(), AllocError>
     ensures { OnOk result (found.new ≡ (bound_uses bound.now).source scope.now found.old) }
@@ -202,7 +210,7 @@ pub fn push_bound_uses(
 }
 
 #[cycle(uses)]
-fn push_value(value: &Value, scope: &Scope, found: &mut List<Use>) -> Result<(), AllocError>
+fn push_value(value: &Value, scope: &VariableScope, found: &mut List<Use>) -> Result<(), AllocError>
     ensures { OnOk result (found.new ≡ value_uses value.now scope.now found.old) }
 {
     match value {

@@ -5,16 +5,20 @@ ghost use Rattle.sheet_uses.specs.Exprs.{flwor_uses, all_found, all_in, binders_
 
 use crate::leaves::{push_call, push_variable, with_bind, with_clause};
 use crate::uses::Use;
-use name_rules::Scope;
+use name_rules::VariableScope;
 use std::alloc::AllocError;
 use xt_names::List;
 use xt_syntax::{Arm, Bind, Clause, Expr, Flwor};
 
-/// Puts what the expression uses behind the others, in reading order: variables but for those in
+/// Puts what the expression uses after the others, in reading order: variables but for those in
 /// the scope and those that it binds itself (XPath 2.0, 3.1.2, 3.7 and 3.9), and all its calls of
 /// functions (3.1.5). In forms that XPath does not have nothing is looked at.
 #[cycle(uses)]
-pub fn push_expr_uses(e: &Expr, scope: &Scope, found: &mut List<Use>) -> Result<(), AllocError>
+pub fn push_expr_uses(
+    e: &Expr,
+    scope: &VariableScope,
+    found: &mut List<Use>,
+) -> Result<(), AllocError>
     ensures { OnOk result (found.new ≡ (expr_uses e.now).finds scope.now found.old) }
 {
     match e {
@@ -71,7 +75,7 @@ pub fn push_expr_uses(e: &Expr, scope: &Scope, found: &mut List<Use>) -> Result<
 }
 
 #[cycle(uses)]
-fn push_all(all: &[Expr], scope: &Scope, found: &mut List<Use>) -> Result<(), AllocError>
+fn push_all(all: &[Expr], scope: &VariableScope, found: &mut List<Use>) -> Result<(), AllocError>
     ensures { OnOk result (found.new ≡ all_found (map expr_uses all.now) scope.now found.old) }
 {
     for e in all {
@@ -81,7 +85,7 @@ fn push_all(all: &[Expr], scope: &Scope, found: &mut List<Use>) -> Result<(), Al
 }
 
 #[cycle(uses)]
-fn push_arms(all: &[Arm], scope: &Scope, found: &mut List<Use>) -> Result<(), AllocError>
+fn push_arms(all: &[Arm], scope: &VariableScope, found: &mut List<Use>) -> Result<(), AllocError>
     ensures { OnOk result (found.new ≡ all_in (map arm_uses all.now) scope.now found.old) }
 {
     for arm in all {
@@ -91,7 +95,7 @@ fn push_arms(all: &[Arm], scope: &Scope, found: &mut List<Use>) -> Result<(), Al
 }
 
 #[cycle(uses)]
-fn push_arm(arm: &Arm, scope: &Scope, found: &mut List<Use>) -> Result<(), AllocError>
+fn push_arm(arm: &Arm, scope: &VariableScope, found: &mut List<Use>) -> Result<(), AllocError>
     ensures { OnOk result (found.new ≡ arm_uses arm.now scope.now found.old) }
 {
     push_expr_uses(arm.test.get(), scope, found)?;
@@ -99,7 +103,11 @@ fn push_arm(arm: &Arm, scope: &Scope, found: &mut List<Use>) -> Result<(), Alloc
 }
 
 #[cycle(uses)]
-fn push_binds(all: &[Bind], scope: &Scope, found: &mut List<Use>) -> Result<Scope, AllocError>
+fn push_binds(
+    all: &[Bind],
+    scope: &VariableScope,
+    found: &mut List<Use>,
+) -> Result<VariableScope, AllocError>
     ensures found { IfOk result (λ inner. found.new
         ≡ binders_in (map bind_binder all.now) scope.now found.old) }
     ensures scope { IfOk result (λ inner. inner ≡ behind (map bind_binder all.now) scope.now) }
@@ -113,14 +121,14 @@ fn push_binds(all: &[Bind], scope: &Scope, found: &mut List<Use>) -> Result<Scop
 }
 
 #[cycle(uses)]
-fn push_bind(bind: &Bind, scope: &Scope, found: &mut List<Use>) -> Result<(), AllocError>
+fn push_bind(bind: &Bind, scope: &VariableScope, found: &mut List<Use>) -> Result<(), AllocError>
     ensures { OnOk result (found.new ≡ (bind_binder bind.now).source scope.now found.old) }
 {
     push_expr_uses(bind.source.get(), scope, found)
 }
 
 #[cycle(uses)]
-fn push_flwor(f: &Flwor, scope: &Scope, found: &mut List<Use>) -> Result<(), AllocError>
+fn push_flwor(f: &Flwor, scope: &VariableScope, found: &mut List<Use>) -> Result<(), AllocError>
     ensures { OnOk result (found.new ≡ flwor_uses f.now scope.now found.old) }
 {
     let inner = push_clauses(f.clauses.get().as_slice(), scope, found)?;
@@ -128,7 +136,11 @@ fn push_flwor(f: &Flwor, scope: &Scope, found: &mut List<Use>) -> Result<(), All
 }
 
 #[cycle(uses)]
-fn push_clauses(all: &[Clause], scope: &Scope, found: &mut List<Use>) -> Result<Scope, AllocError>
+fn push_clauses(
+    all: &[Clause],
+    scope: &VariableScope,
+    found: &mut List<Use>,
+) -> Result<VariableScope, AllocError>
     ensures found { IfOk result (λ inner. found.new
         ≡ binders_in (map clause_binder all.now) scope.now found.old) }
     ensures scope { IfOk result (λ inner. inner ≡ behind (map clause_binder all.now) scope.now) }
@@ -142,7 +154,11 @@ fn push_clauses(all: &[Clause], scope: &Scope, found: &mut List<Use>) -> Result<
 }
 
 #[cycle(uses)]
-fn push_clause(clause: &Clause, scope: &Scope, found: &mut List<Use>) -> Result<(), AllocError>
+fn push_clause(
+    clause: &Clause,
+    scope: &VariableScope,
+    found: &mut List<Use>,
+) -> Result<(), AllocError>
     ensures { OnOk result (found.new ≡ (clause_binder clause.now).source scope.now found.old) }
 {
     match clause {

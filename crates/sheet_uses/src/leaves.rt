@@ -5,16 +5,16 @@ ghost use Rattle.sheet_uses.specs.Exprs.{expr_uses, bind_binder, clause_binder, 
 ghost use Rattle.sheet_uses.specs.Exprs.{first_literal, called};
 
 use crate::uses::Use;
-use name_rules::Scope;
+use name_rules::VariableScope;
 use std::alloc::AllocError;
 use xt_names::{ExprName, List, Text};
 use xt_syntax::{Bind, Clause, Expr};
 
-/// Puts the variable behind the others, unless it is bound within.
+/// Puts the variable after the others, unless it is bound within.
 #[tactic(auto, unfolding(crate::specs::Exprs::variable_in))]
 pub(crate) fn push_variable(
     name: &ExprName,
-    scope: &Scope,
+    scope: &VariableScope,
     found: &mut List<Use>,
 ) -> Result<(), AllocError>
     ensures { OnOk result (found.new ≡ variable_in name.now scope.now found.old) }
@@ -25,7 +25,7 @@ pub(crate) fn push_variable(
     found.push(Use::Variable(name.copy()?))
 }
 
-/// Puts the call behind the others.
+/// Puts the call after the others.
 pub(crate) fn push_call(
     name: &ExprName,
     args: &[Expr],
@@ -95,14 +95,17 @@ fn literal_in(e: &Expr) -> Result<Option<Text>, AllocError>
 }
 
 /// The scope with the variable too.
-pub(crate) fn with_bind(scope: Scope, bind: &Bind) -> Result<Scope, AllocError>
+pub(crate) fn with_bind(scope: VariableScope, bind: &Bind) -> Result<VariableScope, AllocError>
     ensures { IfOk result (λ inner. inner ≡ with_names scope (bind_binder bind.now).names) }
 {
     scope.with(bind.var.copy()?)
 }
 
 /// The scope with the variable of the clause too.
-pub(crate) fn with_clause(scope: Scope, clause: &Clause) -> Result<Scope, AllocError>
+pub(crate) fn with_clause(
+    scope: VariableScope,
+    clause: &Clause,
+) -> Result<VariableScope, AllocError>
     ensures { IfOk result (λ inner. inner ≡ with_names scope (clause_binder clause.now).names) }
 {
     match clause {

@@ -2,7 +2,8 @@
 //! variables, functions, named templates and modes (XSLT 2.0, 3.1 and 9 to 10).
 //!
 //! `push_expr_uses`, `push_body_uses`, `push_bound_uses` and `push_callee_uses` put what is used
-//! behind a list, in reading order. A variable that is bound within the part itself is not told. Only
+//! after a list, in reading order. A variable that is bound within the part itself is not told.
+//! Only
 //! the forms of XPath are looked into, since no others stand in a stylesheet.
 //!
 //! Example: `for $x in $y return f:g($x, key('k', 1))` uses the variable `y`, the function `f:g` with
@@ -12,6 +13,7 @@
 mod bodies;
 mod callees;
 mod exprs;
+pub mod key_calls;
 mod leaves;
 mod uses;
 mod values;

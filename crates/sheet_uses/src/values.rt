@@ -6,7 +6,7 @@ ghost use Rattle.sheet_uses.specs.Values.{attribute_uses, sort_uses, grouping_us
 
 use crate::exprs::push_expr_uses;
 use crate::uses::Use;
-use name_rules::Scope;
+use name_rules::VariableScope;
 use std::alloc::AllocError;
 use xt_names::{List, Shared};
 use xt_sheets::{Avt, AvtPart, Grouping, LiteralAttr, Sort};
@@ -14,7 +14,7 @@ use xt_syntax::Expr;
 
 pub(crate) fn push_if_expr(
     e: &Option<Shared<Expr>>,
-    scope: &Scope,
+    scope: &VariableScope,
     found: &mut List<Use>,
 ) -> Result<(), AllocError>
     ensures { OnOk result (found.new ≡ if_expr e.now scope.now found.old) }
@@ -26,7 +26,7 @@ pub(crate) fn push_if_expr(
 }
 
 #[tactic(auto, unfolding(crate::specs::Values::part_uses))]
-fn push_part(part: &AvtPart, scope: &Scope, found: &mut List<Use>) -> Result<(), AllocError>
+fn push_part(part: &AvtPart, scope: &VariableScope, found: &mut List<Use>) -> Result<(), AllocError>
     ensures { OnOk result (found.new ≡ part_uses part.now scope.now found.old) }
 {
     match part {
@@ -37,7 +37,7 @@ fn push_part(part: &AvtPart, scope: &Scope, found: &mut List<Use>) -> Result<(),
 
 pub(crate) fn push_template(
     template: &Avt,
-    scope: &Scope,
+    scope: &VariableScope,
     found: &mut List<Use>,
 ) -> Result<(), AllocError>
     ensures { OnOk result (found.new ≡ template_uses template.now scope.now found.old) }
@@ -50,7 +50,7 @@ pub(crate) fn push_template(
 
 pub(crate) fn push_if_template(
     template: &Option<Shared<Avt>>,
-    scope: &Scope,
+    scope: &VariableScope,
     found: &mut List<Use>,
 ) -> Result<(), AllocError>
     ensures { OnOk result (found.new ≡ if_template template.now scope.now found.old) }
@@ -63,7 +63,7 @@ pub(crate) fn push_if_template(
 
 pub(crate) fn push_attributes(
     attributes: &[LiteralAttr],
-    scope: &Scope,
+    scope: &VariableScope,
     found: &mut List<Use>,
 ) -> Result<(), AllocError>
     ensures { OnOk result (found.new
@@ -77,7 +77,7 @@ pub(crate) fn push_attributes(
 
 pub(crate) fn push_sorts(
     sorts: &[Sort],
-    scope: &Scope,
+    scope: &VariableScope,
     found: &mut List<Use>,
 ) -> Result<(), AllocError>
     ensures { OnOk result (found.new ≡ all_in (map sort_uses sorts.now) scope.now found.old) }
@@ -91,7 +91,7 @@ pub(crate) fn push_sorts(
 #[tactic(auto, unfolding(crate::specs::Values::grouping_uses))]
 pub(crate) fn push_grouping(
     grouping: &Grouping,
-    scope: &Scope,
+    scope: &VariableScope,
     found: &mut List<Use>,
 ) -> Result<(), AllocError>
     ensures { OnOk result (found.new ≡ grouping_uses grouping.now scope.now found.old) }

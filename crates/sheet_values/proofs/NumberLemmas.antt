@@ -2,7 +2,8 @@
 use Rattle.std.proofs.Common.{◌≡◌, ℕ, zero, suc, ◌+◌, ◌*◌, ◌-◌, ◌≤◌, ◌<◌, List, [], ◌∷◌, length, Bool, true, false, not, ◌&&◌, ◌||◌, nat_le, refl, arith}
 use Rattle.std.proofs.lemmas.Bool.{and_parts, leb-true}
 use Rattle.xt_names.specs.Allowed.{is_empty_text}
-use Rattle.sheet_values.specs.Priorities.{is_digit, digit, are_digits, has_digits, number, whole_of, fraction_of, has_point, is_taken}
+use Rattle.sheet_values.specs.Priorities.{is_digit, are_digits, has_digits, number, whole_of, fraction_of, has_point, is_taken}
+use Rattle.xt_names.specs.Characters.{digit}
 
 -- so many digits write less than this
 abbrev pub power : ℕ → ℕ

@@ -5,9 +5,7 @@ use Rattle.xt_names.specs.Allowed.{is_empty_text}
 use Rattle.sheet_values.specs.Templates.{fixed_part}
 use Rattle.sheet_values.specs.declared.templates.Piece.{Piece}
 use Rattle.sheet_values.specs.declared.templates.Piece.TheVariants.{Chars}
-
-true_is_false : true ≡ false → ⊥
-true_is_false e = cc
+use Rattle.query_options.proofs.WordLemmas.{true_is_false}
 
 pub empty_part : (ps : List Piece) (run v : List ℕ) (b : Bool) → v ≡ run → b ≡ is_empty_text v
     → b ≡ true → ps ≡ ps ++ fixed_part run

@@ -8,11 +8,12 @@ use Rattle.sheet_values.specs.declared.within.Within.{Within}
 use Rattle.sheet_values.specs.declared.within.Within.TheVariants.{Outside}
 use Rattle.sheet_values.specs.declared.templates.Piece.{Piece}
 use Rattle.sheet_values.specs.declared.templates.Piece.TheVariants.{Code}
-use Rattle.sheet_values.specs.declared.templates.Place.{Place}
-use Rattle.sheet_values.specs.declared.templates.Place.TheVariants.{Fixed, Open, Close, Expression}
+use Rattle.sheet_values.specs.declared.templates.BraceState.{BraceState}
+use Rattle.sheet_values.specs.declared.templates.BraceState.TheVariants.{Fixed, Open, Close, Expression}
+use Rattle.xt_names.proofs.BoolLemmas.{is_false}
 
 -- one turn of a fixed part
-one_turn : (p : Place) (run ts : List ℕ) (c : ℕ) (t : Turn) → turn p run c ≡ t → pieces_from p run (c ∷ ts) ≡ t.made ++ pieces_from t.place t.run ts
+one_turn : (p : BraceState) (run ts : List ℕ) (c : ℕ) (t : Turn) → turn p run c ≡ t → pieces_from p run (c ∷ ts) ≡ t.made ++ pieces_from t.place t.run ts
 one_turn p run ts c t e = ap (λ (u : Turn). u.made ++ pieces_from u.place u.run ts) e
 
 opening : (run : List ℕ) (c : ℕ) → (c == 123) ≡ true → turn Fixed run c ≡ record { made = []; place = Open; run = run }
@@ -72,10 +73,6 @@ pub fixed_parts : FixedPartsAreRead
 unfolding last_pieces
 fixed_parts text = ap (pieces_from Fixed []) (sym (append-nil (doubled text))) ∙ fixed_run [] text []
 
-not_true : (b : Bool) → not b ≡ true → b ≡ false
-not_true true h = cc
-not_true false h = refl
-
 -- an expression up to its brace
 closing : (within : Within) (run rest : List ℕ) → is_outside within ≡ true → pieces_from (Expression within) run (125 ∷ rest) ≡ Code run ∷ pieces_of rest
 unfolding turn
@@ -89,7 +86,7 @@ inside : (within : Within) (run cs rest : List ℕ) → is_whole within cs ≡ t
 inside within run [] rest h = closing within run rest h ∙ ap (λ r. Code r ∷ pieces_of rest) (sym (append-nil run))
 inside within run (c ∷ cs) rest h =
     let parts = and_parts (not (c == 125 && is_outside within)) (is_whole (next_within within c) cs) h in
-    going within run (cs ++ 125 ∷ rest) c (not_true (c == 125 && is_outside within) parts.0)
+    going within run (cs ++ 125 ∷ rest) c (is_false (c == 125 && is_outside within) parts.0)
     ∙ inside (next_within within c) (run ++ c ∷ []) cs rest parts.1
     ∙ ap (λ r. Code r ∷ pieces_of rest) (append_assoc run (c ∷ []) cs)
 
@@ -114,8 +111,8 @@ in_braces run [] rest h = empty_code run rest
 in_braces run (c ∷ cs) rest h =
     let parts = and_parts (not (c == 123)) (is_whole Outside (c ∷ cs)) h in
     let more = and_parts (not (c == 125 && true)) (is_whole (next_within Outside c) cs) parts.1 in
-    let no_close : (c == 125) ≡ false = outside_only (c == 125) (not_true (c == 125 && true) more.0) in
-    begun run (cs ++ 125 ∷ rest) c (not_true (c == 123) parts.0) no_close
+    let no_close : (c == 125) ≡ false = outside_only (c == 125) (is_false (c == 125 && true) more.0) in
+    begun run (cs ++ 125 ∷ rest) c (is_false (c == 123) parts.0) no_close
     ∙ ap (λ ps. fixed_part run ++ ps) (inside (next_within Outside c) (c ∷ []) cs rest more.1)
 
 pub expressions : ExpressionsAreRead
@@ -123,7 +120,7 @@ expressions text code rest h =
     fixed_run [] text (123 ∷ (code ++ 125 ∷ rest)) ∙ opened text (code ++ 125 ∷ rest) ∙ in_braces text code rest h
 
 -- one turn, as the code takes it
-pub turned_goes_on : (made more : List Piece) (place p : Place) (run r : List ℕ) (c : ℕ) (cs : List ℕ) → Turned made (turn place run c) more p r
+pub turned_goes_on : (made more : List Piece) (place p : BraceState) (run r : List ℕ) (c : ℕ) (cs : List ℕ) → Turned made (turn place run c) more p r
     → more ++ pieces_from p r cs ≡ made ++ pieces_from place run (c ∷ cs)
 turned_goes_on made more place p run r c cs h =
     rw (h.0, h.1, h.2) (append_assoc made (turn place run c).made (pieces_from (turn place run c).place (turn place run c).run cs))

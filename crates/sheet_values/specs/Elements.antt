@@ -4,7 +4,7 @@ use Rattle.xt_names.specs.declared.names.Binding.{Binding}
 use Rattle.xt_names.specs.declared.codes.Code.{Code}
 use Rattle.xt_names.specs.declared.codes.Code.TheVariants.{SheetStatic}
 use Rattle.xt_names.specs.declared.codes.SheetStaticCode.TheVariants.{XTSE0020}
-use Rattle.expr_names.specs.XtTypes.declared.node_tests.NameTest.{NameTest}
+use Rattle.xt_types.specs.declared.node_tests.NameTest.{NameTest}
 use Rattle.expr_names.specs.Names.{name_test, test_broken}
 use Rattle.expr_names.specs.declared.written.WrittenTest.{WrittenTest}
 use Rattle.query_options.specs.Spaces.{written_test, test_or_any}

@@ -7,4 +7,5 @@ pub mod Priorities
 pub mod Within
 pub mod Templates
 pub mod TemplateLaws
-pub use Rattle.query_options.specs.ExprMeant
+pub mod SheetTexts
+pub use Rattle.query_options.specs.ExprRules

@@ -6,12 +6,10 @@ use Rattle.xt_names.specs.Allowed.{is_empty_text}
 use Rattle.xt_names.specs.declared.codes.Code.{Code}
 use Rattle.xt_names.specs.declared.codes.Code.TheVariants.{SheetStatic}
 use Rattle.xt_names.specs.declared.codes.SheetStaticCode.TheVariants.{XTSE0020, XTUN0001}
+use Rattle.xt_names.specs.Characters.{digit}
 
 abbrev pub is_digit : ℕ → Bool
 is_digit c = nat_le 48 c && nat_le c 57
-
-abbrev pub digit : ℕ → ℕ
-digit c = c - 48
 
 abbrev pub are_digits : List ℕ → Bool
 are_digits cs = list_all is_digit cs
@@ -20,12 +18,12 @@ are_digits cs = list_all is_digit cs
 abbrev pub has_digits : ℕ → List ℕ → Bool
 has_digits most cs = not (is_empty_text cs) && nat_le (length cs) most && are_digits cs
 
--- the number that digits write, behind those that write `n`
+-- the number that digits write, after those that write `n`
 abbrev pub number : ℕ → List ℕ → ℕ
 number n [] = n
 number n (c ∷ cs) = number (10 * n + digit c) cs
 
--- how many characters stand before the first point
+-- how many characters come before the first point
 abbrev pub point_place : List ℕ → ℕ
 point_place [] = 0
 point_place (c ∷ cs) = if c == 46 then 0 else suc (point_place cs)
@@ -33,14 +31,14 @@ point_place (c ∷ cs) = if c == 46 then 0 else suc (point_place cs)
 abbrev pub has_point : List ℕ → Bool
 has_point cs = nat_lt (point_place cs) (length cs)
 
--- what stands before the point, and what behind it
+-- what comes before the point, and what after it
 abbrev pub whole_of : List ℕ → List ℕ
 whole_of cs = take (point_place cs) cs
 
 abbrev pub fraction_of : List ℕ → List ℕ
 fraction_of cs = drop (suc (point_place cs)) cs
 
--- up to nine digits, and up to three behind a point
+-- up to nine digits, and up to three after a point
 abbrev pub is_taken : List ℕ → Bool
 is_taken cs =
     has_digits 9 (whole_of cs) && (not (has_point cs) || has_digits 3 (fraction_of cs))
@@ -51,7 +49,7 @@ is_decimal cs =
     are_digits (whole_of cs) && are_digits (fraction_of cs)
     && not (is_empty_text (whole_of cs) && is_empty_text (fraction_of cs))
 
--- the thousandths behind the point
+-- the thousandths after the point
 abbrev pub thousandths : List ℕ → ℕ
 thousandths [] = 0
 thousandths (a ∷ []) = 100 * digit a
@@ -65,7 +63,7 @@ abbrev pub is_negative : List ℕ → Bool
 is_negative [] = false
 is_negative (c ∷ cs) = c == 45
 
--- the text behind a minus, and behind a sign
+-- the text after a minus, and after a sign
 abbrev pub without_minus : List ℕ → List ℕ
 without_minus [] = []
 without_minus (c ∷ cs) = if c == 45 then cs else c ∷ cs

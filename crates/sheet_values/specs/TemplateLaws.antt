@@ -27,7 +27,7 @@ is_expression (c ∷ cs) = not (c == 123) && is_whole Outside (c ∷ cs)
 abbrev pub FixedPartsAreRead : Type 0
 FixedPartsAreRead = (text : List ℕ) → pieces_of (doubled text) ≡ fixed_part text
 
--- an expression in braces is a part, between what stands before it and the parts behind it
+-- an expression in braces is a part, between what comes before it and the parts after it
 abbrev pub ExpressionsAreRead : Type 0
 ExpressionsAreRead = (text code rest : List ℕ) → is_expression code ≡ true
     → pieces_of (doubled text ++ 123 ∷ (code ++ 125 ∷ rest))

@@ -5,8 +5,8 @@ use Rattle.sheet_values.specs.declared.within.Within.{Within}
 use Rattle.sheet_values.specs.declared.within.Within.TheVariants.{Outside}
 use Rattle.sheet_values.specs.declared.templates.Piece.{Piece}
 use Rattle.sheet_values.specs.declared.templates.Piece.TheVariants.{Chars, Code, LoneOpen, LoneClose}
-use Rattle.sheet_values.specs.declared.templates.Place.{Place}
-use Rattle.sheet_values.specs.declared.templates.Place.TheVariants.{Fixed, Open, Close, Expression}
+use Rattle.sheet_values.specs.declared.templates.BraceState.{BraceState}
+use Rattle.sheet_values.specs.declared.templates.BraceState.TheVariants.{Fixed, Open, Close, Expression}
 
 -- a fixed part, unless it is empty
 unfoldable pub fixed_part : List ℕ → List Piece
@@ -17,7 +17,7 @@ fixed_part (c ∷ cs) = Chars (c ∷ cs) ∷ []
 -- that belong to its part
 pub record Turn : Type 0 where
   pub made : List Piece
-  pub place : Place
+  pub place : BraceState
   pub run : List ℕ
 
 abbrev pub fixed_turn : List ℕ → ℕ → Turn
@@ -45,30 +45,30 @@ close_turn run c =
     if c == 125 then record { made = []; place = Fixed; run = run ++ c ∷ [] }
     else begin_turn (fixed_part run ++ LoneClose ∷ []) (fixed_turn [] c)
 
-unfoldable pub turn : Place → List ℕ → ℕ → Turn
+unfoldable pub turn : BraceState → List ℕ → ℕ → Turn
 turn Fixed run c = fixed_turn run c
 turn Open run c = open_turn run c
 turn Close run c = close_turn run c
 turn (Expression within) run c = code_turn within run c
 
-unfoldable pub last_pieces : Place → List ℕ → List Piece
+unfoldable pub last_pieces : BraceState → List ℕ → List Piece
 last_pieces Fixed run = fixed_part run
 last_pieces Open run = fixed_part run ++ LoneOpen ∷ []
 last_pieces Close run = fixed_part run ++ LoneClose ∷ []
 last_pieces (Expression within) run = LoneOpen ∷ []
 
--- what stands behind the turn: pieces, a place and a run
-abbrev pub Turned : List Piece → Turn → List Piece → Place → List ℕ → Type 0
+-- what comes after the turn: pieces, a place and a run
+abbrev pub Turned : List Piece → Turn → List Piece → BraceState → List ℕ → Type 0
 Turned made t more place run = (more ≡ made ++ t.made) × (place ≡ t.place) × (run ≡ t.run)
 
-abbrev pub place_depth : Place → ℕ
+abbrev pub place_depth : BraceState → ℕ
 place_depth Fixed = 0
 place_depth Open = 0
 place_depth Close = 0
 place_depth (Expression within) = depth within
 
 -- the pieces of a text, of which these characters stand before
-abbrev pub pieces_from : Place → List ℕ → List ℕ → List Piece
+abbrev pub pieces_from : BraceState → List ℕ → List ℕ → List Piece
 pieces_from place run [] = last_pieces place run
 pieces_from place run (c ∷ cs) =
     (turn place run c).made ++ pieces_from (turn place run c).place (turn place run c).run cs

@@ -28,7 +28,7 @@ next_comment n c =
 abbrev pub closed : ℕ → Within
 closed n = if nat_le n 1 then Outside else Comment (n - 1)
 
--- what is open behind the character
+-- what is open after the character
 abbrev pub next_within : Within → ℕ → Within
 next_within Outside c = next_plain c
 next_within Parenthesis c = if c == 58 then Comment 1 else next_plain c

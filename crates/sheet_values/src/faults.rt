@@ -3,14 +3,14 @@ ghost use Rattle.std.specs.Prelude.{◌≡◌, ◌∷◌, [], ℕ, List as Items
 ghost use Rattle.xt_names.specs.declared.codes.Code.{Code as AnyCode};
 ghost use Rattle.xt_names.specs.declared.codes.Code.TheVariants.{SheetStatic};
 ghost use Rattle.xt_names.specs.declared.names.ExprName.{ExprName as AnyName};
-ghost use Rattle.expr_names.specs.XtTypes.declared.node_tests.NameTest.{NameTest as AnyTest};
+ghost use Rattle.xt_types.specs.declared.node_tests.NameTest.{NameTest as AnyTest};
 ghost use Rattle.expr_names.specs.declared.fault.ResolveFault.TheVariants.{Static};
 ghost use Rattle.expr_names.specs.Answers.{Answers};
 ghost use Rattle.sheet_values.specs.Rules.{broken, as_prefix};
 
 use expr_names::ResolveFault;
-use expr_names::xt_types::NameTest;
 use xt_names::{Code, ExprName, SheetStaticCode};
+use xt_types::NameTest;
 
 /// The fault of a broken rule of stylesheets (XSLT 2.0, 2.9).
 pub fn sheet_fault(code: SheetStaticCode) -> ResolveFault

@@ -1,13 +1,9 @@
 // Priorities.
-ghost use Rattle.std.specs.Prelude.{◌≡◌, ◌≤◌, ◌<◌, length};
+ghost use Rattle.std.specs.Prelude.{◌≡◌, ◌≤◌, ◌<◌, length, true, pos, ◌-ℤ◌};
 ghost use Rattle.xt_names.specs.Allowed.{is_empty_text};
 ghost use Rattle.expr_names.specs.Answers.{Answers};
-ghost use Rattle.sheet_values.specs.Priorities.{is_digit, digit, are_digits, has_digits, number};
-ghost use Rattle.sheet_values.specs.Priorities.{point_place, whole_of, fraction_of, is_taken};
-ghost use Rattle.sheet_values.specs.Priorities.{is_decimal, thousandths, all_thousandths};
-ghost use Rattle.sheet_values.specs.Priorities.{is_negative, without_minus, without_sign, signed};
-ghost use Rattle.sheet_values.specs.Priorities.{refused, priority_faults, priority_value};
-ghost use Rattle.std.specs.Prelude.{true, pos, ◌-ℤ◌};
+ghost use Rattle.sheet_values.specs.Priorities.{is_digit, are_digits, has_digits, number, point_place, whole_of, fraction_of, is_taken, is_decimal, thousandths, all_thousandths, is_negative, without_minus, without_sign, signed, refused, priority_faults, priority_value};
+ghost use Rattle.xt_names.specs.Characters.{digit};
 
 use crate::characters::chars_of;
 use crate::faults::sheet_fault;
@@ -198,7 +194,7 @@ fn read(text: &[char]) -> Result<i64, ResolveFault>
     Ok(signed(is_negative(text), all))
 }
 
-/// The priority in thousandths (XSLT 2.0, 6.4): an optional minus, one to nine digits, and behind
+/// The priority in thousandths (XSLT 2.0, 6.4): an optional minus, one to nine digits, and after
 /// a point one to three. XTUN0001 where the text is another decimal, and XTSE0020 where it is none.
 pub fn priority(alloc: Global, text: &Text) -> Result<i64, ResolveFault>
     ensures { Answers result (priority_faults text.now) (priority_value text.now) }

@@ -2,7 +2,7 @@
 ghost use Rattle.std.specs.Prelude.{◌≡◌, ◌++◌, ◌∷◌, ◌≤◌, ◌<◌, ◌+◌, [], IfOk, List as Items, ℕ};
 ghost use Rattle.std.specs.Str.{chars};
 ghost use Rattle.sheet_values.specs.declared.templates.Piece.TheVariants.{Code};
-ghost use Rattle.sheet_values.specs.declared.templates.Place.TheVariants.{Fixed};
+ghost use Rattle.sheet_values.specs.declared.templates.BraceState.TheVariants.{Fixed};
 ghost use Rattle.sheet_values.specs.Templates.{Turn, fixed_part, fixed_turn, code_turn, open_turn};
 ghost use Rattle.sheet_values.specs.Templates.{close_turn, turn, last_pieces, place_depth};
 ghost use Rattle.sheet_values.specs.Templates.{pieces_from, pieces_of, Turned};
@@ -28,12 +28,12 @@ pub enum Piece {
 
 /// Where a character of a template stands.
 #[derive(Clone, Copy)]
-pub enum Place {
+pub enum BraceState {
     /// In a fixed part.
     Fixed,
-    /// Directly behind a `{` of a fixed part.
+    /// Directly after a `{` of a fixed part.
     Open,
-    /// Directly behind a `}` of a fixed part.
+    /// Directly after a `}` of a fixed part.
     Close,
     /// In an expression.
     Expression(Within),
@@ -43,7 +43,7 @@ pub enum Place {
 #[derive(Drop)]
 struct Reading {
     made: List<Piece>,
-    place: Place,
+    place: BraceState,
     run: TextBuilder,
 }
 
@@ -67,7 +67,12 @@ fn with_lone(made: List<Piece>, run: TextBuilder, lone: Piece) -> Result<List<Pi
     Ok(more)
 }
 
-fn pushed(made: List<Piece>, run: TextBuilder, place: Place, c: char) -> Result<Reading, AllocError>
+fn pushed(
+    made: List<Piece>,
+    run: TextBuilder,
+    place: BraceState,
+    c: char,
+) -> Result<Reading, AllocError>
     ensures { IfOk result (λ more. (more.made ≡ made) × (more.place ≡ place)
         × (more.run ≡ run ++ c ∷ [])) }
 {
@@ -84,18 +89,18 @@ fn in_fixed(made: List<Piece>, run: TextBuilder, c: char) -> Result<Reading, All
     if c == '{' {
         return Ok(Reading {
             made,
-            place: Place::Open,
+            place: BraceState::Open,
             run,
         });
     }
     if c == '}' {
         return Ok(Reading {
             made,
-            place: Place::Close,
+            place: BraceState::Close,
             run,
         });
     }
-    pushed(made, run, Place::Fixed, c)
+    pushed(made, run, BraceState::Fixed, c)
 }
 
 fn with_code(alloc: Global, made: List<Piece>, run: TextBuilder) -> Result<Reading, AllocError>
@@ -107,7 +112,7 @@ fn with_code(alloc: Global, made: List<Piece>, run: TextBuilder) -> Result<Readi
     more.push(Piece::Code(text))?;
     Ok(Reading {
         made: more,
-        place: Place::Fixed,
+        place: BraceState::Fixed,
         run: TextBuilder::new(alloc),
     })
 }
@@ -127,7 +132,7 @@ fn in_code(
     if c == '}' && is_outside(within) {
         return with_code(alloc, made, run);
     }
-    pushed(made, run, Place::Expression(next_within(within, c)), c)
+    pushed(made, run, BraceState::Expression(next_within(within, c)), c)
 }
 
 fn behind_open(
@@ -141,7 +146,7 @@ fn behind_open(
     ensures small { IfOk result (λ more. place_depth more.place ≤ 1) }
 {
     if c == '{' {
-        return pushed(made, run, Place::Fixed, c);
+        return pushed(made, run, BraceState::Fixed, c);
     }
     let made = with_chars(made, run)?;
     in_code(alloc, made, TextBuilder::new(alloc), Within::Outside, c)
@@ -158,7 +163,7 @@ fn behind_close(
     ensures small { IfOk result (λ more. place_depth more.place ≤ 0) }
 {
     if c == '}' {
-        return pushed(made, run, Place::Fixed, c);
+        return pushed(made, run, BraceState::Fixed, c);
     }
     let made = with_lone(made, run, Piece::LoneClose)?;
     in_fixed(made, TextBuilder::new(alloc), c)
@@ -173,10 +178,10 @@ fn with_char(alloc: Global, reading: Reading, c: char) -> Result<Reading, AllocE
         place_depth more.place ≤ place_depth reading.place + 1) }
 {
     match reading.place {
-        Place::Fixed => in_fixed(reading.made, reading.run, c),
-        Place::Open => behind_open(alloc, reading.made, reading.run, c),
-        Place::Close => behind_close(alloc, reading.made, reading.run, c),
-        Place::Expression(within) => in_code(alloc, reading.made, reading.run, within, c),
+        BraceState::Fixed => in_fixed(reading.made, reading.run, c),
+        BraceState::Open => behind_open(alloc, reading.made, reading.run, c),
+        BraceState::Close => behind_close(alloc, reading.made, reading.run, c),
+        BraceState::Expression(within) => in_code(alloc, reading.made, reading.run, within, c),
     }
 }
 
@@ -186,10 +191,10 @@ fn finished(reading: Reading) -> Result<List<Piece>, AllocError>
         ≡ reading.made ++ last_pieces reading.place reading.run) }
 {
     match reading.place {
-        Place::Fixed => with_chars(reading.made, reading.run),
-        Place::Open => with_lone(reading.made, reading.run, Piece::LoneOpen),
-        Place::Close => with_lone(reading.made, reading.run, Piece::LoneClose),
-        Place::Expression(_) => {
+        BraceState::Fixed => with_chars(reading.made, reading.run),
+        BraceState::Open => with_lone(reading.made, reading.run, Piece::LoneOpen),
+        BraceState::Close => with_lone(reading.made, reading.run, Piece::LoneClose),
+        BraceState::Expression(_) => {
             let mut made = reading.made;
             made.push(Piece::LoneOpen)?;
             Ok(made)
@@ -203,7 +208,7 @@ fn pieces_of(alloc: Global, text: &[char]) -> Result<List<Piece>, AllocError>
 {
     let mut reading = Reading {
         made: List::new(alloc),
-        place: Place::Fixed,
+        place: BraceState::Fixed,
         run: TextBuilder::new(alloc),
     };
     for c in text {
@@ -214,7 +219,7 @@ fn pieces_of(alloc: Global, text: &[char]) -> Result<List<Piece>, AllocError>
 
 /// The parts of the text of an attribute value template (XSLT 2.0, 5.6): characters, in which a
 /// doubled brace is single, and expressions, each up to the first `}` outside of its literals and
-/// comments. A brace that has no partner is a part of its own; behind a `{` that has none nothing
+/// comments. A brace that has no partner is a part of its own; after a `{` that has none nothing
 /// follows.
 pub fn template_pieces(alloc: Global, text: &str) -> Result<List<Piece>, AllocError>
     ensures { IfOk result (λ pieces. pieces ≡ pieces_of (chars text.now)) }

@@ -9,11 +9,11 @@ ghost use Rattle.sheet_values.specs.Elements.{name_tests_faults, name_tests_valu
 
 use crate::faults::{sheet_fault, tested_in_scope};
 use bound_prefixes::BoundPrefixes;
-use expr_names::xt_types::NameTest;
 use expr_names::{ResolveFault, WrittenTest, name_test};
 use query_options::{words_of, written_test};
 use std::alloc::Global;
 use xt_names::{List, SheetStaticCode, Text};
+use xt_types::NameTest;
 
 fn in_scope(
     alloc: Global,

@@ -3,7 +3,7 @@ ghost use Rattle.std.specs.Prelude.{◌≡◌, ◌≤◌, ◌+◌, ◌<◌};
 ghost use Rattle.sheet_values.specs.Within.{depth, next_plain, next_comment, closed, next_within};
 ghost use Rattle.sheet_values.specs.Within.{is_outside};
 
-/// What is open in an expression behind some of its characters (XPath 2.0, 2.6 and A.2.1).
+/// What is open in an expression after some of its characters (XPath 2.0, 2.6 and A.2.1).
 #[derive(Clone, Copy)]
 pub enum Within {
     /// Nothing.
@@ -57,7 +57,7 @@ fn closed(comments: usize) -> Within
     }
 }
 
-/// What is open behind one more character.
+/// What is open after one more character.
 pub(crate) fn next_within(within: Within, c: char) -> Within
     requires { depth within < 18446744073709551615 }
     ensures value { result ≡ next_within within c }

@@ -15,70 +15,74 @@ fn operators_and_primaries(rt: HostRuntime) {
         ("( 1 )", "Parens(Number(1))"),
         ("( ( 1 ) )", "Parens(Number(1))"),
         ("( ( ) )", "Parens()"),
-        ("1 , 2 , 3", "Listing(Number(1) Number(2) Number(3))"),
-        ("( 1 , 2 )", "Parens(Listing(Number(1) Number(2)))"),
+        ("1 , 2 , 3", "ExprList(Number(1) Number(2) Number(3))"),
+        ("( 1 , 2 )", "Parens(ExprList(Number(1) Number(2)))"),
         ("f ( )", "Call(f)"),
-        ("f ( 1 )", "Call(f Argued(Number(1)))"),
-        ("p:f ( 1 , a )", "Call(p:f Argued(Number(1) TestStep(a)))"),
+        ("f ( 1 )", "Call(f ArgumentList(Number(1)))"),
+        (
+            "p:f ( 1 , a )",
+            "Call(p:f ArgumentList(Number(1) TestStep(a)))",
+        ),
         (
             "f ( ( 1 , 2 ) )",
-            "Call(f Argued(Parens(Listing(Number(1) Number(2)))))",
+            "Call(f ArgumentList(Parens(ExprList(Number(1) Number(2)))))",
         ),
         (
             "1 - 2 - 3",
-            "Adds(Number(1) Op(- Number(2)) Op(- Number(3)))",
+            "Additive(Number(1) Op(- Number(2)) Op(- Number(3)))",
         ),
         (
             "1 + 2 * 3",
-            "Adds(Number(1) Op(+ Multiplies(Number(2) Op(* Number(3)))))",
+            "Additive(Number(1) Op(+ Multiplicative(Number(2) Op(* Number(3)))))",
         ),
         (
             "1 * 2 + 3",
-            "Adds(Multiplies(Number(1) Op(* Number(2))) Op(+ Number(3)))",
+            "Additive(Multiplicative(Number(1) Op(* Number(2))) Op(+ Number(3)))",
         ),
         (
             "1 idiv 2 mod 3",
-            "Multiplies(Number(1) Op(idiv Number(2)) Op(mod Number(3)))",
+            "Multiplicative(Number(1) Op(idiv Number(2)) Op(mod Number(3)))",
         ),
-        ("* * *", "Multiplies(TestStep(*) Op(* TestStep(*)))"),
+        ("* * *", "Multiplicative(TestStep(*) Op(* TestStep(*)))"),
         ("- - 1", "Signed(- Signed(- Number(1)))"),
-        ("1 - - 1", "Adds(Number(1) Op(- Signed(- Number(1))))"),
-        ("- 1 + 2", "Adds(Signed(- Number(1)) Op(+ Number(2)))"),
-        ("1 to 2", "Ranges(Number(1) Op(to Number(2)))"),
-        ("1 = 2", "Compares(Number(1) Op(= Number(2)))"),
-        ("a < b", "Compares(TestStep(a) Op(< TestStep(b)))"),
-        ("a is b", "Compares(TestStep(a) Op(is TestStep(b)))"),
-        ("a << b", "Compares(TestStep(a) Op(<< TestStep(b)))"),
+        ("1 - - 1", "Additive(Number(1) Op(- Signed(- Number(1))))"),
+        ("- 1 + 2", "Additive(Signed(- Number(1)) Op(+ Number(2)))"),
+        ("1 to 2", "Range(Number(1) Op(to Number(2)))"),
+        ("1 = 2", "Comparison(Number(1) Op(= Number(2)))"),
+        ("a < b", "Comparison(TestStep(a) Op(< TestStep(b)))"),
+        ("a is b", "Comparison(TestStep(a) Op(is TestStep(b)))"),
+        ("a << b", "Comparison(TestStep(a) Op(<< TestStep(b)))"),
         (
             "1 eq 2 or 3 and 4",
-            "Ors(Compares(Number(1) Op(eq Number(2))) Op(or Ands(Number(3) Op(and Number(4)))))",
+            "Or(Comparison(Number(1) Op(eq Number(2))) Op(or And(Number(3) Op(and Number(4)))))",
         ),
         (
             "a union b | c",
-            "Unions(TestStep(a) Op(union TestStep(b)) Op(| TestStep(c)))",
+            "Union(TestStep(a) Op(union TestStep(b)) Op(| TestStep(c)))",
         ),
         (
             "a intersect b except c",
-            "Crosses(TestStep(a) Op(intersect TestStep(b)) Op(except TestStep(c)))",
+            "Intersect(TestStep(a) Op(intersect TestStep(b)) Op(except TestStep(c)))",
         ),
-        ("or or or", "Ors(TestStep(or) Op(or TestStep(or)))"),
+        ("or or or", "Or(TestStep(or) Op(or TestStep(or)))"),
         (
             "1 instance of item ( ) *",
-            "Instances(Number(1) Op(ItemsType(AnyItem() *)))",
+            "InstanceOf(Number(1) Op(ItemsType(AnyItem() *)))",
         ),
         ("1 treat as xs:integer + 1", "none"),
-        ("1 treat as xs:integer", "Treats(Number(1) Op(xs:integer))"),
+        ("1 treat as xs:integer", "Treat(Number(1) Op(xs:integer))"),
         (
             "1 castable as xs:integer ?",
-            "Castables(Number(1) Op(OneType(xs:integer Questioned())))",
+            "Castable(Number(1) Op(SingleAtomicType(xs:integer QuestionMark())))",
         ),
         (
             "1 cast as xs:integer + 1",
-            "Adds(Casts(Number(1) Op(OneType(xs:integer))) Op(+ Number(1)))",
+            "Additive(Cast(Number(1) Op(SingleAtomicType(xs:integer))) Op(+ Number(1)))",
         ),
         (
             "1 cast as xs:integer ? + 1",
-            "Adds(Casts(Number(1) Op(OneType(xs:integer Questioned()))) Op(+ Number(1)))",
+            "Additive(Cast(Number(1) Op(SingleAtomicType(xs:integer QuestionMark()))) Op(+ \
+             Number(1)))",
         ),
     ];
     for (words, wanted) in cases {
@@ -102,11 +106,14 @@ fn paths_and_words(rt: HostRuntime) {
         ("/ * 2", "none"),
         (
             "/ * * 2",
-            "Multiplies(RootSteps(TestStep(*)) Op(* Number(2)))",
+            "Multiplicative(RootSteps(TestStep(*)) Op(* Number(2)))",
         ),
-        ("( / ) * 2", "Multiplies(Parens(Rooted()) Op(* Number(2)))"),
-        ("/ + 2", "Adds(Rooted() Op(+ Number(2)))"),
-        ("/ = 2", "Compares(Rooted() Op(= Number(2)))"),
+        (
+            "( / ) * 2",
+            "Multiplicative(Parens(Rooted()) Op(* Number(2)))",
+        ),
+        ("/ + 2", "Additive(Rooted() Op(+ Number(2)))"),
+        ("/ = 2", "Comparison(Rooted() Op(= Number(2)))"),
         ("child :: a", "AxisStep(child a)"),
         ("attribute :: *", "AxisStep(attribute *)"),
         ("self :: node ( )", "AxisStep(self PlainKind(node))"),
@@ -120,11 +127,11 @@ fn paths_and_words(rt: HostRuntime) {
         ("@ a [ 1 ]", "AttributeStep(a Number(1))"),
         (
             "child :: a [ 1 , 2 ]",
-            "AxisStep(child a Listing(Number(1) Number(2)))",
+            "AxisStep(child a ExprList(Number(1) Number(2)))",
         ),
         (
             "a / ( 1 , 2 ) / b",
-            "Steps(TestStep(a) StepAfter(Parens(Listing(Number(1) Number(2)))) \
+            "Steps(TestStep(a) StepAfter(Parens(ExprList(Number(1) Number(2)))) \
              StepAfter(TestStep(b)))",
         ),
         ("text ( )", "TestStep(PlainKind(text))"),
@@ -144,39 +151,39 @@ fn paths_and_words(rt: HostRuntime) {
         ),
         (
             "if ( a ) then b else c",
-            "Conditional(TestStep(c) TestStep(b) TestStep(a))",
+            "IfExpr(TestStep(c) TestStep(b) TestStep(a))",
         ),
         (
             "if ( a ) then b else if ( c ) then d else e",
-            "Conditional(TestStep(e) TestStep(d) TestStep(c) TestStep(b) TestStep(a))",
+            "IfExpr(TestStep(e) TestStep(d) TestStep(c) TestStep(b) TestStep(a))",
         ),
         (
             "if ( a ) then b else ( ( if ( c ) then d else e ) )",
-            "Conditional(TestStep(e) TestStep(d) TestStep(c) TestStep(b) TestStep(a))",
+            "IfExpr(TestStep(e) TestStep(d) TestStep(c) TestStep(b) TestStep(a))",
         ),
         (
             "if ( a ) then if ( b ) then c else d else e",
-            "Conditional(TestStep(e) Conditional(TestStep(d) TestStep(c) TestStep(b)) TestStep(a))",
+            "IfExpr(TestStep(e) IfExpr(TestStep(d) TestStep(c) TestStep(b)) TestStep(a))",
         ),
         (
             "if ( 1 , 2 ) then 3 else 4 + 5",
-            "Conditional(Adds(Number(4) Op(+ Number(5))) Number(3) Listing(Number(1) Number(2)))",
+            "IfExpr(Additive(Number(4) Op(+ Number(5))) Number(3) ExprList(Number(1) Number(2)))",
         ),
         (
             "for $ a in b return c , d",
-            "Listing(Flwor(ForClause(Bind(a TestStep(b))) TestStep(c)) TestStep(d))",
+            "ExprList(FlworExpr(ForClause(ForIn(a TestStep(b))) TestStep(c)) TestStep(d))",
         ),
         (
             "for $ a in 1 , $ b in 2 return 3",
-            "Flwor(ForClause(Bind(a Number(1)) Bind(b Number(2))) Number(3))",
+            "FlworExpr(ForClause(ForIn(a Number(1)) ForIn(b Number(2))) Number(3))",
         ),
         (
             "some $ a in 1 , $ b in 2 satisfies $ a",
-            "Quantified(some QuantBind(a Number(1)) QuantBind(b Number(2)) Variable(a))",
+            "QuantifiedExpr(some QuantifiedIn(a Number(1)) QuantifiedIn(b Number(2)) Variable(a))",
         ),
         (
             "every $ a in 1 satisfies 2",
-            "Quantified(every QuantBind(a Number(1)) Number(2))",
+            "QuantifiedExpr(every QuantifiedIn(a Number(1)) Number(2))",
         ),
     ];
     for (words, wanted) in cases {

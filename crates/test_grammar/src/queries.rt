@@ -7,46 +7,48 @@ fn clauses_and_constructors(rt: HostRuntime) {
     let cases = [
         (
             "let $ a := 1 return $ a",
-            "Flwor(LetClause(LetBind(a Number(1))) Variable(a))",
+            "FlworExpr(LetClause(LetAssign(a Number(1))) Variable(a))",
         ),
         (
             "for $ a as item ( ) at $ i in 1 return 2",
-            "Flwor(ForClause(Bind(a Typed(AnyItem()) Placed(i) Number(1))) Number(2))",
+            "FlworExpr(ForClause(ForIn(a AsType(AnyItem()) AtVariable(i) Number(1))) Number(2))",
         ),
         (
             "let $ a as xs:integer := 1 , $ b := 2 return 3",
-            "Flwor(LetClause(LetBind(a Typed(xs:integer) Number(1)) \
-             LetBind(b Number(2))) Number(3))",
+            "FlworExpr(LetClause(LetAssign(a AsType(xs:integer) Number(1)) \
+             LetAssign(b Number(2))) Number(3))",
         ),
         (
             "for $ a in 1 let $ b := 2 return 3",
-            "Flwor(ForClause(Bind(a Number(1))) LetClause(LetBind(b Number(2))) Number(3))",
+            "FlworExpr(ForClause(ForIn(a Number(1))) LetClause(LetAssign(b Number(2))) Number(3))",
         ),
         (
             "for $ a in 1 where 2 return 3",
-            "Flwor(ForClause(Bind(a Number(1))) WhereTest(Number(2)) Number(3))",
+            "FlworExpr(ForClause(ForIn(a Number(1))) WhereTest(Number(2)) Number(3))",
         ),
         (
             "let $ a := 1 order by 2 , 3 return 4",
-            "Flwor(LetClause(LetBind(a Number(1))) \
-             Ordered(KeySpec(Number(2)) KeySpec(Number(3))) Number(4))",
+            "FlworExpr(LetClause(LetAssign(a Number(1))) \
+             OrderBy(OrderKey(Number(2)) OrderKey(Number(3))) Number(4))",
         ),
         (
             "let $ a := 1 order by 2 descending empty least return 3",
-            "Flwor(LetClause(LetBind(a Number(1))) \
-             Ordered(KeySpec(Number(2) descending Empties())) Number(3))",
+            "FlworExpr(LetClause(LetAssign(a Number(1))) \
+             OrderBy(OrderKey(Number(2) descending EmptyLeast())) Number(3))",
         ),
         (
             "for $ a in 1 stable order by 2 ascending return 3",
-            "Flwor(ForClause(Bind(a Number(1))) Stable(KeySpec(Number(2) ascending)) Number(3))",
+            "FlworExpr(ForClause(ForIn(a Number(1))) StableOrderBy(OrderKey(Number(2) ascending)) \
+             Number(3))",
         ),
         (
             "for $ a in 1 for $ b in 2 return 3",
-            "Flwor(ForClause(Bind(a Number(1))) ForClause(Bind(b Number(2))) Number(3))",
+            "FlworExpr(ForClause(ForIn(a Number(1))) ForClause(ForIn(b Number(2))) Number(3))",
         ),
         (
             "some $ a as node ( ) * in 1 satisfies 2",
-            "Quantified(some QuantBind(a Typed(ItemsType(PlainKind(node) *)) Number(1)) Number(2))",
+            "QuantifiedExpr(some QuantifiedIn(a AsType(ItemsType(PlainKind(node) *)) Number(1)) \
+             Number(2))",
         ),
         (
             "element { 1 } { 2 }",
@@ -59,7 +61,7 @@ fn clauses_and_constructors(rt: HostRuntime) {
         ),
         (
             "element p:a { 1 , 2 }",
-            "Constructed(element p:a Listing(Number(1) Number(2)))",
+            "Constructed(element p:a ExprList(Number(1) Number(2)))",
         ),
         ("attribute if { }", "Constructed(attribute if)"),
         (
@@ -72,21 +74,22 @@ fn clauses_and_constructors(rt: HostRuntime) {
             "comment { 1 } [ 2 ]",
             "FilterStep(Enclosing(comment Number(1)) Number(2))",
         ),
-        ("#<a #/>", "Element(a NoContent())"),
-        ("#<a #> #</a", "Element(a Full(a))"),
+        ("#<a #/>", "DirectElement(a EmptyElement())"),
+        ("#<a #> #</a", "DirectElement(a ElementContent(a))"),
         (
             "#<a #b= #t #{ 1 } #q #/>",
-            "Element(a Paired(b t PartEnclosed(Number(1))) NoContent())",
+            "DirectElement(a AttributeValue(b t PartEnclosed(Number(1))) EmptyElement())",
         ),
         (
             "#<a #> #t #{ 2 , 3 } #<<a #/> #</a",
-            "Element(a Full(t ItemEnclosed(Listing(Number(2) Number(3))) Child(a NoContent()) a))",
+            "DirectElement(a ElementContent(t ItemEnclosed(ExprList(Number(2) Number(3))) \
+             ChildElement(a EmptyElement()) a))",
         ),
         (
             "1 < #<a #/>",
-            "Compares(Number(1) Op(< Element(a NoContent())))",
+            "Comparison(Number(1) Op(< DirectElement(a EmptyElement())))",
         ),
-        ("/ #<a #/>", "RootSteps(Element(a NoContent()))"),
+        ("/ #<a #/>", "RootSteps(DirectElement(a EmptyElement()))"),
     ];
     for (words, wanted) in cases {
         let found = read(&rt, Language::Xquery, words);

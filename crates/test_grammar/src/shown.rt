@@ -35,55 +35,57 @@ fn put_token(rt: &(impl Abort + AllocGlobal), out: &mut String, token: &Token) {
             put(rt, out, text.as_str());
             put(rt, out, "'");
         }
-        Token::Outer(prefix, local)
-        | Token::Inner(prefix, local)
+        Token::StartTagOpen(prefix, local)
+        | Token::ChildTagOpen(prefix, local)
         | Token::Attribute(prefix, local)
-        | Token::Shut(prefix, local) => put_name(rt, out, prefix.as_str(), local.as_str()),
+        | Token::EndTag(prefix, local) => put_name(rt, out, prefix.as_str(), local.as_str()),
         Token::Chars(_, _) => put(rt, out, "t"),
-        Token::Unquote | Token::TagEnd | Token::EmptyEnd | Token::Enter => put(rt, out, "?"),
+        Token::AttributeEnd | Token::TagEnd | Token::EmptyEnd | Token::EnclosedOpen => put(
+            rt, out, "?",
+        ),
     }
 }
 
 fn level_name(level: Level) -> &'static str {
     match level {
-        Level::Ors => "Ors",
-        Level::Ands => "Ands",
-        Level::Compares => "Compares",
-        Level::Ranges => "Ranges",
-        Level::Adds => "Adds",
-        Level::Multiplies => "Multiplies",
-        Level::Unions => "Unions",
-        Level::Crosses => "Crosses",
-        Level::Instances => "Instances",
-        Level::Treats => "Treats",
-        Level::Castables => "Castables",
-        Level::Casts => "Casts",
+        Level::Or => "Or",
+        Level::And => "And",
+        Level::Comparison => "Comparison",
+        Level::Range => "Range",
+        Level::Additive => "Additive",
+        Level::Multiplicative => "Multiplicative",
+        Level::Union => "Union",
+        Level::Intersect => "Intersect",
+        Level::InstanceOf => "InstanceOf",
+        Level::Treat => "Treat",
+        Level::Castable => "Castable",
+        Level::Cast => "Cast",
     }
 }
 
 // Nodes that are never met have no name.
 fn name_of(production: Production) -> &'static str {
     match production {
-        Production::Chain(level) => level_name(level),
-        Production::Operated(_) => "Op",
-        Production::Listing => "Listing",
-        Production::Argued => "Argued",
-        Production::Conditional => "Conditional",
-        Production::Otherwise => "Otherwise",
-        Production::Flwor => "Flwor",
-        Production::Quantified => "Quantified",
+        Production::OperatorChain(level) => level_name(level),
+        Production::OperatorTail(_) => "Op",
+        Production::ExprList => "ExprList",
+        Production::ArgumentList => "ArgumentList",
+        Production::IfExpr => "IfExpr",
+        Production::ElseExpr => "ElseExpr",
+        Production::FlworExpr => "FlworExpr",
+        Production::QuantifiedExpr => "QuantifiedExpr",
         Production::ForClause => "ForClause",
         Production::LetClause => "LetClause",
-        Production::Bind => "Bind",
-        Production::LetBind => "LetBind",
-        Production::QuantBind => "QuantBind",
-        Production::Typed => "Typed",
-        Production::Placed => "Placed",
+        Production::ForIn => "ForIn",
+        Production::LetAssign => "LetAssign",
+        Production::QuantifiedIn => "QuantifiedIn",
+        Production::AsType => "AsType",
+        Production::AtVariable => "AtVariable",
         Production::WhereTest => "WhereTest",
-        Production::Ordered => "Ordered",
-        Production::Stable => "Stable",
-        Production::KeySpec => "KeySpec",
-        Production::Empties => "Empties",
+        Production::OrderBy => "OrderBy",
+        Production::StableOrderBy => "StableOrderBy",
+        Production::OrderKey => "OrderKey",
+        Production::EmptyLeast => "EmptyLeast",
         Production::Signed => "Signed",
         Production::Rooted => "Rooted",
         Production::RootedDeep => "RootedDeep",
@@ -112,14 +114,14 @@ fn name_of(production: Production) -> &'static str {
         Production::EmptyType => "EmptyType",
         Production::ItemsType => "ItemsType",
         Production::AnyItem => "AnyItem",
-        Production::OneType => "OneType",
-        Production::Questioned => "Questioned",
-        Production::Element => "Element",
-        Production::Full => "Full",
-        Production::NoContent => "NoContent",
-        Production::Paired => "Paired",
+        Production::SingleAtomicType => "SingleAtomicType",
+        Production::QuestionMark => "QuestionMark",
+        Production::DirectElement => "DirectElement",
+        Production::ElementContent => "ElementContent",
+        Production::EmptyElement => "EmptyElement",
+        Production::AttributeValue => "AttributeValue",
         Production::PartEnclosed => "PartEnclosed",
-        Production::Child => "Child",
+        Production::ChildElement => "ChildElement",
         Production::ItemEnclosed => "ItemEnclosed",
         _ => "?",
     }

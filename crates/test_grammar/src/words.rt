@@ -128,20 +128,20 @@ fn name_of(rt: &(impl Abort + AllocGlobal), word: &str) -> Option<Token> {
 fn piece_of(rt: &(impl Abort + AllocGlobal), word: &str) -> Option<Token> {
     let empty = text(rt, "");
     if word == "#<a" {
-        return Some(Token::Outer(empty, text(rt, "a")));
+        return Some(Token::StartTagOpen(empty, text(rt, "a")));
     }
     if word == "#<<a" {
-        return Some(Token::Inner(empty, text(rt, "a")));
+        return Some(Token::ChildTagOpen(empty, text(rt, "a")));
     }
     if word == "#b=" {
         return Some(Token::Attribute(empty, text(rt, "b")));
     }
     if word == "#</a" {
-        return Some(Token::Shut(empty, text(rt, "a")));
+        return Some(Token::EndTag(empty, text(rt, "a")));
     }
     drop(empty);
     if word == "#q" {
-        return Some(Token::Unquote);
+        return Some(Token::AttributeEnd);
     }
     if word == "#>" {
         return Some(Token::TagEnd);
@@ -153,7 +153,7 @@ fn piece_of(rt: &(impl Abort + AllocGlobal), word: &str) -> Option<Token> {
         return Some(Token::Chars(text(rt, "t"), true));
     }
     if word == "#{" {
-        return Some(Token::Enter);
+        return Some(Token::EnclosedOpen);
     }
     None
 }
@@ -191,7 +191,7 @@ pub(crate) fn tokens_of(rt: &(impl Abort + AllocGlobal), words: &str) -> Vec<Tok
     tokens
 }
 
-// So many copies of the tokens behind the others.
+// So many copies of the tokens after the others.
 pub(crate) fn push_many(
     rt: &(impl Abort + AllocGlobal),
     tokens: &mut Vec<Token>,

@@ -1,7 +1,7 @@
 // What tests are made of. Each helper ends the test where memory runs out.
+use expr_tokens::text_tokens::lexed;
 use std::alloc::AllocGlobal;
 use std::process::Abort;
-use text_tokens::lexed;
 use xpath_lex::{LexFault, Token, TokenKind, token_at, tokens};
 
 pub(crate) fn push(rt: &(impl Abort + AllocGlobal), out: &mut String, s: &str) {

@@ -1,5 +1,5 @@
 // The files that links name (XSLT 2.0, 3.10.2).
-use module_names::resolve;
+use sheet_modules::module_names::resolve;
 use std::alloc::AllocGlobal;
 use std::process::Abort;
 use xt_names::Text;

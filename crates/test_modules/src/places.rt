@@ -1,5 +1,5 @@
 // The places of a graph that are reached from one.
-use reached_places::reached;
+use global_order::reached_places::reached;
 use std::alloc::AllocGlobal;
 use std::process::Abort;
 use xt_names::List;

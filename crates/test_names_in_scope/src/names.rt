@@ -3,7 +3,7 @@ use crate::made::{
     FN, LOCAL, bind, both, call_0, call_1, call_2, direct, element, flwor, for_at, for_in, let_be,
     list_of, name_in, shared, some_of, two_of, var, where_order,
 };
-use name_rules::{Functions, Scope, broken_names};
+use name_rules::{Functions, VariableScope, broken_names};
 use std::alloc::AllocGlobal;
 use std::process::Abort;
 use xt_names::{Code, QueryStaticCode};
@@ -12,7 +12,7 @@ use xt_syntax::{Arm, Expr};
 // What is told of an expression where `$g` is in scope and `local:f` of one parameter is declared: 8 and 17 for the two
 // codes, 0 for none.
 pub(crate) fn told(rt: &(impl Abort + AllocGlobal), e: Expr) -> u8 {
-    let scope = Scope::new(rt.alloc()).expect(rt, "memory");
+    let scope = VariableScope::new(rt.alloc()).expect(rt, "memory");
     let scope = scope.with(name_in(rt, "", "g")).expect(rt, "memory");
     let mut functions = Functions::new(rt.alloc());
     let name = name_in(rt, LOCAL, "f");

@@ -1,7 +1,7 @@
 // Which rules a prolog breaks.
 use crate::closed::{function_of, function_of_two, variable};
 use crate::made::{FN, LOCAL, call_1, list_of, name_in, text, two_of, var};
-use prolog_rules::{Declaration, Setter, broken_query, broken_setter};
+use closed_queries::prolog_rules::{Declaration, Setter, broken_query, broken_setter};
 use std::alloc::AllocGlobal;
 use std::process::Abort;
 use xt_names::{Binding, Code, List, QueryStaticCode};

@@ -1,8 +1,8 @@
 // White space that is stripped, told by how many nodes and attributes are left.
 use crate::made::{bare, element, list_of, list_of_two, name, text, text_tree, with};
+use doc_set::white_space::{strip, stripped_trees_are_sound};
 use std::alloc::AllocGlobal;
 use std::process::Abort;
-use white_space::{strip, stripped_trees_are_sound};
 use xt_names::{ExprName, List, Name};
 use xt_tree::{Attribute, Tree};
 use xt_types::{NameTest, SpaceRule};

@@ -4,9 +4,10 @@ use crate::written::{items_of, printed, put};
 use doc_set::DocSet;
 use eval_calls as calls;
 use eval_nodes as nodes;
-use eval_scopes::{Env, EvalFault, Fixed, Focus, Globals, Scope, State, Variable};
-use eval_values as values;
-use eval_values::{OneOperator, Operator, Place};
+use eval_scopes::eval_values::{OneOperator, Operator, Place};
+use eval_scopes::{
+    Env, EvalFault, Fixed, Focus, Globals, Scope, State, Variable, eval_values as values,
+};
 use lazy_seq::Seq;
 use std::alloc::{AllocGlobal, Global};
 use std::process::Abort;

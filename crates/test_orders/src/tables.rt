@@ -1,6 +1,6 @@
 // Tables of places by key.
 use crate::made::{MANY, digits, word};
-use atom_keys::KeyTable;
+use order_group::atom_keys::KeyTable;
 use std::alloc::AllocGlobal;
 use std::process::Abort;
 use xt_atoms::Atom;

@@ -2,7 +2,7 @@
 use expr_reader::{Reading, parse};
 use expr_terms::{Language, Token};
 use expr_tokens::terms;
-use pattern_shapes::is_pattern;
+use pattern_forms::pattern_shapes::is_pattern;
 use std::alloc::AllocGlobal;
 use std::process::Abort;
 use xpath_lex::tokens;

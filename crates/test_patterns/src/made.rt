@@ -94,7 +94,7 @@ pub(crate) fn sample(rt: &(impl Abort + AllocGlobal)) -> Tree {
     Tree::Doc(Kids::make(rt.alloc(), top).expect(rt, "memory"))
 }
 
-// The document of an `a` with so many children `<b k="m">one</b>`, and a `c` behind them.
+// The document of an `a` with so many children `<b k="m">one</b>`, and a `c` after them.
 pub(crate) fn many(rt: &(impl Abort + AllocGlobal), count: usize) -> Tree {
     let mut kids = List::new(rt.alloc());
     for _ in 0..count {

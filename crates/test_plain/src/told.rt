@@ -3,7 +3,7 @@ use bound_prefixes::BoundPrefixes;
 use doc_reader::read;
 use doc_set::DocSet;
 use doc_writer::write_items_bare;
-use eval_values::Place;
+use eval_scopes::eval_values::Place;
 use expr_resolve::Setting;
 use lazy_seq::Seq;
 use plain_eval::{Focus, Vars, eval_plain};

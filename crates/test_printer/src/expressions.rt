@@ -1,7 +1,7 @@
 // The bodies of queries as they are printed.
-use prolog_rules::Setter;
+use closed_queries::prolog_rules::Setter;
 use query_printer::print_expr;
-use query_prologs::prefixes_of;
+use query_resolve::query_prologs::prefixes_of;
 use std::alloc::AllocGlobal;
 use std::process::Abort;
 use xquery_syntax::parse_query;

@@ -1,9 +1,9 @@
 // Tokens and pieces as text (XQuery 1.0, 3.1.1, 3.7.1 and A.2).
 use expr_terms::{Key, Token};
+use query_pages::token_writer::{push_piece, push_token};
 use query_pieces::{Context, Quote};
 use std::alloc::AllocGlobal;
 use std::process::Abort;
-use token_writer::{push_piece, push_token};
 use xt_names::{Text, TextBuilder};
 
 fn text(rt: &(impl Abort + AllocGlobal), s: &str) -> Text {
@@ -79,8 +79,20 @@ fn names_and_numbers(rt: HostRuntime) {
             "9223372036854775807"
         )
     );
-    assert!(rt; is_written(&rt, Token::Outer(text(&rt, ""), text(&rt, "a")), "<a"));
-    assert!(rt; is_written(&rt, Token::Outer(text(&rt, "p"), text(&rt, "a")), "<p:a"));
+    assert!(rt;
+        is_written(
+            &rt,
+            Token::StartTagOpen(text(&rt, ""), text(&rt, "a")),
+            "<a"
+        )
+    );
+    assert!(rt;
+        is_written(
+            &rt,
+            Token::StartTagOpen(text(&rt, "p"), text(&rt, "a")),
+            "<p:a"
+        )
+    );
 }
 
 #[test]
@@ -97,12 +109,12 @@ fn pieces(rt: HostRuntime) {
     );
     assert!(rt; is_piece(&rt, Context::Tag, Token::TagEnd, ">"));
     assert!(rt; is_piece(&rt, Context::Tag, Token::EmptyEnd, "/>"));
-    assert!(rt; is_piece(&rt, value, Token::Unquote, "\""));
+    assert!(rt; is_piece(&rt, value, Token::AttributeEnd, "\""));
     assert!(rt;
         is_piece(
             &rt,
             content,
-            Token::Inner(text(&rt, "p"), text(&rt, "b")),
+            Token::ChildTagOpen(text(&rt, "p"), text(&rt, "b")),
             "<p:b"
         )
     );
@@ -110,11 +122,11 @@ fn pieces(rt: HostRuntime) {
         is_piece(
             &rt,
             content,
-            Token::Shut(text(&rt, ""), text(&rt, "a")),
+            Token::EndTag(text(&rt, ""), text(&rt, "a")),
             "</a>"
         )
     );
-    assert!(rt; is_piece(&rt, content, Token::Enter, "{"));
+    assert!(rt; is_piece(&rt, content, Token::EnclosedOpen, "{"));
     let cases = [
         (content, "a b", true, "a b"),
         (content, "{", true, "{{"),

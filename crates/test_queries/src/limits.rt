@@ -57,7 +57,7 @@ const DEEPEST: &[&str] = &["query", "q.xq", "d.xml", "--depth", "602"];
 
 const CALL: &str = "declare function local:f($n) { if ($n = 1) then 0 else ";
 
-// What stands before and behind each of 602 open calls, in between so many times, and what they give.
+// What comes before and after each of 602 open calls, in between so many times, and what they give.
 const FORMS: [(usize, Parts, &str); 5] = [
     (30, ("", "1 + (", "local:f($n - 1)", ")", ""), "18030"),
     (30, ("", "(", "local:f($n - 1)", " + 1)", ""), "18030"),

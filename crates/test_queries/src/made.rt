@@ -7,7 +7,7 @@ use xt_io::{Files, MemFiles, MemSink};
 /// The words of a run over the query and the document of `files_with`.
 pub(crate) const QUERY: &[&str] = &["query", "q.xq", "d.xml"];
 
-/// What stands before all that is written, where nothing says to leave it out.
+/// What comes before all that is written, where nothing says to leave it out.
 const DECLARATION: &[u8] = b"<?xml version=\"1.0\" encoding=\"UTF-8\"?>";
 
 /// A query as q.xq, a document as d.xml, and further documents as e.xml and f.xml.
@@ -27,7 +27,7 @@ pub(crate) fn files_with(
 }
 
 /// Whether a run over the files of `files_with` ends with this number, and either writes this text
-/// behind the XML declaration or says this line.
+/// after the XML declaration or says this line.
 pub(crate) fn ends_so(
     rt: &(impl Abort + AllocGlobal),
     words: &[&str],

@@ -1,4 +1,4 @@
-// Runs of queries: what is written behind the XML declaration, or the line that is said.
+// Runs of queries: what is written after the XML declaration, or the line that is said.
 use crate::made::{QUERY, ends_so, files_with, status_of};
 use xt_io::MemSink;
 
@@ -88,7 +88,7 @@ fn places(rt: HostRuntime) {
     }
 }
 
-// What stands behind the declaration of the namespace of the options.
+// What comes after the declaration of the namespace of the options.
 const SPACES: [Row; 5] = [
     (
         "declare option o:space \"strip *\"; count(//text())",

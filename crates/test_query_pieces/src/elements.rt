@@ -11,7 +11,7 @@ fn joined(rt: &(impl Abort + AllocGlobal), front: &str, middle: &str, back: &str
     out
 }
 
-// what stands between the two texts is read so between the two readings
+// what is between the two texts is read so between the two readings
 fn is_read_within(
     rt: &(impl Abort + AllocGlobal),
     around: (&str, &str),
@@ -32,30 +32,34 @@ fn is_read_within(
 #[test]
 fn tags(rt: HostRuntime) {
     let cases = [
-        ("<a/>", "Outer(a) EmptyEnd End"),
-        ("<a></a>", "Outer(a) TagEnd Shut(a) End"),
-        ("<a ></a >", "Outer(a) TagEnd Shut(a) End"),
-        ("<if \n/>", "Outer(if) EmptyEnd End"),
-        ("<p:a/>", "Outer(p:a) EmptyEnd End"),
+        ("<a/>", "StartTagOpen(a) EmptyEnd End"),
+        ("<a></a>", "StartTagOpen(a) TagEnd EndTag(a) End"),
+        ("<a ></a >", "StartTagOpen(a) TagEnd EndTag(a) End"),
+        ("<if \n/>", "StartTagOpen(if) EmptyEnd End"),
+        ("<p:a/>", "StartTagOpen(p:a) EmptyEnd End"),
         (
             "<a  b='1' p:c = \"2\" />",
-            "Outer(a) Attribute(b) Chars(1) Unquote Attribute(p:c) Chars(2) Unquote EmptyEnd End",
+            "StartTagOpen(a) Attribute(b) Chars(1) AttributeEnd Attribute(p:c) Chars(2) \
+             AttributeEnd EmptyEnd End",
         ),
-        ("<a b=''/>", "Outer(a) Attribute(b) Unquote EmptyEnd End"),
+        (
+            "<a b=''/>",
+            "StartTagOpen(a) Attribute(b) AttributeEnd EmptyEnd End",
+        ),
         (
             "<a b='1'c='2'/>",
-            "Outer(a) Attribute(b) Chars(1) Unquote Nothing",
+            "StartTagOpen(a) Attribute(b) Chars(1) AttributeEnd Nothing",
         ),
-        ("<a b/>", "Outer(a) Nothing"),
-        ("<a b=1/>", "Outer(a) Nothing"),
-        ("<a / >", "Outer(a) Nothing"),
-        ("<a", "Outer(a) Nothing"),
-        ("<p:/>", "Outer(p) Nothing"),
-        ("<p:*/>", "Outer(p) Nothing"),
-        ("<a:b:c/>", "Outer(a:b) Nothing"),
-        ("<a></ a>", "Outer(a) TagEnd Nothing"),
-        ("<a>", "Outer(a) TagEnd Nothing"),
-        ("<a (: x :) />", "Outer(a) Nothing"),
+        ("<a b/>", "StartTagOpen(a) Nothing"),
+        ("<a b=1/>", "StartTagOpen(a) Nothing"),
+        ("<a / >", "StartTagOpen(a) Nothing"),
+        ("<a", "StartTagOpen(a) Nothing"),
+        ("<p:/>", "StartTagOpen(p) Nothing"),
+        ("<p:*/>", "StartTagOpen(p) Nothing"),
+        ("<a:b:c/>", "StartTagOpen(a:b) Nothing"),
+        ("<a></ a>", "StartTagOpen(a) TagEnd Nothing"),
+        ("<a>", "StartTagOpen(a) TagEnd Nothing"),
+        ("<a (: x :) />", "StartTagOpen(a) Nothing"),
     ];
     for (text, expected) in cases {
         let found = read(&rt, text);
@@ -67,34 +71,35 @@ fn tags(rt: HostRuntime) {
 #[test]
 fn values(rt: HostRuntime) {
     let cases = [
-        ("'x'", "Chars(x) Unquote "),
-        ("\"'\"", "Chars(') Unquote "),
-        ("'\"'", "Chars(\") Unquote "),
-        ("\"x\"\"y\"", "Chars(x) Chars(\") Chars(y) Unquote "),
-        ("'x''y'", "Chars(x) Chars(') Chars(y) Unquote "),
-        ("\"''\"", "Chars('') Unquote "),
-        ("\"{'}'}\"", "Enter Quoted(}) Key(}) Unquote "),
+        ("'x'", "Chars(x) AttributeEnd "),
+        ("\"'\"", "Chars(') AttributeEnd "),
+        ("'\"'", "Chars(\") AttributeEnd "),
+        ("\"x\"\"y\"", "Chars(x) Chars(\") Chars(y) AttributeEnd "),
+        ("'x''y'", "Chars(x) Chars(') Chars(y) AttributeEnd "),
+        ("\"''\"", "Chars('') AttributeEnd "),
+        ("\"{'}'}\"", "EnclosedOpen Quoted(}) Key(}) AttributeEnd "),
         (
             "'{ 1 }{2}'",
-            "Enter Digits(1) Key(}) Enter Digits(2) Key(}) Unquote ",
+            "EnclosedOpen Digits(1) Key(}) EnclosedOpen Digits(2) Key(}) AttributeEnd ",
         ),
-        ("'{{}}'", "Chars({) Chars(}) Unquote "),
+        ("'{{}}'", "Chars({) Chars(}) AttributeEnd "),
         (
             "'{<b c=\"d\"/>}'",
-            "Enter Outer(b) Attribute(c) Chars(d) Unquote EmptyEnd Key(}) Unquote ",
+            "EnclosedOpen StartTagOpen(b) Attribute(c) Chars(d) AttributeEnd EmptyEnd Key(}) \
+             AttributeEnd ",
         ),
         (
             "'&#x41;b&#10;'",
-            "Reference(A) Chars(b) Reference(\n) Unquote ",
+            "Reference(A) Chars(b) Reference(\n) AttributeEnd ",
         ),
         (
             "'x\r\ny\tz\n'",
-            "Chars(x) Chars( ) Chars(y) Chars( ) Chars(z) Chars( ) Unquote ",
+            "Chars(x) Chars( ) Chars(y) Chars( ) Chars(z) Chars( ) AttributeEnd ",
         ),
-        ("' \r\r'", "Chars( ) Chars( ) Chars( ) Unquote "),
-        ("'>(: :)'", "Chars(>(: :)) Unquote "),
+        ("' \r\r'", "Chars( ) Chars( ) Chars( ) AttributeEnd "),
+        ("'>(: :)'", "Chars(>(: :)) AttributeEnd "),
     ];
-    let readings = ("Outer(a) Attribute(b) ", "EmptyEnd End");
+    let readings = ("StartTagOpen(a) Attribute(b) ", "EmptyEnd End");
     for (text, expected) in cases {
         assert!(rt; is_read_within(&rt, ("<a b=", "/>"), text, readings, expected));
     }
@@ -103,7 +108,7 @@ fn values(rt: HostRuntime) {
 #[test]
 fn values_refused(rt: HostRuntime) {
     let refused = ["'<'", "'}'", "'&b'", "'&#xFFFE;'", "'\u{1}'"];
-    let readings = ("Outer(a) Attribute(b) ", "");
+    let readings = ("StartTagOpen(a) Attribute(b) ", "");
     for text in refused {
         assert!(rt; is_read_within(&rt, ("<a b=", "/>"), text, readings, "Nothing"));
     }
@@ -114,30 +119,33 @@ fn content(rt: HostRuntime) {
     let cases = [
         ("x", "Chars(x) "),
         ("{{x}}", "Chars({) Chars(x) Chars(}) "),
-        ("{\"{\"}", "Enter Quoted({) Key(}) "),
-        ("{1}{2}", "Enter Digits(1) Key(}) Enter Digits(2) Key(}) "),
+        ("{\"{\"}", "EnclosedOpen Quoted({) Key(}) "),
+        (
+            "{1}{2}",
+            "EnclosedOpen Digits(1) Key(}) EnclosedOpen Digits(2) Key(}) ",
+        ),
         (
             "{ <b>{1}</b> }",
-            "Enter Outer(b) TagEnd Enter Digits(1) Key(}) Shut(b) Key(}) ",
+            "EnclosedOpen StartTagOpen(b) TagEnd EnclosedOpen Digits(1) Key(}) EndTag(b) Key(}) ",
         ),
         (
             "{ element b { 1 } }",
-            "Enter Key(element) Name(b) Key({) Digits(1) Key(}) Key(}) ",
+            "EnclosedOpen Key(element) Name(b) Key({) Digits(1) Key(}) Key(}) ",
         ),
         (
             " <b>t</b> ",
-            "Chars( ) Inner(b) TagEnd Chars(t) Shut(b) Chars( ) ",
+            "Chars( ) ChildTagOpen(b) TagEnd Chars(t) EndTag(b) Chars( ) ",
         ),
-        ("<p:b/>", "Inner(p:b) EmptyEnd "),
+        ("<p:b/>", "ChildTagOpen(p:b) EmptyEnd "),
         ("&#x41;b&lt;", "Reference(A) Chars(b) Reference(<) "),
         (
             "x\r\ny\rz\n",
             "Chars(x) Chars(\n) Chars(y) Chars(\n) Chars(z\n) ",
         ),
         ("'\"(: x :)]]>", "Chars('\"(: x :)]]>) "),
-        ("{a<b}", "Enter Name(a) Key(<) Name(b) Key(}) "),
+        ("{a<b}", "EnclosedOpen Name(a) Key(<) Name(b) Key(}) "),
     ];
-    let readings = ("Outer(a) TagEnd ", "Shut(a) End");
+    let readings = ("StartTagOpen(a) TagEnd ", "EndTag(a) End");
     for (text, expected) in cases {
         assert!(rt; is_read_within(&rt, ("<a>", "</a>"), text, readings, expected));
     }
@@ -154,7 +162,7 @@ fn content_refused(rt: HostRuntime) {
         "&b",
         "\u{1}",
     ];
-    let readings = ("Outer(a) TagEnd ", "");
+    let readings = ("StartTagOpen(a) TagEnd ", "");
     for text in refused {
         assert!(rt; is_read_within(&rt, ("<a>", "</a>"), text, readings, "Nothing"));
     }

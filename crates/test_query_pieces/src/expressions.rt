@@ -86,21 +86,21 @@ fn refusals(rt: HostRuntime) {
     }
 }
 
-// `<` before a name begins an element where an operand may stand, and always behind a lone `/`
+// `<` before a name begins an element where an operand may stand, and always after a lone `/`
 #[test]
 fn less_than(rt: HostRuntime) {
     let cases = [
         ("a<b", "Name(a) Key(<) Name(b) End"),
         ("a <b", "Name(a) Key(<) Name(b) End"),
         ("a < b", "Name(a) Key(<) Name(b) End"),
-        ("1 = <b/>", "Digits(1) Key(=) Outer(b) EmptyEnd End"),
-        ("<a/>/b", "Outer(a) EmptyEnd Key(/) Name(b) End"),
-        ("<a/> <b", "Outer(a) EmptyEnd Key(<) Name(b) End"),
-        ("{<a/>}", "Key({) Outer(a) EmptyEnd Key(}) End"),
+        ("1 = <b/>", "Digits(1) Key(=) StartTagOpen(b) EmptyEnd End"),
+        ("<a/>/b", "StartTagOpen(a) EmptyEnd Key(/) Name(b) End"),
+        ("<a/> <b", "StartTagOpen(a) EmptyEnd Key(<) Name(b) End"),
+        ("{<a/>}", "Key({) StartTagOpen(a) EmptyEnd Key(}) End"),
         ("< a", "Key(<) Name(a) End"),
         ("<<a", "Key(<<) Name(a) End"),
         ("<=a", "Key(<=) Name(a) End"),
-        ("//<a/>", "Key(//) Outer(a) EmptyEnd End"),
+        ("//<a/>", "Key(//) StartTagOpen(a) EmptyEnd End"),
     ];
     for (text, expected) in cases {
         let found = read(&rt, text);
@@ -109,8 +109,8 @@ fn less_than(rt: HostRuntime) {
     }
     let operators = [
         ("<a", "Key(<) Name(a) End"),
-        ("/<a/>", "Key(/) Outer(a) EmptyEnd End"),
-        ("/ (: x :) <a/>", "Key(/) Outer(a) EmptyEnd End"),
+        ("/<a/>", "Key(/) StartTagOpen(a) EmptyEnd End"),
+        ("/ (: x :) <a/>", "Key(/) StartTagOpen(a) EmptyEnd End"),
         ("/<1", "Key(/) Key(<) Digits(1) End"),
         ("//<a", "Key(//) Key(<) Name(a) End"),
         ("/ a <b", "Key(/) Name(a) Key(<) Name(b) End"),
@@ -121,6 +121,6 @@ fn less_than(rt: HostRuntime) {
         drop(found);
     }
     let found = read_operands(&rt, "a<b/>");
-    assert_eq!(rt; found.as_str(), "Name(a) Outer(b) EmptyEnd End");
+    assert_eq!(rt; found.as_str(), "Name(a) StartTagOpen(b) EmptyEnd End");
     drop(found);
 }

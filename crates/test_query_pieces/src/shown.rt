@@ -55,33 +55,33 @@ fn push_token(rt: &(impl Abort + AllocGlobal), out: &mut String, token: &Token) 
             drop(digits);
         }
         Token::Quoted(t) => push_one(rt, out, "Quoted", t.as_str()),
-        Token::Outer(p, n) => push_name(rt, out, "Outer", p, n),
-        Token::Inner(p, n) => push_name(rt, out, "Inner", p, n),
+        Token::StartTagOpen(p, n) => push_name(rt, out, "StartTagOpen", p, n),
+        Token::ChildTagOpen(p, n) => push_name(rt, out, "ChildTagOpen", p, n),
         Token::Attribute(p, n) => push_name(rt, out, "Attribute", p, n),
-        Token::Unquote => push(rt, out, "Unquote"),
+        Token::AttributeEnd => push(rt, out, "AttributeEnd"),
         Token::TagEnd => push(rt, out, "TagEnd"),
         Token::EmptyEnd => push(rt, out, "EmptyEnd"),
-        Token::Shut(p, n) => push_name(rt, out, "Shut", p, n),
+        Token::EndTag(p, n) => push_name(rt, out, "EndTag", p, n),
         Token::Chars(t, true) => push_one(rt, out, "Chars", t.as_str()),
         Token::Chars(t, false) => push_one(rt, out, "Reference", t.as_str()),
-        Token::Enter => push(rt, out, "Enter"),
+        Token::EnclosedOpen => push(rt, out, "EnclosedOpen"),
     }
 }
 
-// whether an operand may stand behind the token, as far as the token tells
+// whether an operand may come after the token, as far as the token tells
 fn is_before_operand(token: &Token) -> bool {
     match token {
         Token::Key(key) => {
             !is_worded(*key)
                 && !matches!(key, Key::CloseParen | Key::CloseBracket | Key::CloseBrace)
         }
-        Token::Enter => true,
+        Token::EnclosedOpen => true,
         _ => false,
     }
 }
 
 // the tokens of a text to its end, or to where nothing may be read; `always` and `never` say that
-// an operand may stand everywhere or nowhere, else what stands before tells
+// an operand may stand everywhere or nowhere, else what comes before tells
 fn walked(rt: &(impl Abort + AllocGlobal), text: &str, always: bool, never: bool) -> String {
     let mut out = String::new(rt.alloc());
     let mut pieces = Pieces::new(rt.alloc(), text);

@@ -1,6 +1,6 @@
 // Direct elements that end alike (XQuery 1.0, 3.7.1).
 use crate::reads::query_in;
-use expr_shapes::is_shaped;
+use expr_rules::expr_shapes::is_shaped;
 
 #[test]
 fn elements(rt: HostRuntime) {

@@ -2,7 +2,7 @@
 use bound_prefixes::BoundPrefixes;
 use expr_names::ResolveFault;
 use sheet_language::SheetLanguage;
-use sheet_texts::{NameTable, Place, Reader};
+use sheet_values::sheet_texts::{NameTable, Reader, StaticContext};
 use std::alloc::AllocGlobal;
 use std::process::Abort;
 use xt_names::{Binding, List, Shared, Text};
@@ -16,7 +16,7 @@ fn names(rt: &(impl Abort + AllocGlobal)) -> Shared<NameTable> {
 }
 
 // Where `p` and `xs` are bound.
-fn place(rt: &(impl Abort + AllocGlobal), in_group: bool) -> Place {
+fn place(rt: &(impl Abort + AllocGlobal), in_group: bool) -> StaticContext {
     let mut bound = List::new(rt.alloc());
     for (prefix, uri) in [("p", "urn:p"), ("xs", "http://www.w3.org/2001/XMLSchema")] {
         let binding = Binding {
@@ -25,7 +25,7 @@ fn place(rt: &(impl Abort + AllocGlobal), in_group: bool) -> Place {
         };
         bound.push(binding).expect(rt, "memory");
     }
-    Place {
+    StaticContext {
         bound: BoundPrefixes::new(bound).expect(rt, "memory"),
         in_group,
         modes: names(rt),
@@ -41,7 +41,7 @@ fn why(fault: ResolveFault) -> &'static str {
 }
 
 // `value`, or the code of the rule that is broken.
-fn expr_told(rt: &(impl Abort + AllocGlobal), place: &Place, words: &str) -> &'static str {
+fn expr_told(rt: &(impl Abort + AllocGlobal), place: &StaticContext, words: &str) -> &'static str {
     let language = SheetLanguage {};
     let words = text(rt, words);
     let found = language.expr(rt.alloc(), place, &words);
@@ -56,7 +56,11 @@ fn expr_told(rt: &(impl Abort + AllocGlobal), place: &Place, words: &str) -> &'s
     }
 }
 
-fn patterns_told(rt: &(impl Abort + AllocGlobal), place: &Place, words: &str) -> &'static str {
+fn patterns_told(
+    rt: &(impl Abort + AllocGlobal),
+    place: &StaticContext,
+    words: &str,
+) -> &'static str {
     let language = SheetLanguage {};
     let words = text(rt, words);
     let found = language.patterns(rt.alloc(), place, &words);
@@ -71,7 +75,7 @@ fn patterns_told(rt: &(impl Abort + AllocGlobal), place: &Place, words: &str) ->
     }
 }
 
-fn type_told(rt: &(impl Abort + AllocGlobal), place: &Place, words: &str) -> &'static str {
+fn type_told(rt: &(impl Abort + AllocGlobal), place: &StaticContext, words: &str) -> &'static str {
     let language = SheetLanguage {};
     let words = text(rt, words);
     let found = language.sequence_type(rt.alloc(), place, &words);

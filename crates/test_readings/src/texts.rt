@@ -1,9 +1,9 @@
 // Expressions with a limit of nesting.
 use bound_prefixes::BoundPrefixes;
-use expr_readings::parse_text;
 use expr_resolve::Setting;
 use std::alloc::AllocGlobal;
 use std::process::Abort;
+use xpath_syntax::expr_readings::parse_text;
 use xt_names::{List, Text};
 use xt_syntax::{ParseFault, Prefixes};
 

@@ -128,15 +128,15 @@ fn name_of(rt: &(impl Abort + AllocGlobal), word: &str) -> Option<Token> {
 fn tag_of(rt: &(impl Abort + AllocGlobal), word: &str) -> Option<Token> {
     if let Some(name) = word.strip_prefix("#</") {
         let (prefix, local) = parts_of(name);
-        return Some(Token::Shut(text(rt, prefix), text(rt, local)));
+        return Some(Token::EndTag(text(rt, prefix), text(rt, local)));
     }
     if let Some(name) = word.strip_prefix("#<<") {
         let (prefix, local) = parts_of(name);
-        return Some(Token::Inner(text(rt, prefix), text(rt, local)));
+        return Some(Token::ChildTagOpen(text(rt, prefix), text(rt, local)));
     }
     if let Some(name) = word.strip_prefix("#<") {
         let (prefix, local) = parts_of(name);
-        return Some(Token::Outer(text(rt, prefix), text(rt, local)));
+        return Some(Token::StartTagOpen(text(rt, prefix), text(rt, local)));
     }
     if let Some(name) = word.strip_prefix("#=") {
         let (prefix, local) = parts_of(name);
@@ -155,10 +155,10 @@ fn parts_of(name: &str) -> (&str, &str) {
 // Other pieces: `#t` is a character, `#_` a literal space, `#&` a space by a reference.
 fn piece_of(rt: &(impl Abort + AllocGlobal), word: &str) -> Option<Token> {
     match word {
-        "#q" => Some(Token::Unquote),
+        "#q" => Some(Token::AttributeEnd),
         "#>" => Some(Token::TagEnd),
         "#/>" => Some(Token::EmptyEnd),
-        "#{" => Some(Token::Enter),
+        "#{" => Some(Token::EnclosedOpen),
         "#t" => Some(Token::Chars(text(rt, "t"), true)),
         "#_" => Some(Token::Chars(text(rt, " "), true)),
         "#&" => Some(Token::Chars(text(rt, " "), false)),

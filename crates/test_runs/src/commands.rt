@@ -232,7 +232,7 @@ fn further_documents(rt: HostRuntime) {
     }
 }
 
-// What stands in s.xsl, what stands as m.xsl, where something does, and how the run ends. Modules come
+// What is in s.xsl, what stands as m.xsl, where something does, and how the run ends. Modules come
 // before rules, and both before the document, which is none.
 const MODULES: [(&[u8], Option<&[u8]>, u8, &[u8]); 6] = [
     (

@@ -2,7 +2,7 @@
 //! form on documents.
 //!
 //! They stand apart from the crates that they test, so that a change of a test need not prove those
-//! crates again. Trees are read from XML that stands in the test. A helper ends the test where
+//! crates again. Trees are read from XML that is in the test. A helper ends the test where
 //! memory runs out, and what a test makes ends by `drop`, which keeps the check of the tests short.
 #![tactic(auto)]
 

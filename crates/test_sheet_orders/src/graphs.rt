@@ -1,6 +1,6 @@
 // The order of the first places of a graph by which of the last ones they reach.
 use crate::orders::with_needs;
-use graph_orders::order_by;
+use global_order::graph_orders::order_by;
 use std::alloc::AllocGlobal;
 use std::process::Abort;
 use xt_names::List;

@@ -74,7 +74,7 @@ fn a_hundred_thousand_in_order(rt: HostRuntime) {
     drop(graph);
 }
 
-// Each but the last depends on the one behind it.
+// Each but the last depends on the one after it.
 fn ladder_down(rt: &(impl Abort + AllocGlobal), size: usize) -> Vec<List<usize>> {
     let mut graph = Vec::new(rt.alloc());
     for place in 1..size {

@@ -1,10 +1,10 @@
-// What stands in the stylesheet that declarations make up.
+// What is in the stylesheet that declarations make up.
 use crate::made::name;
 use sheet_assembly::assemble;
-use sheet_declarations::Declaration;
-use sheet_levels::SheetLevel;
+use sheet_modules::sheet_levels::SheetLevel;
 use sheet_modules::{ModeSet, Part, RulePart, TemplatePart};
-use sheet_texts::NameTable;
+use sheet_rules::sheet_declarations::Declaration;
+use sheet_values::sheet_texts::NameTable;
 use std::alloc::AllocGlobal;
 use std::process::Abort;
 use xt_names::{List, Shared};

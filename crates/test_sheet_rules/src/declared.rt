@@ -1,8 +1,8 @@
 // What is declared, and the rules that it breaks.
 use crate::made::{FUNCTIONS, codes_told, name, shared};
-use sheet_declarations::Declaration;
 use sheet_modules::{FunctionPart, GlobalPart, KeyPart, Part, TemplatePart};
 use sheet_rules::push_broken_rules;
+use sheet_rules::sheet_declarations::Declaration;
 use std::alloc::AllocGlobal;
 use std::process::Abort;
 use xt_names::{ExprName, List, Shared};

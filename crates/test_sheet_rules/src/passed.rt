@@ -1,9 +1,9 @@
 // Parameters that calls pass, and the rule that a stylesheet is refused for.
 use crate::made::{codes_told, name};
+use sheet_rules::wide_rules::{Parameters, first_wide, parameters_of, push_broken_passing};
 use sheet_uses::Use;
 use std::alloc::AllocGlobal;
 use std::process::Abort;
-use wide_rules::{Parameters, first_wide, parameters_of, push_broken_passing};
 use xt_names::{Code, List, QueryStaticCode, SheetStaticCode};
 use xt_sheets::{Bound, Value};
 

@@ -1,6 +1,6 @@
 // What sequence constructors use.
 use crate::told::{expr, name, told};
-use name_rules::Scope;
+use name_rules::VariableScope;
 use sheet_uses::{push_body_uses, push_callee_uses};
 use std::alloc::AllocGlobal;
 use std::process::Abort;
@@ -26,7 +26,7 @@ fn push(rt: &(impl Abort + AllocGlobal), body: &mut List<Instr>, instr: Instr) {
 }
 
 fn body_told(rt: &(impl Abort + AllocGlobal), body: List<Instr>) -> String {
-    let scope = Scope::new(rt.alloc()).expect(rt, "memory");
+    let scope = VariableScope::new(rt.alloc()).expect(rt, "memory");
     let mut found = List::new(rt.alloc());
     push_body_uses(body.as_slice(), &scope, &mut found).expect(rt, "memory");
     let out = told(rt, &found);
@@ -36,7 +36,7 @@ fn body_told(rt: &(impl Abort + AllocGlobal), body: List<Instr>) -> String {
     out
 }
 
-// A variable is seen by what stands behind it, and not by its own value.
+// A variable is seen by what comes after it, and not by its own value.
 #[test]
 fn variables_of_a_body(rt: HostRuntime) {
     let mut inner = List::new(rt.alloc());
@@ -100,7 +100,7 @@ fn parameters_of_a_callee(rt: HostRuntime) {
         .expect(&rt, "memory");
     let mut body = List::new(rt.alloc());
     push(&rt, &mut body, Instr::Sequence(shared(&rt, "$p, $q, $r")));
-    let scope = Scope::new(rt.alloc()).expect(&rt, "memory");
+    let scope = VariableScope::new(rt.alloc()).expect(&rt, "memory");
     let mut found = List::new(rt.alloc());
     let pushed = push_callee_uses(params.as_slice(), body.as_slice(), &scope, &mut found);
     pushed.expect(&rt, "memory");

@@ -1,7 +1,7 @@
 // Names that are used and not declared.
 use crate::told::{expr, name, text};
-use name_rules::{Functions, Scope};
-use sheet_names::{Names, broken_use, push_broken_uses, with_key};
+use name_rules::{Functions, VariableScope};
+use sheet_expressions::sheet_names::{Names, broken_use, push_broken_uses, with_key};
 use sheet_uses::{Use, push_expr_uses};
 use std::alloc::AllocGlobal;
 use std::process::Abort;
@@ -16,14 +16,14 @@ fn named(rt: &(impl Abort + AllocGlobal), uri: &str, local: &str) -> ExprName {
 
 // The variable x, the function mine with one parameter, the keys k and k of urn:u, and one template.
 fn some_names(rt: &(impl Abort + AllocGlobal)) -> Names {
-    let variables = Scope::new(rt.alloc()).expect(rt, "memory");
+    let variables = VariableScope::new(rt.alloc()).expect(rt, "memory");
     let variables = variables.with(name(rt, "x")).expect(rt, "memory");
     let mut functions = Functions::new(rt.alloc());
     let mine = named(rt, "http://www.w3.org/2005/xpath-functions", "mine");
     let declared = functions.declare(&mine, 1).expect(rt, "memory");
     assert!(rt; declared, "the first of its name");
     drop(mine);
-    let keys = Scope::new(rt.alloc()).expect(rt, "memory");
+    let keys = VariableScope::new(rt.alloc()).expect(rt, "memory");
     let key = name(rt, "k");
     let keys = with_key(rt.alloc(), keys, &key).expect(rt, "memory");
     drop(key);
@@ -51,7 +51,7 @@ fn codes_told(rt: &(impl Abort + AllocGlobal), codes: &List<Code>) -> String {
 
 fn broken(rt: &(impl Abort + AllocGlobal), names: &Names, words: &str) -> String {
     let e = expr(rt, words);
-    let scope = Scope::new(rt.alloc()).expect(rt, "memory");
+    let scope = VariableScope::new(rt.alloc()).expect(rt, "memory");
     let mut found = List::new(rt.alloc());
     push_expr_uses(&e, &scope, &mut found).expect(rt, "memory");
     drop(scope);

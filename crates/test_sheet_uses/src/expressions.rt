@@ -1,12 +1,12 @@
 // What expressions use.
 use crate::told::{expr, name, told};
-use name_rules::Scope;
+use name_rules::VariableScope;
 use sheet_uses::push_expr_uses;
 use std::alloc::AllocGlobal;
 use std::process::Abort;
 use xt_names::List;
 
-fn uses(rt: &(impl Abort + AllocGlobal), words: &str, scope: &Scope) -> String {
+fn uses(rt: &(impl Abort + AllocGlobal), words: &str, scope: &VariableScope) -> String {
     let e = expr(rt, words);
     let mut found = List::new(rt.alloc());
     push_expr_uses(&e, scope, &mut found).expect(rt, "memory");
@@ -20,7 +20,7 @@ fn uses(rt: &(impl Abort + AllocGlobal), words: &str, scope: &Scope) -> String {
 fn wrong_case<'a>(
     rt: &(impl Abort + AllocGlobal),
     cases: &[(&'a str, &'a str)],
-    scope: &Scope,
+    scope: &VariableScope,
 ) -> &'a str {
     for (words, wanted) in cases {
         let found = uses(rt, words, scope);
@@ -35,7 +35,7 @@ fn wrong_case<'a>(
 
 #[test]
 fn variables(rt: HostRuntime) {
-    let scope = Scope::new(rt.alloc()).expect(&rt, "memory");
+    let scope = VariableScope::new(rt.alloc()).expect(&rt, "memory");
     let cases = [
         ("1", ""),
         ("$a", "$a"),
@@ -59,7 +59,7 @@ fn variables(rt: HostRuntime) {
 
 #[test]
 fn variables_bound_around(rt: HostRuntime) {
-    let scope = Scope::new(rt.alloc()).expect(&rt, "memory");
+    let scope = VariableScope::new(rt.alloc()).expect(&rt, "memory");
     let scope = scope.with(name(&rt, "a")).expect(&rt, "memory");
     let cases = [("$a + $b", "$b"), ("for $b in $a return $b", "")];
     let wrong = wrong_case(&rt, &cases, &scope);
@@ -69,7 +69,7 @@ fn variables_bound_around(rt: HostRuntime) {
 
 #[test]
 fn calls(rt: HostRuntime) {
-    let scope = Scope::new(rt.alloc()).expect(&rt, "memory");
+    let scope = VariableScope::new(rt.alloc()).expect(&rt, "memory");
     let cases = [
         ("count($a)", "count/1, $a"),
         ("key('k', $v)", "key/2'k', $v"),

@@ -50,7 +50,7 @@ fn put(rt: &(impl Abort + AllocGlobal), out: &mut String, text: &str) {
     out.push_str(text).expect(rt, "memory");
 }
 
-// A number of one digit; none of more stands in a test.
+// A number of one digit; none of more is in a test.
 fn put_digit(rt: &(impl Abort + AllocGlobal), out: &mut String, number: usize) {
     let digits = ["0", "1", "2", "3", "4", "5", "6", "7", "8", "9"];
     put(rt, out, if number < 10 { digits[number] } else { "many" });

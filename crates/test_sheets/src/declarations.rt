@@ -64,7 +64,7 @@ fn roots(rt: HostRuntime) {
     }
 }
 
-// What stands at the top (XSLT 2.0, 3.6.2 and 3.6.3).
+// What is at the top (XSLT 2.0, 3.6.2 and 3.6.3).
 #[test]
 fn tops(rt: HostRuntime) {
     let cases = [

@@ -87,7 +87,7 @@ fn keys(rt: HostRuntime) {
     drop(content);
 }
 
-// Whether the global of this name stands there.
+// Whether the global of this name is there.
 fn is_global(sheet: &Sheet, place: usize, name: &str) -> bool {
     match sheet.globals.as_slice().get(place) {
         Some(global) => global.bound.name.local.as_str() == name,

@@ -1,7 +1,7 @@
 // How deep instructions nest, in which a text stands for each expression and pattern.
 use crate::instrs::{Bound, Instr, Value, bound, chars, when};
 use crate::made::{list_of, list_of_two, shared, with};
-use sheet_forms::{nest_body, nest_instruction};
+use closed_sheets::sheet_forms::{nest_body, nest_instruction};
 use std::alloc::AllocGlobal;
 use std::process::Abort;
 use xt_names::List;

@@ -2,7 +2,7 @@
 use crate::instrs::{Value, bound, chars, select};
 use crate::made::{list_of, shared};
 use crate::sheet_copies::sheet;
-use sheet_forms::{nest_bound, nest_sheet};
+use closed_sheets::sheet_forms::{nest_bound, nest_sheet};
 
 #[test]
 fn a_selected_parameter_is_no_level(rt: HostRuntime) {

@@ -133,7 +133,7 @@ fn what_a_list_holds_is_told(rt: HostRuntime) {
     assert_eq!(rt; holding(gathered(&rt, &[7, 5]), &[7, 5]), "many");
 }
 
-// two lists, and the one behind the other
+// two lists, and the one after the other
 const JOINED: [(&[i64], &[i64], &[i64]); 9] = [
     (&[], &[], &[]),
     (&[], &[4], &[4]),

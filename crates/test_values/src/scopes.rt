@@ -1,6 +1,6 @@
 // Scopes as a writer of elements uses them.
 use crate::made::text;
-use name_scopes::Scope;
+use name_scopes::NamespaceScope;
 use std::alloc::AllocGlobal;
 use std::process::Abort;
 use xt_names::{Binding, List};
@@ -13,11 +13,11 @@ fn binding(rt: &(impl Abort + AllocGlobal), prefix: &str, uri: &str) -> Binding 
 }
 
 // `p` is bound to `u`, and `q` to `v`.
-fn scope(rt: &(impl Abort + AllocGlobal)) -> Scope {
+fn scope(rt: &(impl Abort + AllocGlobal)) -> NamespaceScope {
     let mut bindings = List::new(rt.alloc());
     bindings.push(binding(rt, "p", "u")).expect(rt, "memory");
     bindings.push(binding(rt, "q", "v")).expect(rt, "memory");
-    let mut scope = Scope::new(rt.alloc());
+    let mut scope = NamespaceScope::new(rt.alloc());
     scope.push_all(bindings.as_slice()).expect(rt, "memory");
     scope
 }

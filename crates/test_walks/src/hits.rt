@@ -1,9 +1,9 @@
 // The nodes that a step meets, their positions and their order.
 use crate::made::{node_at, push_place, text};
 use node_axes::Cursor;
+use node_axes::step_walks::{in_order, next_hit, raise, zeros};
 use std::alloc::AllocGlobal;
 use std::process::Abort;
-use step_walks::{in_order, next_hit, raise, zeros};
 use xt_types::{Axis, NameTest, Test};
 
 // A test for the local name, for any name, or for any node.

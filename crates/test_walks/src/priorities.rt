@@ -1,6 +1,6 @@
 // Default priorities of patterns, by the table of XSLT 2.0, 6.4.
 use crate::made::{list_of, text, with};
-use pattern_priorities::default_priority;
+use pattern_syntax::pattern_priorities::default_priority;
 use std::alloc::AllocGlobal;
 use std::process::Abort;
 use xt_names::{ExprName, List};

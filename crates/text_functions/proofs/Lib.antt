@@ -2,3 +2,4 @@ pub mod JoinLemmas
 pub mod TextLemmas
 pub mod TranslateLemmas
 pub mod CodepointLemmas
+pub mod NameFunctions

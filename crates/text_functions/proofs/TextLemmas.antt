@@ -2,16 +2,13 @@
 use Rattle.std.proofs.Common.{◌≡◌, ◌<◌, ℕ, List, [], Bool, false, ◌&&◌, nat_le, Option, Some, None, option_map, Result, Ok, Err, IfOk, refl, ap, ◌∙◌, arith, inl, inr}
 use Rattle.std.proofs.lemmas.Bool.{lt-leb}
 use Rattle.std.proofs.Math.Bool.{and-false}
-use Rattle.std.proofs.lemmas.Str.{chars-nil}
 use Rattle.std.specs.Char.{OutOfScalarRange}
-use Rattle.std.specs.Str.{chars}
 use Rattle.xt_names.specs.Classes.{is_in_ranges, xml_char_ranges}
 use Rattle.xt_tree.specs.TreeView as tree_view
 use Rattle.xt_tree.specs.declared.trees.Tree.{Tree}
 use Rattle.xdm_items.specs.Values.{string_value_below}
-
-pub no_chars : chars [] ≡ []
-no_chars = chars-nil
+use Rattle.std.proofs.lemmas.Str.{chars-nil}
+use Rattle.std.specs.Str.{chars}
 
 -- the string value of a node
 pub node_string : {E : Type 0} (r : Result (List ℕ) E) (o : Option Tree) → IfOk r (λ t. option_map tree_view.string_value_of o ≡ Some t) → IfOk r (λ t. t ≡ string_value_below o)
@@ -34,3 +31,6 @@ no_xml_character n (inl h) =
     rw (above n 0x9 0x9 (omega arith), above n 0xA 0xA (omega arith), above n 0xD 0xD (omega arith), above n 0x20 0xD7FF (omega arith), below n 0xE000 0xFFFD (omega arith), below n 0x1_0000 0x10_FFFF (omega arith)) refl
 no_xml_character n (inr h) =
     rw (above n 0x9 0x9 (omega arith), above n 0xA 0xA (omega arith), above n 0xD 0xD (omega arith), above n 0x20 0xD7FF (omega arith), above n 0xE000 0xFFFD (omega arith), above n 0x1_0000 0x10_FFFF (omega arith)) refl
+
+pub no_chars : chars [] ≡ []
+no_chars = chars-nil

@@ -7,7 +7,7 @@ use Rattle.xt_atoms.specs.declared.faults.ValueFault.{ValueFault}
 use Rattle.xt_atoms.specs.declared.faults.ValueFault.TheVariants.{Error, Memory}
 use Rattle.xdm_items.specs.Values.{string_value_of}
 use Rattle.xdm_items.specs.declared.items.Item.{Item}
-use Rattle.function_arguments.specs.Arguments.{and_then, optional_atom_argument}
+use Rattle.xdm_items.specs.FunctionArguments.Arguments.{and_then, optional_atom_argument}
 
 -- the string values of the items, each with the separator in front
 unfoldable pub separated : List ℕ → List Item → List ℕ

@@ -14,8 +14,8 @@ use Rattle.xt_atoms.specs.declared.atoms.Atom.TheVariants as atom
 use Rattle.xdm_items.specs.Values.{string_value_of}
 use Rattle.xdm_items.specs.declared.items.Item.{Item}
 use Rattle.xdm_items.specs.declared.items.Item.TheVariants.{Atom}
-use Rattle.function_arguments.specs.Answers.{of_text, of_integer, of_truth}
-use Rattle.function_arguments.specs.Arguments.{and_then, text_argument, text_or_empty_argument, optional_text_argument, integer_argument, text_arguments, integer_arguments}
+use Rattle.xdm_items.specs.FunctionArguments.Answers.{of_text, of_integer, of_truth}
+use Rattle.xdm_items.specs.FunctionArguments.Arguments.{and_then, text_argument, text_or_empty_argument, optional_text_argument, integer_argument, text_arguments, integer_arguments}
 use Rattle.text_operations.specs.Positions.{count_before}
 use Rattle.text_operations.specs.Searches.{text_before, text_after}
 use Rattle.text_operations.specs.Spaces.{normalized}

@@ -4,8 +4,8 @@ ghost use Rattle.xt_atoms.specs.Casts.{Answers};
 ghost use Rattle.text_functions.specs.Joins.{in_turn, Puts};
 ghost use Rattle.text_functions.specs.TextFunctions.{codepoints_to_string_of, string_to_codepoints_of, character_of, one_character, xml_character, as_integer};
 
-use function_arguments::{integers, text_list, text_or_empty};
 use std::alloc::{AllocError, Global};
+use xdm_items::function_arguments::{integers, text_list, text_or_empty};
 use xdm_items::{Item, ItemList};
 use xt_atoms::{Atom, ValueFault};
 use xt_names::{Code, DynamicCode, Text, TextBuilder, is_xml_char};

@@ -5,10 +5,10 @@ ghost use Rattle.xt_atoms.specs.Casts.{Answers};
 ghost use Rattle.xt_atoms.specs.Comparisons.{text_order};
 ghost use Rattle.text_functions.specs.TextFunctions.{compare_of, codepoint_equal_of, order_number};
 
-use function_arguments::{integer_list, no_items, optional_text, truth_list};
 use std::alloc::Global;
 use std::cmp::Ordering;
 use xdm_items::ItemList;
+use xdm_items::function_arguments::{integer_list, no_items, optional_text, truth_list};
 use xt_atoms::{ValueFault, text_order};
 use xt_names::Text;
 

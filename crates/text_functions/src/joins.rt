@@ -5,8 +5,8 @@ ghost use Rattle.text_functions.specs.Joins.{in_turn, joined, argument_text, add
 ghost use Rattle.text_functions.specs.TextFunctions.{concat_of, string_join_of};
 
 use crate::strings::string_value;
-use function_arguments::{optional_atom, text, text_list, texts};
 use std::alloc::{AllocError, Global};
+use xdm_items::function_arguments::{optional_atom, text, text_list, texts};
 use xdm_items::{Item, ItemList};
 use xt_atoms::{ValueFault, to_text};
 use xt_names::{Text, TextBuilder};

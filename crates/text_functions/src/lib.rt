@@ -10,6 +10,7 @@
 mod codepoints;
 mod comparisons;
 mod joins;
+pub mod name_functions;
 mod searches;
 mod strings;
 mod substrings;
@@ -20,3 +21,4 @@ pub use joins::{concat, string_join};
 pub use searches::{contains, ends_with, starts_with, substring_after, substring_before};
 pub use strings::{normalize_space, string, string_length, translate};
 pub use substrings::{substring, substring_for};
+pub use xdm_items;

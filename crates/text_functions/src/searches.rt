@@ -5,10 +5,10 @@ ghost use Rattle.xt_atoms.specs.Casts.{Answers};
 ghost use Rattle.text_operations.specs.Searches.{text_before, text_after};
 ghost use Rattle.text_functions.specs.TextFunctions.{contains_of, starts_with_of, ends_with_of, substring_before_of, substring_after_of};
 
-use function_arguments::{text_list, text_or_empty, truth_list};
 use std::alloc::{AllocError, Global};
 use text_operations::split_at_first;
 use xdm_items::ItemList;
+use xdm_items::function_arguments::{text_list, text_or_empty, truth_list};
 use xt_atoms::ValueFault;
 use xt_names::Text;
 
@@ -68,7 +68,8 @@ fn is_end(whole: &Text, part: &Text) -> bool
     text_operations::ends_with(whole.as_str(), part.as_str())
 }
 
-/// What stands before the first occurrence of the second text in the first, and the empty text where it does not occur
+/// What comes before the first occurrence of the second text in the first, and the empty text where
+/// it does not occur
 /// (Functions and Operators, 7.5.4).
 #[tactic(auto, unfolding(crate::specs::TextFunctions::substring_before_of))]
 pub fn substring_before(
@@ -93,7 +94,8 @@ fn before(alloc: Global, whole: &Text, part: &Text) -> Result<Text, AllocError>
     }
 }
 
-/// What stands after the first occurrence of the second text in the first, and the empty text where it does not occur
+/// What comes after the first occurrence of the second text in the first, and the empty text where
+/// it does not occur
 /// (Functions and Operators, 7.5.5).
 #[tactic(auto, unfolding(crate::specs::TextFunctions::substring_after_of))]
 pub fn substring_after(

@@ -5,9 +5,9 @@ ghost use Rattle.xdm_items.specs.Values.{string_value_of};
 ghost use Rattle.text_operations.specs.Translations.{translated};
 ghost use Rattle.text_functions.specs.TextFunctions.{string_of, string_length_of, normalize_space_of, translate_of};
 
-use function_arguments::{integer_list, text, text_list, text_or_empty};
 use std::alloc::{AllocError, Global};
 use text_operations::{char_count, normalized, translated};
+use xdm_items::function_arguments::{integer_list, text, text_list, text_or_empty};
 use xdm_items::{Item, ItemList};
 use xt_atoms::{ValueFault, to_text};
 use xt_names::{Code, DynamicCode, Text};

@@ -4,10 +4,10 @@ ghost use Rattle.xt_atoms.specs.Casts.{Answers};
 ghost use Rattle.text_operations.specs.Positions.{count_before};
 ghost use Rattle.text_functions.specs.TextFunctions.{substring_of, substring_for_of};
 
-use function_arguments::{integer, text_list, text_or_empty};
 use std::alloc::{AllocError, Global};
 use text_operations::{after_chars, between_chars, count_before, count_before_sum};
 use xdm_items::ItemList;
+use xdm_items::function_arguments::{integer, text_list, text_or_empty};
 use xt_atoms::ValueFault;
 use xt_names::Text;
 

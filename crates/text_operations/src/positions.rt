@@ -3,7 +3,7 @@ ghost use Rattle.std.specs.Prelude.{◌≡◌, ℕ, List, ◌++◌, ◌+ℤ◌, 
 ghost use Rattle.std.specs.Str.{chars};
 ghost use Rattle.text_operations.specs.Positions.{count_before};
 
-/// How many positions from 1 on stand before this one.
+/// How many positions from 1 on come before this one.
 pub fn count_before(position: i64) -> usize
     ensures { result ≡ count_before position }
 {
@@ -13,7 +13,7 @@ pub fn count_before(position: i64) -> usize
     position.unsigned_abs() as usize - 1
 }
 
-/// How many positions from 1 on stand before the sum of the two, which has no limit.
+/// How many positions from 1 on come before the sum of the two, which has no limit.
 pub fn count_before_sum(start: i64, length: i64) -> usize
     ensures { result ≡ count_before (start +ℤ length) }
 {

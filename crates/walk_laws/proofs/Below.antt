@@ -21,17 +21,18 @@ use Rattle.node_axes.specs.Axes.{is_attribute, same_attribute, same_path, place_
 use Rattle.node_axes.specs.Paths.{Stands, before, above, same, below, after, then_stands, stands, is_over}
 use Rattle.node_axes.proofs.AxisLemmas.{is_up, is_one, descendant_is, same_path_is, child_parts, child_on}
 use Rattle.node_axes.proofs.FilterLemmas.{In, In-from_Contains, Contains-from_In}
-use Rattle.step_walks.specs.Within.{AreWithin}
-use Rattle.step_walks.specs.Nodes.{Nodes, kept_by_all, step_nodes, slash_nodes, nodes_of_each}
-use Rattle.step_walks.proofs.NodeLemmas.{found_by_step, step_found_within, step_within, each_within}
-use Rattle.step_walks.proofs.OrderLemmas.{one_sorted, tree_order_sorted, in_tree_order_from, in_tree_order_to}
-use Rattle.step_walks.proofs.OrderLemmas.{in_filter, from_filter}
+use Rattle.node_axes.specs.StepWalks.Within.{AreWithin}
+use Rattle.node_axes.specs.StepWalks.Nodes.{Nodes, kept_by_all, step_nodes, slash_nodes, nodes_of_each}
+use Rattle.node_axes.proofs.StepWalks.NodeLemmas.{found_by_step, step_found_within, step_within, each_within}
+use Rattle.node_axes.proofs.StepWalks.OrderLemmas.{one_sorted, tree_order_sorted, in_tree_order_from, in_tree_order_to}
+use Rattle.node_axes.proofs.StepWalks.OrderLemmas.{in_filter, from_filter}
 use Rattle.quiet_meaning.specs.Quietly.{Quietly, quietly_of}
 use Rattle.quiet_meaning.specs.Paths.{keeps}
-use Rattle.quiet_places.specs.Free.{is_place_free_expr}
+use Rattle.quiet_eval.specs.QuietPlaces.Free.{is_place_free_expr}
 use Rattle.walk_laws.proofs.Forward.{found_sorted}
 use Rattle.walk_laws.proofs.Members.{from_each, to_each, OnAxis, from_axis, to_axis}
 use Rattle.walk_laws.proofs.Members.{AllSame, each_same, hold_here, from_all, to_all}
+use Rattle.std.proofs.Math.Bool.{and-false}
 
 -- paths that are one step longer
 
@@ -66,10 +67,6 @@ and_all : (b : Bool) → b ≡ (b && true)
 and_all true = refl
 and_all false = refl
 
-none_and : (b : Bool) → (b && false) ≡ false
-none_and true = refl
-none_and false = refl
-
 -- what is below a node is a child of it or of a node below it
 below_child : (s : Spot) (p : List ℕ) (z : ℕ) →
     on_axis axis.DescendantOrSelf s (p, None) ≡ on_axis axis.Descendant s (p ++ z ∷ [], None)
@@ -78,7 +75,7 @@ below_child (q, None) p z =
     sym (descendant_is q (p ++ z ∷ []) ∙ one_longer q p z ∙ over_cases (stands q p)
     ∙ ap (λ (b : Bool). b || is_up (stands q p)) (sym (same_path_is q p) ∙ and_all (same_path q p))
     ∙ ap (λ (b : Bool). (same_path q p && true) || b) (sym (descendant_is q p)))
-below_child (q, Some k) p z = ap (λ (b : Bool). b || false) (none_and (same_path q p))
+below_child (q, Some k) p z = ap (λ (b : Bool). b || false) (and-false (same_path q p))
 
 -- trees
 

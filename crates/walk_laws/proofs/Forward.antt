@@ -11,9 +11,9 @@ use Rattle.xt_tree.specs.Place.{Place, place_cmp}
 use Rattle.xt_tree.specs.Walk.{spots_of}
 use Rattle.node_tests.specs.Tests.{passes_at}
 use Rattle.node_axes.specs.Axes.{axis_nodes, in_axis_order, is_reverse, on_axis, place_at, spot_of}
-use Rattle.step_walks.specs.Nodes.{Focus, kept_from, kept_by, kept_by_all, in_tree_order, step_nodes}
-use Rattle.step_walks.proofs.NodeLemmas.{found_by_step, step_found_within}
-use Rattle.step_walks.proofs.OrderLemmas.{spots_sorted, one_sorted, tree_order_sorted, in_tree_order_from, in_tree_order_to}
+use Rattle.node_axes.specs.StepWalks.Nodes.{Focus, kept_from, kept_by, kept_by_all, in_tree_order, step_nodes}
+use Rattle.node_axes.proofs.StepWalks.NodeLemmas.{found_by_step, step_found_within}
+use Rattle.node_axes.proofs.StepWalks.OrderLemmas.{spots_sorted, one_sorted, tree_order_sorted, in_tree_order_from, in_tree_order_to}
 
 -- predicates leave the order as it is
 

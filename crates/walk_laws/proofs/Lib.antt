@@ -1,3 +1,6 @@
 pub mod Forward
 pub mod Members
 pub mod Below
+pub mod NodeOrders
+pub mod QuietValues
+pub mod WayLaws

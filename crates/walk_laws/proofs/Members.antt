@@ -9,11 +9,11 @@ use Rattle.xt_tree.specs.Walk.{Spot, spots_of}
 use Rattle.xt_syntax.specs.declared.exprs.Expr.{Expr}
 use Rattle.node_axes.specs.Axes.{axis_nodes, in_axis_order, is_reverse, on_axis, place_at, spot_of}
 use Rattle.node_axes.proofs.FilterLemmas.{In}
-use Rattle.step_walks.specs.Nodes.{Nodes, kept_from, kept_by, kept_by_all, nodes_of_each}
-use Rattle.step_walks.proofs.OrderLemmas.{mapped}
+use Rattle.node_axes.specs.StepWalks.Nodes.{Nodes, kept_from, kept_by, kept_by_all, nodes_of_each}
+use Rattle.node_axes.proofs.StepWalks.OrderLemmas.{mapped}
 use Rattle.quiet_meaning.specs.Quietly.{Quietly, quietly_of, holds_at}
-use Rattle.quiet_places.specs.Free.{IsSame, is_place_free_expr, focus}
-use Rattle.quiet_places.proofs.FreeLemmas.{free_is_same}
+use Rattle.quiet_eval.specs.QuietPlaces.Free.{IsSame, is_place_free_expr, focus}
+use Rattle.quiet_eval.proofs.QuietPlaces.FreeLemmas.{free_is_same}
 
 -- lists
 

@@ -8,6 +8,10 @@
 //! not give what `descendant::b[1]` gives.
 #![tactic(auto)]
 
+pub mod node_orders;
+pub mod quiet_values;
+pub mod way_laws;
+
 ghost use Rattle.std.specs.Prelude.{◌≡◌, List, [], Bool, filter, true, false};
 ghost use Rattle.std.specs.List.{list_all};
 ghost use Rattle.xt_types.specs.declared.axes.Axis.{Axis};
@@ -18,9 +22,9 @@ ghost use Rattle.xt_tree.specs.Place.{Place};
 ghost use Rattle.xt_syntax.specs.declared.exprs.Expr.{Expr};
 ghost use Rattle.node_tests.specs.Tests.{passes_at};
 ghost use Rattle.node_axes.specs.Axes.{axis_nodes, is_reverse};
-ghost use Rattle.step_walks.specs.Nodes.{Focus, kept_by_all, step_nodes, slash_nodes};
+ghost use Rattle.node_axes.specs.StepWalks.Nodes.{Focus, kept_by_all, step_nodes, slash_nodes};
 ghost use Rattle.quiet_meaning.specs.Paths.{keeps};
-ghost use Rattle.quiet_places.specs.Free.{is_place_free_expr};
+ghost use Rattle.quiet_eval.specs.QuietPlaces.Free.{is_place_free_expr};
 
 /// A step along a forward axis gives the nodes that pass its test and that its predicates keep in
 /// the order of the axis, which is document order (XPath 2.0, 3.2.1.1 and 3.2.2).

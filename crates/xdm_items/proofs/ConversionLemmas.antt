@@ -7,9 +7,9 @@ use Rattle.xt_names.proofs.ListLemmas.{drop_at}
 use Rattle.xt_names.specs.declared.codes.Code.{Code}
 use Rattle.xt_names.specs.declared.kinds.AtomType.{AtomType}
 use Rattle.xt_names.specs.declared.kinds.AtomType.TheVariants as kind
-use Rattle.node_tests.specs.XtTypes.declared.types.ItemType.TheVariants.{Any, Kind, Atomic}
-use Rattle.node_tests.specs.XtTypes.declared.types.SeqType.{SeqType}
-use Rattle.node_tests.specs.XtTypes.declared.types.SeqType.TheVariants.{Empty, Of}
+use Rattle.xt_types.specs.declared.types.ItemType.TheVariants.{Any, Kind, Atomic}
+use Rattle.xt_types.specs.declared.types.SeqType.{SeqType}
+use Rattle.xt_types.specs.declared.types.SeqType.TheVariants.{Empty, Of}
 use Rattle.xt_atoms.specs.AtomTexts.{text_of}
 use Rattle.xt_atoms.specs.Casts.{Answers, cast_of}
 use Rattle.xt_atoms.specs.declared.atoms.Atom.{Atom as AtomValue}

@@ -1,1 +1,2 @@
 pub mod ConversionLemmas
+pub mod FunctionArguments

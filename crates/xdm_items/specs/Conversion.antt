@@ -3,9 +3,9 @@ use Rattle.std.specs.Prelude.{◌≡◌, List, [], ◌∷◌, ◌++◌, Bool, tr
 use Rattle.xt_names.specs.declared.codes.Code.{Code}
 use Rattle.xt_names.specs.declared.kinds.AtomType.{AtomType}
 use Rattle.xt_names.specs.declared.kinds.AtomType.TheVariants as kind
-use Rattle.node_tests.specs.XtTypes.declared.types.ItemType.TheVariants.{Any, Kind, Atomic}
-use Rattle.node_tests.specs.XtTypes.declared.types.SeqType.{SeqType}
-use Rattle.node_tests.specs.XtTypes.declared.types.SeqType.TheVariants.{Empty, Of}
+use Rattle.xt_types.specs.declared.types.ItemType.TheVariants.{Any, Kind, Atomic}
+use Rattle.xt_types.specs.declared.types.SeqType.{SeqType}
+use Rattle.xt_types.specs.declared.types.SeqType.TheVariants.{Empty, Of}
 use Rattle.xt_atoms.specs.Casts.{cast_of, wrong_type}
 use Rattle.xt_atoms.specs.declared.atoms.Atom.{Atom as AtomValue}
 use Rattle.xt_atoms.specs.declared.atoms.Atom.TheVariants as atom

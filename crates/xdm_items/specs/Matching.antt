@@ -3,13 +3,13 @@ use Rattle.std.specs.Prelude.{ℕ, List, length, Bool, true, false, ◌&&◌, �
 use Rattle.std.specs.List.{list_all}
 use Rattle.xt_names.specs.declared.kinds.AtomType.{AtomType}
 use Rattle.xt_names.specs.declared.kinds.AtomType.TheVariants as kind
-use Rattle.node_tests.specs.XtTypes.declared.axes.Axis.TheVariants.{Itself}
-use Rattle.node_tests.specs.XtTypes.declared.types.Count.{Count}
-use Rattle.node_tests.specs.XtTypes.declared.types.Count.TheVariants.{One, Opt, Many, More}
-use Rattle.node_tests.specs.XtTypes.declared.types.ItemType.{ItemType}
-use Rattle.node_tests.specs.XtTypes.declared.types.ItemType.TheVariants.{Any, Kind, Atomic}
-use Rattle.node_tests.specs.XtTypes.declared.types.SeqType.{SeqType}
-use Rattle.node_tests.specs.XtTypes.declared.types.SeqType.TheVariants.{Empty, Of}
+use Rattle.xt_types.specs.declared.axes.Axis.TheVariants.{Itself}
+use Rattle.xt_types.specs.declared.types.Count.{Count}
+use Rattle.xt_types.specs.declared.types.Count.TheVariants.{One, Opt, Many, More}
+use Rattle.xt_types.specs.declared.types.ItemType.{ItemType}
+use Rattle.xt_types.specs.declared.types.ItemType.TheVariants.{Any, Kind, Atomic}
+use Rattle.xt_types.specs.declared.types.SeqType.{SeqType}
+use Rattle.xt_types.specs.declared.types.SeqType.TheVariants.{Empty, Of}
 use Rattle.node_tests.specs.Tests.{passes_at}
 use Rattle.xt_atoms.specs.declared.atoms.Atom.{Atom as AtomValue}
 use Rattle.xt_atoms.specs.declared.atoms.Atom.TheVariants as atom

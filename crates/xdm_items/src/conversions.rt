@@ -8,10 +8,10 @@ use crate::items::Item;
 use crate::lists::ItemList;
 use crate::matching::matches;
 use crate::values::atom_of;
-use node_tests::xt_types::{ItemType, SeqType};
 use std::alloc::Global;
 use xt_atoms::{Atom, ValueFault, cast};
 use xt_names::{AtomType, Code, DynamicCode};
+use xt_types::{ItemType, SeqType};
 
 const WRONG_TYPE: Code = Code::Dynamic(DynamicCode::XPTY0004);
 

@@ -10,6 +10,7 @@
 #![tactic(auto)]
 
 mod conversions;
+pub mod function_arguments;
 mod items;
 mod lists;
 mod matching;

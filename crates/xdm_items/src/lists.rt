@@ -8,7 +8,7 @@ use std::marker::Model;
 use std::slice;
 
 /// A sequence of items (XDM, 2.5), which grows at its end; contracts see the list of its items. One
-/// item stands in it without a place of its own in memory, since most sequences have one.
+/// item is in it without a place of its own in memory, since most sequences have one.
 #[derive(Drop)]
 pub struct ItemList {
     alloc: Global,
@@ -138,7 +138,7 @@ impl ItemList {
         Ok(())
     }
 
-    /// The items of this sequence and those of the other behind them (XPath 2.0, 3.3.1).
+    /// The items of this sequence and those of the other after them (XPath 2.0, 3.3.1).
     pub fn joined(self, more: ItemList) -> Result<ItemList, AllocError>
         ensures { IfOk result (λ both. both ≡ self ++ more) }
     {

@@ -6,9 +6,9 @@ ghost use Rattle.xdm_items.specs.Matching.{has_atom_type, matches_item, allows_c
 use crate::items::Item;
 use crate::lists::ItemList;
 use node_tests::node_passes;
-use node_tests::xt_types::{Axis, Count, ItemType, SeqType};
 use xt_atoms::Atom;
 use xt_names::AtomType;
+use xt_types::{Axis, Count, ItemType, SeqType};
 
 /// Whether the items match the type (XPath 2.0, 2.5.4): so many of them as it allows, each of its item type. An atom
 /// matches its own type and xs:anyAtomicType.

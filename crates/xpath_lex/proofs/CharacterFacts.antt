@@ -1,37 +1,16 @@
 -- Which characters are of which class.
-use Rattle.std.proofs.Common.{◌≡◌, ℕ, List, [], ◌∷◌, ◌++◌, arith, Bool, true, false, not, ◌||◌, ◌&&◌, ◌==◌, refl, sym, subst, eq-eqb}
+use Rattle.std.proofs.Common.{◌≡◌, ℕ, List, [], ◌∷◌, arith, Bool, true, false, not, ◌||◌, ◌&&◌, ◌==◌, refl, sym, subst}
 use Rattle.std.proofs.lemmas.Bool.{eqb-true, false_from_ne_true, and_parts}
 use Rattle.std.specs.Prelude.{nat_lt, ◌≤◌}
 use Rattle.std.specs.List.{list_any, list_all}
 use Rattle.xt_names.specs.Classes.{is_in_ranges, ncname_start_ranges}
-use Rattle.xpath_lex.specs.Classes.{is_space, is_char, starts_name, is_name_char, is_digit, is_quote, singles, is_single, doubles, is_double}
-
--- a character is itself
-pub itself : (c : ℕ) → (c == c) ≡ true
-itself c = eq-eqb c c refl
-
--- no test holds and fails
-pub no : {b : Bool} {P : Type 0} → b ≡ true → b ≡ false → P
-no a b = cc
-
-pub not_true : {b : Bool} → not b ≡ true → b ≡ false
-not_true {b = true} e = absurd (cc)
-not_true {b = false} e = refl
+use Rattle.xpath_lex.specs.Classes.{is_digit, singles, is_single, doubles, is_double}
+use Rattle.xt_names.proofs.BoolLemmas.{no, not_true, one_of}
+use Rattle.xt_names.specs.Characters.{is_space, is_char, starts_name, is_quote}
 
 pub not_false : {b : Bool} → b ≡ false → not b ≡ true
 not_false {b = true} e = absurd (cc)
 not_false {b = false} e = refl
-
--- a character of a class is none that is not of the class
-pub is_other : (class : ℕ → Bool) (c d : ℕ) → class c ≡ true → class d ≡ false → (c == d) ≡ false
-is_other class c d x y =
-    let P : ℕ → Type 0 = λ n. class n ≡ true in
-    false_from_ne_true (c == d) (λ e. no (subst P (eqb-true c d e) x) y)
-
--- what holds by the one test and by the other
-pub one_of : (P : Type 0) (a b : Bool) → (a ≡ true → P) → (b ≡ true → P) → (a || b) ≡ true → P
-one_of P true b f g e = f refl
-one_of P false b f g e = g e
 
 -- what holds of each character of a list holds of one that is among them
 pub among : (p : ℕ → Bool) (c : ℕ) (xs : List ℕ) → list_all p xs ≡ true → list_any (λ s. c == s) xs ≡ true → p c ≡ true
@@ -55,7 +34,7 @@ is_no p c = not (p c)
 
 -- names, digits, quotes and symbols begin differently
 
--- a character is in no range that ends before it or begins behind it
+-- a character is in no range that ends before it or begins after it
 outside : (low high c : ℕ) (rs : List (ℕ × ℕ)) → list_all (λ r. nat_lt r.1 low || nat_lt high r.0) rs ≡ true → low ≤ c → c ≤ high → is_in_ranges rs c ≡ false
 unfolding is_in_ranges
 outside low high c [] a l h = refl
@@ -154,10 +133,6 @@ pub open_space : is_space 40 ≡ false
 unfolding is_space
 open_space = refl
 
-pub colon_name : is_name_char 58 ≡ false
-unfolding is_name_char is_in_ranges
-colon_name = refl
-
 pub open_char : is_char 40 ≡ true
 unfolding is_char is_in_ranges
 open_char = refl
@@ -165,14 +140,3 @@ open_char = refl
 pub colon_char : is_char 58 ≡ true
 unfolding is_char is_in_ranges
 colon_char = refl
-
--- more ranges hold what some of them do
-more_ranges : (rs more : List (ℕ × ℕ)) (c : ℕ) → is_in_ranges rs c ≡ true → is_in_ranges (rs ++ more) c ≡ true
-unfolding is_in_ranges
-more_ranges [] more c h = cc
-more_ranges (r ∷ rs) more c h = grind (arith, more_ranges rs more c)
-
--- what starts a name may stand in one
-pub name_starts : (c : ℕ) → starts_name c ≡ true → is_name_char c ≡ true
-unfolding starts_name is_name_char
-name_starts c s = more_ranges ncname_start_ranges _ c s

@@ -2,12 +2,14 @@
 use Rattle.std.proofs.Common.{◌≡◌, ℕ, zero, suc, ◌+◌, ◌-◌, ◌<◌, ◌≤◌, List, [], ◌∷◌, ◌++◌, length, true, false, ◌==◌, ◌&&◌, not, refl, sym, ap, arith, add-one, sub-one}
 use Rattle.std.proofs.lemmas.Bool.{and_parts, eqb-true, false_from_ne_true}
 use Rattle.std.specs.List.{list_all}
-use Rattle.xpath_lex.specs.Classes.{is_char}
-use Rattle.xpath_lex.specs.Gaps.{Ends, begins_with, Comment, over, nested, passes}
-use Rattle.xpath_lex.specs.Runs.{is_plain, NotNext}
-use Rattle.xpath_lex.proofs.CharacterFacts.{no, itself, not_true, open_char, colon_char}
+use Rattle.xpath_lex.specs.Gaps.{begins_with, Comment, over, nested, passes}
+use Rattle.xpath_lex.specs.Runs.{is_plain}
+use Rattle.xpath_lex.proofs.CharacterFacts.{open_char, colon_char}
+use Rattle.xt_names.specs.Characters.{is_char, Ends, NotNext}
+use Rattle.xt_names.proofs.BoolLemmas.{no, not_true}
+use Rattle.xt_names.proofs.CharacterLemmas.{itself}
 
--- so many comments are open, and this is left behind the last of them
+-- so many comments are open, and this is left after the last of them
 pub data Closes : ℕ → List ℕ → List ℕ → Type 0 where
   closed : {ts : List ℕ} → Closes zero ts ts
   behind : {n : ℕ} {ts mid rest : List ℕ} → Comment ts mid → Closes n mid rest → Closes (suc n) ts rest

@@ -2,9 +2,10 @@
 use Rattle.std.proofs.Common.{◌≡◌, ℕ, ◌<◌, length, length-append, arith, Option, Some, slice_get, List, [], ◌∷◌, ◌++◌, Bool, true, false, refl, sym, ap, ◌∙◌}
 use Rattle.std.proofs.lemmas.Bool.{and_parts}
 use Rattle.std.specs.List.{list_all}
-use Rattle.xpath_lex.specs.Classes.{is_space}
-use Rattle.xpath_lex.specs.Gaps.{Ends, Comment, over, nested, passes, Gap, none, space, comment, Stops}
-use Rattle.xpath_lex.proofs.CharacterFacts.{no, open_space}
+use Rattle.xpath_lex.specs.Gaps.{Comment, over, nested, passes, Gap, none, space, comment, Stops}
+use Rattle.xpath_lex.proofs.CharacterFacts.{open_space}
+use Rattle.xt_names.specs.Characters.{is_space, Ends}
+use Rattle.xt_names.proofs.BoolLemmas.{no}
 
 pub comment_one : {ts a b : List ℕ} → Comment ts a → Comment ts b → a ≡ b
 comment_one over over = refl
@@ -34,7 +35,7 @@ gap_then none h = h
 gap_then (space e g) h = space e (gap_then g h)
 gap_then (comment c g) h = comment c (gap_then g h)
 
--- white space behind a gap is of it
+-- white space after a gap is of it
 pub gap_spaces : (b : Bool) (run rest : List ℕ) → list_all is_space run ≡ true → Gap b rest b rest → (c : ℕ) (more : List ℕ) → run ≡ c ∷ more → Gap b (run ++ rest) false rest
 gap_spaces b [] rest a g c more e = absurd (cc)
 gap_spaces b (x ∷ []) rest a g c more e = space (and_parts (is_space x) _ a).0 none
@@ -45,7 +46,7 @@ space_not_first : (new : List ℕ) (c : ℕ) → is_space c ≡ true → Some c 
 space_not_first [] c s e n = cc
 space_not_first (x ∷ xs) c s e n = let same : c ≡ x = cc in no s (rw same n)
 
--- white space that was found behind a gap
+-- white space that was found after a gap
 pub gap_run : {b after : Bool} {whole : List ℕ} (old new : List ℕ) (c : ℕ) (r : Bool) (o : Option ℕ) → Gap b whole after old → o ≡ slice_get old 0 → o ≡ Some c → r ≡ is_space c → r ≡ true
     → ((run : List ℕ) × (old ≡ run ++ new) × (list_all is_space run ≡ true)) → Ends is_space new → Gap b whole false new
 gap_run old new c r o g first is s t ([], e, a) n =

@@ -3,12 +3,14 @@ use Rattle.std.proofs.Common.{◌≡◌, ℕ, List, [], ◌∷◌, ◌++◌, Boo
 use Rattle.std.proofs.lemmas.Bool.{and_parts}
 use Rattle.std.specs.List.{list_all}
 use Rattle.xt_names.specs.Classes.{is_ncname_text, begins_name, is_in_ranges, ncname_char_ranges}
-use Rattle.xpath_lex.specs.Classes.{starts_name, is_name_char, is_digit, is_quote}
+use Rattle.xpath_lex.specs.Classes.{is_digit}
 use Rattle.xpath_lex.specs.Tokens.{IsToken, integer, literal, word, qword, any_local, any_prefix, single, double, Longest}
 use Rattle.xpath_lex.specs.declared.lexing.TokenKind.{TokenKind}
 use Rattle.xpath_lex.specs.declared.lexing.TokenKind.TheVariants.{Integer, Literal, Word, QWord, AnyLocal, AnyPrefix, Symbol}
-use Rattle.xpath_lex.proofs.CharacterFacts.{name_digit, name_quote, quote_digit, single_digit, single_quote, single_name, double_digit, double_quote, double_name, double_star, star_digit, star_quote, star_name, colon_name, is_other, name_starts}
+use Rattle.xpath_lex.proofs.CharacterFacts.{name_digit, name_quote, quote_digit, single_digit, single_quote, single_name, double_digit, double_quote, double_name, double_star, star_digit, star_quote, star_name}
 use Rattle.xpath_lex.proofs.RunLemmas.{same_front}
+use Rattle.xt_names.specs.Characters.{starts_name, is_name_char, is_quote}
+use Rattle.xt_names.proofs.CharacterLemmas.{colon_name, is_other, name_starts}
 
 -- a name without a colon: its first character, and all of them
 pub record NameParts (x : List ℕ) : Type 0 where
@@ -32,7 +34,7 @@ name_made c cs s a = rw (s, name_starts c s, a) refl
 pub all_name : (x : List ℕ) → is_ncname_text x ≡ true → list_all is_name_char x ≡ true
 all_name x h = let n = name_parts x h in rw n.is (rw (name_starts n.first n.starts, n.follow) refl)
 
--- the kind of a token that begins a name, by what stands behind its first colon
+-- the kind of a token that begins a name, by what comes after its first colon
 abbrev behind_colon : List ℕ → TokenKind
 behind_colon [] = QWord
 behind_colon (c ∷ cs) = if c == 42 then AnyLocal else QWord

@@ -3,14 +3,16 @@ use Rattle.std.proofs.Common.{◌≡◌, ℕ, suc, ◌+◌, ◌≤◌, List, [],
 use Rattle.std.proofs.lemmas.Bool.{and_parts}
 use Rattle.std.specs.List.{list_all}
 use Rattle.xt_names.specs.Classes.{is_ncname_text}
-use Rattle.xpath_lex.specs.Classes.{starts_name, is_name_char, is_digit}
-use Rattle.xpath_lex.specs.Gaps.{Ends}
+use Rattle.xpath_lex.specs.Classes.{is_digit}
 use Rattle.xpath_lex.specs.Tokens.{IsToken, integer, literal, word, qword, any_local, any_prefix, single, double, Decimal, more, point, Barred, comment, name, decimal, Begins, Longest}
 use Rattle.xpath_lex.specs.declared.lexing.TokenKind.{TokenKind}
 use Rattle.xpath_lex.specs.declared.lexing.TokenKind.TheVariants.{Integer, Literal, Word, QWord, AnyLocal, AnyPrefix, Symbol}
-use Rattle.xpath_lex.proofs.CharacterFacts.{no, itself, is_other, name_digit, name_quote, digit_name, digit_quote, double_digit, double_name, star_digit, star_name, point_digit, point_name, open_digit, open_name, colon_name}
+use Rattle.xpath_lex.proofs.CharacterFacts.{name_digit, name_quote, digit_name, digit_quote, double_digit, double_name, star_digit, star_name, point_digit, point_name, open_digit, open_name}
 use Rattle.xpath_lex.proofs.KindLemmas.{name_parts, all_name}
 use Rattle.xpath_lex.proofs.RunLemmas.{first_same, rest_same, run_bound, run_same}
+use Rattle.xt_names.specs.Characters.{starts_name, is_name_char, Ends}
+use Rattle.xt_names.proofs.BoolLemmas.{no}
+use Rattle.xt_names.proofs.CharacterLemmas.{itself, is_other, colon_name}
 
 -- a name begins the text only where its first character starts one
 pub no_name : {P : Type 0} (c : ℕ) (x ts less : List ℕ) → c ∷ ts ≡ x ++ less → is_ncname_text x ≡ true → is_digit c ≡ true → P
@@ -32,7 +34,7 @@ no_star y less rest s f =
 
 -- digits
 
--- behind digits stands no point with a digit
+-- after digits stands no point with a digit
 abbrev pub NoFraction : List ℕ → Type 0
 NoFraction rest = (d : ℕ) (more : List ℕ) → rest ≡ 46 ∷ d ∷ more → is_digit d ≡ false
 

@@ -3,19 +3,20 @@ use Rattle.std.proofs.Common.{◌≡◌, ℕ, List, [], ◌∷◌, ◌++◌, Boo
 use Rattle.std.proofs.lemmas.Bool.{and_parts, eqb-true, false_from_ne_true}
 use Rattle.std.specs.List.{list_all}
 use Rattle.xt_names.specs.Classes.{is_ncname_text}
-use Rattle.xpath_lex.specs.Classes.{starts_name, is_name_char, is_digit, is_quote, is_single, is_double}
-use Rattle.xpath_lex.specs.Gaps.{Ends}
-use Rattle.xpath_lex.specs.Runs.{NotNext, IsMark, bars, is_inside, literal_rest}
+use Rattle.xpath_lex.specs.Classes.{is_digit, is_single, is_double}
+use Rattle.xpath_lex.specs.Runs.{IsMark, bars, is_inside, literal_rest}
 use Rattle.xpath_lex.specs.Tokens.{Decimal, more, point, Barred, comment, name, decimal, Longest, NoneBegins}
 use Rattle.xpath_lex.specs.declared.lexing.TokenKind.{TokenKind}
 use Rattle.xpath_lex.specs.declared.lexing.TokenKind.TheVariants.{Integer, Literal, Word, QWord, AnyLocal, AnyPrefix, Symbol}
-use Rattle.xpath_lex.proofs.CharacterFacts.{no, one_of, name_starts}
 use Rattle.xpath_lex.proofs.RunLemmas.{first_same, rest_same}
 use Rattle.xpath_lex.proofs.KindLemmas.{name_made}
 use Rattle.xpath_lex.proofs.NameLemmas.{NoFraction, no_local, digits_longest, word_longest, star_longest, local_longest}
 use Rattle.xpath_lex.proofs.QuoteLemmas.{LongestQuoted, NoneQuoted, Outcome, kept, ends, outcome, rest_run, rest_stays, rest_closes, rest_goes_on, rest_done}
 use Rattle.xpath_lex.proofs.ReadingLemmas.{some_token}
 use Rattle.xpath_lex.proofs.SymbolLemmas.{quote_longest, quote_none, prefix_longest, double_longest, single_longest, mark_none}
+use Rattle.xt_names.specs.Characters.{starts_name, is_name_char, is_quote, Ends, NotNext}
+use Rattle.xt_names.proofs.BoolLemmas.{no, one_of}
+use Rattle.xt_names.proofs.CharacterLemmas.{name_starts}
 
 -- a character of the class comes first
 abbrev pub FirstIs : (ℕ → Bool) → List ℕ → Type 0
@@ -37,7 +38,7 @@ nothing_first (x ∷ xs) o e f = cc
 pub first_is : (p : ℕ → Bool) (ts : List ℕ) (c : ℕ) (o : Option ℕ) (r : Bool) → o ≡ slice_get ts 0 → o ≡ Some c → r ≡ p c → r ≡ true → FirstIs p ts
 first_is p ts c o r e f g h = let first = first_of ts c o e f in (c, first.0, first.1, sym g ∙ h)
 
--- the character that stands there is taken
+-- the character that is there is taken
 pub eat_first : (b : Bool) (c : ℕ) (old new ts : List ℕ) → MatchBool b (old ≡ c ∷ new) ((new ≡ old) × NotNext c old) → old ≡ c ∷ ts → new ≡ ts
 eat_first true c old new ts m e = rest_same (sym m ∙ e)
 eat_first false c old new ts m e = let n : NotNext c (c ∷ ts) = rw e at m.1 in absurd (n refl)
@@ -188,7 +189,7 @@ single_none c old ts e m a f h b =
 pub none_empty : (b : Bool) (ts : List ℕ) → ts ≡ [] → NoneBegins b ts
 none_empty b ts e = λ k run rest g. some_token run rest g.is_token (sym g.parts ∙ e)
 
--- no name begins directly behind a digit
+-- no name begins directly after a digit
 pub none_behind : (ts : List ℕ) → FirstIs starts_name ts → NoneBegins true ts
 none_behind ts (c, rest, e, h) = λ k run less g. g.allowed (rw e (name h))
 

@@ -2,14 +2,14 @@
 use Rattle.std.proofs.Common.{◌≡◌, ℕ, ◌≤◌, List, [], ◌∷◌, ◌++◌, length, Bool, true, false, ◌==◌, ◌&&◌, not, if◌then◌else◌, Option, Some, refl, sym, ap, arith}
 use Rattle.std.proofs.lemmas.Bool.{and_parts, eqb-true, false_from_ne_true}
 use Rattle.std.specs.List.{list_all}
-use Rattle.xpath_lex.specs.Classes.{is_char}
-use Rattle.xpath_lex.specs.Gaps.{Ends}
-use Rattle.xpath_lex.specs.Runs.{is_inside, NotNext, literal_rest}
+use Rattle.xpath_lex.specs.Runs.{is_inside, literal_rest}
 use Rattle.xpath_lex.specs.Tokens.{Quoted, closes, doubled, passes}
-use Rattle.xpath_lex.proofs.CharacterFacts.{no, itself, not_true}
 use Rattle.xpath_lex.proofs.RunLemmas.{first_same, rest_same}
+use Rattle.xt_names.specs.Characters.{is_char, Ends, NotNext}
+use Rattle.xt_names.proofs.BoolLemmas.{no, not_true}
+use Rattle.xt_names.proofs.CharacterLemmas.{itself}
 
--- the longest front of the text that closes a literal, and what is left behind it
+-- the longest front of the text that closes a literal, and what is left after it
 pub record LongestQuoted (q : ℕ) (ts rest : List ℕ) : Type 0 where
   pub run : List ℕ
   pub parts : ts ≡ run ++ rest
@@ -29,13 +29,13 @@ none_empty q _ more closes e = absurd (cc)
 none_empty q _ more (doubled c) e = absurd (cc)
 none_empty q _ more (passes h n c) e = absurd (cc)
 
--- a character that is neither a quote nor may stand in a literal
+-- a character that is neither a quote nor may be in a literal
 none_barred : (q c : ℕ) (cs : List ℕ) → (c == q) ≡ false → is_char c ≡ false → NoneQuoted q (c ∷ cs)
 none_barred q c cs n h _ more closes e = no (itself q) (rw (first_same e) at n)
 none_barred q c cs n h _ more (doubled k) e = no (itself q) (rw (first_same e) at n)
 none_barred q c cs n h _ more (passes g m k) e = no g (rw (first_same e) at h)
 
--- a character that stands in the literal
+-- a character that is in the literal
 none_passed : (q c : ℕ) (cs : List ℕ) → (c == q) ≡ false → NoneQuoted q cs → NoneQuoted q (c ∷ cs)
 none_passed q c cs n none _ more closes e = no (itself q) (rw (first_same e) at n)
 none_passed q c cs n none _ more (doubled k) e = no (itself q) (rw (first_same e) at n)
@@ -56,7 +56,7 @@ passed q c cs best _ n h (ends l) = ends (record {
   longest = passed_bound q c cs l.run n l.longest;
 })
 
--- the closing quote, behind which no other stands
+-- the closing quote, after which no other stands
 closed_bound : (q : ℕ) (cs : List ℕ) → NotNext q cs → (other more : List ℕ) → Quoted q other → q ∷ cs ≡ other ++ more → length other ≤ 1
 closed_bound q cs n _ more closes e = omega arith
 closed_bound q [] n _ more (doubled k) e = absurd (cc)

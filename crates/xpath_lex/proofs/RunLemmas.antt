@@ -2,8 +2,8 @@
 use Rattle.std.proofs.Common.{◌≡◌, ℕ, ◌≤◌, List, [], ◌∷◌, ◌++◌, length, Bool, true, refl, sym, arith}
 use Rattle.std.proofs.lemmas.Bool.{and_parts}
 use Rattle.std.specs.List.{list_all}
-use Rattle.xpath_lex.specs.Gaps.{Ends}
-use Rattle.xpath_lex.proofs.CharacterFacts.{no}
+use Rattle.xt_names.specs.Characters.{Ends}
+use Rattle.xt_names.proofs.BoolLemmas.{no}
 
 abbrev pub head_or : ℕ → List ℕ → ℕ
 head_or d [] = d

@@ -1,63 +1,12 @@
 -- A text and its characters, where some are taken from its front.
-use Rattle.std.proofs.Common.{◌≡◌, ℕ, ◌+◌, ◌≤◌, length-append, List, [], ◌∷◌, ◌++◌, length, take, Bool, true, false, Option, Some, slice_get, refl, sym, ap, ◌∙◌, append_assoc, append-nil, arith}
+use Rattle.std.proofs.Common.{◌≡◌, ℕ, ◌+◌, ◌≤◌, length-append, List, [], ◌∷◌, ◌++◌, length, take, Bool, true, false, MatchBool, refl, sym, ap, ◌∙◌, append-nil, arith}
 use Rattle.std.proofs.lemmas.Str.{chars-append, length-le-encodes, chars_past_char, chars-nil, IsCharBoundary-from_take, IsUtf8-drop, encodes-chars, encodes-append}
-use Rattle.std.proofs.lemmas.Bool.{and_parts}
 use Rattle.std.proofs.Math.Seq.{take-append_seam, drop-append_seam}
 use Rattle.std.specs.Char.{encode_utf8}
 use Rattle.std.specs.Prelude.{encode_utf8_all}
-use Rattle.std.specs.List.{list_all}
 use Rattle.std.specs.Str.{chars, IsUtf8}
-use Rattle.xpath_lex.specs.Gaps.{Ends}
 use Rattle.xpath_lex.specs.Classes.{is_digit}
 use Rattle.xpath_lex.specs.Readings.{ends_in_digit, size}
-use Rattle.xpath_lex.specs.Runs.{NotNext}
-
-pub not_next : (c : ℕ) (cs : List ℕ) (r : Option ℕ) → r ≡ slice_get cs 0 → ((d : ℕ) → r ≡ Some d → c ≡ d → ⊥) → NotNext c cs
-not_next c [] r e f = tt
-not_next c (d ∷ ds) r e f = f d e
-
--- a class does not come next
-pub ends_next : (p : ℕ → Bool) (cs : List ℕ) (r : Option ℕ) → r ≡ slice_get cs 0 → ((d : ℕ) → r ≡ Some d → p d ≡ false) → Ends p cs
-ends_next p [] r e f = tt
-ends_next p (d ∷ ds) r e f = f d e
-
--- what is taken from a text, and what is left of it
-pub record Taken (p : ℕ → Bool) (whole rest : List ℕ) : Type 0 where
-  pub run : List ℕ
-  pub characters : chars whole ≡ run ++ chars rest
-  pub passes : list_all p run ≡ true
-
-pub Taken-none : (p : ℕ → Bool) (whole rest : List ℕ) → rest ≡ whole → Taken p whole rest
-Taken-none p whole rest e = record { run = []; characters = ap chars (sym e); passes = refl }
-
-list_all-push : (p : ℕ → Bool) (xs : List ℕ) (c : ℕ) → list_all p xs ≡ true → p c ≡ true → list_all p (xs ++ c ∷ []) ≡ true
-list_all-push p [] c a h = rw h refl
-list_all-push p (x ∷ xs) c a h =
-    let parts = and_parts (p x) (list_all p xs) a in rw (parts.0, list_all-push p xs c parts.1 h) refl
-
-pub Taken-more : (p : ℕ → Bool) (whole rest rest' : List ℕ) (c : ℕ) → Taken p whole rest → IsUtf8 rest → rest ≡ encode_utf8 c ++ rest' → p c ≡ true → Taken p whole rest'
-Taken-more p whole rest rest' c t u e h = record {
-  run = t.run ++ c ∷ [];
-  characters = rw append_assoc (t.characters ∙ ap (λ cs. t.run ++ cs) (chars_past_char rest rest' c u e));
-  passes = list_all-push p t.run c t.passes h;
-}
-
-pub eaten : (now inside old before after new : List ℕ) (c next : ℕ) → chars inside ≡ now → before ≡ inside → old ≡ before → IsUtf8 old → before ≡ encode_utf8 next ++ after → new ≡ after → next ≡ c → now ≡ c ∷ chars new
-eaten now inside old before after new c next v s o u e n same =
-    let utf8 : IsUtf8 before = rw o at u in
-    let past : chars before ≡ next ∷ chars after = chars_past_char before after next utf8 e in cc
-
--- a run ends where the next character is of another class, or there is none
-pub run_ends : (p : ℕ → Bool) (rest at : List ℕ) (r : Option ℕ) (c : ℕ) → rest ≡ at → r ≡ slice_get (chars at) 0 → r ≡ Some c → p c ≡ false → Ends p (chars rest)
-run_ends p rest at r c e s is other_class =
-    let other = λ (d : ℕ) (is' : r ≡ Some d). (let same : c ≡ d = cc in rw same at other_class) in
-    rw e (ends_next p (chars at) r s other)
-
-pub run_ends_all : (p : ℕ → Bool) (rest at : List ℕ) (r : Option ℕ) → rest ≡ at → r ≡ slice_get (chars at) 0 → ((c : ℕ) → r ≡ Some c → ⊥) → Ends p (chars rest)
-run_ends_all p rest at r e s none = rw e (ends_next p (chars at) r s (λ d is. absurd (none d is)))
-
-pub shorter_run : (old run new : List ℕ) → old ≡ run ++ new → length new ≤ length old
-shorter_run old run new e = let size = ap length e ∙ length-append run new in omega arith
 
 -- the bytes of a text are parted as its characters are
 pub parted : (whole rest run : List ℕ) → IsUtf8 whole → IsUtf8 rest → chars whole ≡ run ++ chars rest → whole ≡ encode_utf8_all run ++ rest

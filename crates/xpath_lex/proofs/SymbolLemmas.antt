@@ -2,16 +2,17 @@
 use Rattle.std.proofs.Common.{◌≡◌, ℕ, suc, ◌≤◌, List, [], ◌∷◌, ◌++◌, length, append_assoc, Bool, true, false, ◌==◌, refl, sym, subst, ap, ◌∙◌, arith}
 use Rattle.std.proofs.lemmas.Bool.{and_parts}
 use Rattle.xt_names.specs.Classes.{is_ncname_text}
-use Rattle.xpath_lex.specs.Classes.{starts_name, is_name_char, is_digit, is_quote, is_single, is_double}
-use Rattle.xpath_lex.specs.Gaps.{Ends}
+use Rattle.xpath_lex.specs.Classes.{is_digit, is_single, is_double}
 use Rattle.xpath_lex.specs.Runs.{IsMark}
 use Rattle.xpath_lex.specs.Tokens.{Quoted, IsToken, integer, literal, word, qword, any_local, any_prefix, single, double, more, point, Barred, comment, name, decimal, Longest, NoneBegins}
 use Rattle.xpath_lex.specs.declared.lexing.TokenKind.{TokenKind}
 use Rattle.xpath_lex.specs.declared.lexing.TokenKind.TheVariants.{Integer, Literal, Word, QWord, AnyLocal, AnyPrefix, Symbol}
-use Rattle.xpath_lex.proofs.CharacterFacts.{no, quote_digit, quote_name, single_quote, double_quote, point_quote, open_quote, star_quote, double_star}
+use Rattle.xpath_lex.proofs.CharacterFacts.{quote_digit, quote_name, single_quote, double_quote, point_quote, open_quote, star_quote, double_star}
 use Rattle.xpath_lex.proofs.KindLemmas.{name_parts, all_name}
 use Rattle.xpath_lex.proofs.RunLemmas.{first_same, rest_same, run_bound}
 use Rattle.xpath_lex.proofs.QuoteLemmas.{LongestQuoted, NoneQuoted}
+use Rattle.xt_names.specs.Characters.{starts_name, is_name_char, is_quote, Ends}
+use Rattle.xt_names.proofs.BoolLemmas.{no}
 
 -- a name begins with a start
 starts_first : {P : Type 0} (c : ℕ) (x ts less : List ℕ) → c ∷ ts ≡ x ++ less → is_ncname_text x ≡ true → starts_name c ≡ false → P

@@ -1,11 +1,6 @@
--- What may stand between tokens: white space and comments (XPath 2.0, 2.6 and A.2.4.1).
+-- What may be between tokens: white space and comments (XPath 2.0, 2.6 and A.2.4.1).
 use Rattle.std.specs.Prelude.{◌≡◌, ℕ, List, [], ◌∷◌, Bool, true, false, ◌&&◌, ◌==◌}
-use Rattle.xpath_lex.specs.Classes.{is_space, is_char}
-
--- no character of the class comes first
-abbrev pub Ends : (ℕ → Bool) → List ℕ → Type 0
-Ends p [] = Unit {0}
-Ends p (c ∷ ts) = p c ≡ false
+use Rattle.xt_names.specs.Characters.{Ends, is_space, is_char}
 
 -- the two characters come first
 abbrev pub begins_with : ℕ → ℕ → List ℕ → Bool
@@ -13,7 +8,7 @@ begins_with a b [] = false
 begins_with a b (c ∷ []) = false
 begins_with a b (c ∷ d ∷ ts) = c == a && d == b
 
--- Comment ::= "(:" (CommentContents | Comment)* ":)", from behind its `(:` up to behind its `:)`
+-- Comment ::= "(:" (CommentContents | Comment)* ":)", from after its `(:` up to after its `:)`
 pub data Comment : List ℕ → List ℕ → Type 0 where
   over : {ts : List ℕ} → Comment (58 ∷ 41 ∷ ts) ts
   nested : {ts mid rest : List ℕ} → Comment ts mid → Comment mid rest → Comment (40 ∷ 58 ∷ ts) rest

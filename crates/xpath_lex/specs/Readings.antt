@@ -1,4 +1,4 @@
--- How a text is read as tokens, one behind another.
+-- How a text is read as tokens, one after another.
 use Rattle.std.specs.Prelude.{◌≡◌, ℕ, ◌+◌, List, [], ◌∷◌, length, Bool, false, encode_utf8_all}
 use Rattle.std.specs.Str.{chars}
 use Rattle.xpath_lex.specs.Classes.{is_digit}
@@ -9,7 +9,7 @@ use Rattle.xpath_lex.specs.declared.lexing.Token.{Token}
 use Rattle.xpath_lex.specs.declared.faults.LexFault.{LexFault}
 use Rattle.xpath_lex.specs.declared.faults.LexFault.TheVariants.{BadToken, Memory}
 
--- a token at its place: its kind, its characters, the byte at which it begins and the one behind it
+-- a token at its place: its kind, its characters, the byte at which it begins and the one after it
 pub record Placed : Type 0 where
   pub kind : TokenKind
   pub characters : List ℕ
@@ -36,8 +36,8 @@ ends_in_digit (c ∷ d ∷ cs) = ends_in_digit (d ∷ cs)
 -- In all that follows `total` is how many bytes the whole text has, `ts` are the characters that
 -- are left of it, and `behind` says whether a digit stands directly before them.
 
--- behind white space and comments stands this token, which is the longest there, and this is left
--- behind it
+-- after white space and comments stands this token, which is the longest there, and this is left
+-- after it
 pub record TokenAt (total : ℕ) (behind : Bool) (ts : List ℕ) (token : Placed) (rest : List ℕ)
     : Type 0 where
   pub after : Bool
@@ -52,7 +52,7 @@ pub record TokenAt (total : ℕ) (behind : Bool) (ts : List ℕ) (token : Placed
 abbrev pub IsOver : Bool → List ℕ → Type 0
 IsOver behind ts = (after : Bool) × Gap behind ts after []
 
--- behind white space and comments something stands, and no token begins there
+-- after white space and comments something stands, and no token begins there
 pub record FaultAt (total : ℕ) (behind : Bool) (ts : List ℕ) (place : ℕ) : Type 0 where
   pub after : Bool
   pub here : List ℕ

@@ -1,21 +1,17 @@
 -- The classes of characters that the code takes in runs, and what comes next in a text.
 use Rattle.std.specs.Prelude.{◌≡◌, ℕ, List, [], ◌∷◌, Bool, true, false, not, ◌&&◌, ◌||◌, ◌==◌, if◌then◌else◌, Option, Some}
-use Rattle.xpath_lex.specs.Classes.{is_char, is_digit, is_quote, starts_name}
+use Rattle.xpath_lex.specs.Classes.{is_digit}
+use Rattle.xt_names.specs.Characters.{is_char, is_quote, starts_name}
 
--- what may stand in a comment and begins neither another one nor its end
+-- what may be in a comment and begins neither another one nor its end
 unfoldable pub is_plain : ℕ → Bool
 is_plain c = is_char c && not (c == 40) && not (c == 58)
 
--- what may stand between such quotes, but for a quote
+-- what may be between such quotes, but for a quote
 unfoldable pub is_inside : ℕ → ℕ → Bool
 is_inside quote c = is_char c && not (c == quote)
 
--- the character does not come next
-abbrev pub NotNext : ℕ → List ℕ → Type 0
-NotNext c [] = Unit {0}
-NotNext c (d ∷ ts) = c ≡ d → ⊥
-
--- what is left behind the longest front that closes a literal, or the best so far: `behind` says
+-- what is left after the longest front that closes a literal, or the best so far: `behind` says
 -- that a quote which closes it stands directly before
 unfoldable pub literal_rest : ℕ → Bool → List ℕ → Option (List ℕ) → Option (List ℕ)
 literal_rest quote behind [] best = best

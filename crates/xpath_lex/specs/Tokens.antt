@@ -2,11 +2,12 @@
 use Rattle.std.specs.Prelude.{◌≡◌, ℕ, ◌≤◌, List, [], ◌∷◌, ◌++◌, length, Bool, true, false, ◌==◌}
 use Rattle.std.specs.List.{list_all}
 use Rattle.xt_names.specs.Classes.{is_ncname_text}
-use Rattle.xpath_lex.specs.Classes.{is_char, starts_name, is_digit, is_quote, is_single, is_double}
+use Rattle.xpath_lex.specs.Classes.{is_digit, is_single, is_double}
 use Rattle.xpath_lex.specs.declared.lexing.TokenKind.{TokenKind}
 use Rattle.xpath_lex.specs.declared.lexing.TokenKind.TheVariants.{Integer, Literal, Word, QWord, AnyLocal, AnyPrefix, Symbol}
+use Rattle.xt_names.specs.Characters.{is_char, starts_name, is_quote}
 
--- what stands behind the opening quote of a literal, its closing quote included: a quote inside is
+-- what comes after the opening quote of a literal, its closing quote included: a quote inside is
 -- doubled
 pub data Quoted (quote : ℕ) : List ℕ → Type 0 where
   closes : Quoted quote (quote ∷ [])
@@ -38,12 +39,12 @@ pub data Decimal : List ℕ → Type 0 where
   more : {c : ℕ} {ts : List ℕ} → is_digit c ≡ true → Decimal ts → Decimal (c ∷ ts)
   point : {c : ℕ} {ts : List ℕ} → is_digit c ≡ true → Decimal (46 ∷ c ∷ ts)
 
--- Where no token begins, whatever stands there. The truth value says whether a digit stands
+-- Where no token begins, whatever is there. The truth value says whether a digit stands
 -- directly before.
 pub data Barred : Bool → List ℕ → Type 0 where
   -- `(:` begins a comment and nothing else
   comment : {behind : Bool} {ts : List ℕ} → Barred behind (40 ∷ 58 ∷ ts)
-  -- no name begins directly behind a digit
+  -- no name begins directly after a digit
   name : {c : ℕ} {ts : List ℕ} → starts_name c ≡ true → Barred true (c ∷ ts)
   -- numbers with a point are no tokens, and neither are their parts
   decimal : {behind : Bool} {ts : List ℕ} → Decimal ts → Barred behind ts

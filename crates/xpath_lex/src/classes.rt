@@ -1,20 +1,10 @@
 // The classes of characters that a run is read by.
 ghost use Rattle.std.specs.Prelude.{◌≡◌};
-ghost use Rattle.xpath_lex.specs.Classes.{is_space, is_char, starts_name, is_name_char};
-ghost use Rattle.xpath_lex.specs.Classes.{is_digit, is_quote, is_single, is_double};
+ghost use Rattle.xt_names.specs.Characters.{is_space, is_char, starts_name, is_name_char, is_quote};
+ghost use Rattle.xpath_lex.specs.Classes.{is_digit, is_single, is_double};
 
+use text_scan::Class;
 use xt_names::{is_ncname_char, is_ncname_start, is_xml_char};
-
-/// A class of characters.
-pub(crate) trait Class {
-    ghost use Rattle.std.specs.Prelude.{ℕ, Bool};
-
-    /// Which characters are of the class.
-    ghost class: { ℕ → Bool };
-
-    fn has(c: char) -> bool
-        ensures { result ≡ class c };
-}
 
 /// White space.
 pub(crate) struct Space;
@@ -22,20 +12,20 @@ pub(crate) struct Space;
 /// A decimal digit.
 pub(crate) struct Digit;
 
-/// What may stand after the first character of a name without a colon.
+/// What may come after the first character of a name without a colon.
 pub(crate) struct NameChar;
 
-/// What may stand in a comment and begins neither another one nor its end.
+/// What may be in a comment and begins neither another one nor its end.
 pub(crate) struct Plain;
 
-/// What may stand between double quotes, but for a quote.
+/// What may be between double quotes, but for a quote.
 pub(crate) struct DoubleQuoted;
 
-/// What may stand between single quotes, but for a quote.
+/// What may be between single quotes, but for a quote.
 pub(crate) struct SingleQuoted;
 
 impl Class for Space {
-    ghost use Rattle.xpath_lex.specs.Classes.{is_space};
+    ghost use Rattle.xt_names.specs.Characters.{is_space};
 
     ghost class = { is_space };
 
@@ -55,7 +45,7 @@ impl Class for Digit {
 }
 
 impl Class for NameChar {
-    ghost use Rattle.xpath_lex.specs.Classes.{is_name_char};
+    ghost use Rattle.xt_names.specs.Characters.{is_name_char};
 
     ghost class = { is_name_char };
 
@@ -97,28 +87,28 @@ impl Class for SingleQuoted {
     }
 }
 
-#[tactic(auto, unfolding(crate::specs::Classes::is_space))]
+#[tactic(auto, unfolding(xt_names::specs::Characters::is_space))]
 pub(crate) fn is_space(c: char) -> bool
     ensures { result ≡ is_space c }
 {
     matches!(c, ' ' | '\t' | '\n' | '\r')
 }
 
-#[tactic(auto, unfolding(crate::specs::Classes::is_char))]
+#[tactic(auto, unfolding(xt_names::specs::Characters::is_char))]
 fn is_char(c: char) -> bool
     ensures { result ≡ is_char c }
 {
     is_xml_char(c)
 }
 
-#[tactic(auto, unfolding(crate::specs::Classes::starts_name))]
+#[tactic(auto, unfolding(xt_names::specs::Characters::starts_name))]
 pub(crate) fn starts_name(c: char) -> bool
     ensures { result ≡ starts_name c }
 {
     is_ncname_start(c)
 }
 
-#[tactic(auto, unfolding(crate::specs::Classes::is_name_char))]
+#[tactic(auto, unfolding(xt_names::specs::Characters::is_name_char))]
 fn is_name_char(c: char) -> bool
     ensures { result ≡ is_name_char c }
 {
@@ -132,7 +122,7 @@ pub(crate) fn is_digit(c: char) -> bool
     matches!(c, '0'..='9')
 }
 
-#[tactic(auto, unfolding(crate::specs::Classes::is_quote))]
+#[tactic(auto, unfolding(xt_names::specs::Characters::is_quote))]
 pub(crate) fn is_quote(c: char) -> bool
     ensures { result ≡ is_quote c }
 {

@@ -8,7 +8,7 @@ use thiserror::Error;
 /// Why a text has no list of tokens.
 #[derive(Debug, Drop, Error)]
 pub enum LexFault {
-    /// Something stands at the byte, and no token begins there.
+    /// Something is at the byte, and no token begins there.
     #[error("no token begins at byte {0}")]
     BadToken(usize),
     /// Memory ran out.

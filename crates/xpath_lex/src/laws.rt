@@ -2,7 +2,7 @@
 ghost use Rattle.std.specs.Prelude.{◌≡◌, ℕ, List, Bool};
 ghost use Rattle.xpath_lex.specs.Readings.{Placed, TokenAt, IsOver, FaultAt, Tokens, Fault};
 
-/// At most one token stands at a place, and it leaves the same behind it; where one stands the text
+/// At most one token is at a place, and it leaves the same after it; where one stands the text
 /// is not over, and where none begins neither is true, and the place of that is one.
 pub fn tokens_are_one()
     ensures one { (total : ℕ) (behind : Bool) (ts : List ℕ) (t u : Placed) (x y : List ℕ)

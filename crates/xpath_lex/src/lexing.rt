@@ -63,7 +63,7 @@ impl<'a> Scan<'a> {
     }
 }
 
-/// The token at the byte, behind white space and comments; none where the text is over (XPath 2.0,
+/// The token at the byte, after white space and comments; none where the text is over (XPath 2.0,
 /// A.2). The error is the byte at which something stands and no token begins; a comment that is not
 /// closed stands where its `(:` does. It takes no memory.
 pub fn token_at(text: &str, place: usize) -> Result<Option<Token<'_>>, usize>
@@ -87,10 +87,10 @@ pub fn token_at(text: &str, place: usize) -> Result<Option<Token<'_>>, usize>
 
 /// All tokens of the text. BadToken comes exactly where `token_at` gives that error on the way.
 pub fn tokens(alloc: Global, text: &str) -> Result<List<Token<'_>>, LexFault>
-    // The tokens stand behind one another, from the text's beginning to its end.
+    // The tokens come after one another, from the text's beginning to its end.
     ensures tokens { IfOk result (λ list.
         Tokens (length text.now) false (chars text.now) (map placed list)) }
-    // BadToken has the place behind tokens where none begins.
+    // BadToken has the place after tokens where none begins.
     ensures fault { IfErr result (λ why. IfBadToken why (λ at.
         Fault (length text.now) false (chars text.now) at)) }
 {

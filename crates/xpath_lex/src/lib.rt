@@ -1,6 +1,6 @@
 //! The tokens of XPath and XQuery expressions (XPath 2.0, A.2).
 //!
-//! At a place, behind white space and nested comments, the longest token is taken. `token_at` gives
+//! At a place, after white space and nested comments, the longest token is taken. `token_at` gives
 //! the token at a place, `tokens` all tokens of a text; both say at which byte no token begins. A
 //! token is a slice of the text, and nothing is decoded. specs/Tokens.antt says what a token is, by
 //! classes of characters, and which one is the longest; a text has at most one list of tokens. No

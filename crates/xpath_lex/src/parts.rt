@@ -1,10 +1,9 @@
-// The longest token at a place, by the character that stands there.
-ghost use Rattle.std.specs.Prelude.{◌≡◌, ◌≤◌, ◌++◌, ◌∷◌, List, ℕ, Bool, true, false, length, None};
-ghost use Rattle.std.specs.Prelude.{MatchBool, MatchOption};
+// The longest token at a place, by the character that is there.
+ghost use Rattle.std.specs.Prelude.{◌≡◌, ◌≤◌, ◌++◌, ◌∷◌, List, ℕ, Bool, true, false, length, None, MatchBool, MatchOption};
 ghost use Rattle.std.specs.List.{list_all};
 ghost use Rattle.xt_names.specs.Classes.{is_ncname_text};
-ghost use Rattle.xpath_lex.specs.Classes.{starts_name, is_name_char, is_digit, is_quote};
-ghost use Rattle.xpath_lex.specs.Gaps.{Ends};
+ghost use Rattle.xpath_lex.specs.Classes.{is_digit};
+ghost use Rattle.xt_names.specs.Characters.{starts_name, is_name_char, is_quote, Ends};
 ghost use Rattle.xpath_lex.specs.Runs.{IsMark, bars, is_inside, literal_rest};
 ghost use Rattle.xpath_lex.specs.Tokens.{Longest, NoneBegins};
 
@@ -80,7 +79,7 @@ impl<'a> Scan<'a> {
         Some(TokenKind::Literal)
     }
 
-    /// What is left behind a literal whose opening quote was taken; none where it is not closed.
+    /// What is left after a literal whose opening quote was taken; none where it is not closed.
     fn find_end(&mut self, quote: char) -> Option<Scan<'a>>
         requires { is_quote quote ≡ true }
         ensures { result ≡ literal_rest quote false self.old None }
@@ -99,7 +98,7 @@ impl<'a> Scan<'a> {
         }
     }
 
-    /// Takes what stands in a literal between such quotes, up to the next quote.
+    /// Takes what is in a literal between such quotes, up to the next quote.
     fn take_inside(&mut self, quote: char)
         requires { is_quote quote ≡ true }
         ensures taken { (run : List ℕ)
@@ -188,7 +187,7 @@ impl<'a> Scan<'a> {
         }
     }
 
-    /// Takes a colon and a name behind a star, if they come next.
+    /// Takes a colon and a name after a star, if they come next.
     fn take_behind_star(&mut self, c: char) -> bool
         ensures { MatchBool result
             ((c ≡ 42) × ((name : List ℕ) × (self.old ≡ 58 ∷ (name ++ self.new))

@@ -1,56 +1,56 @@
 // What is left of a text, and how it is taken character by character and in runs.
-ghost use Rattle.std.specs.Prelude.{◌≡◌, ◌++◌, ◌∷◌, [], ◌≤◌, length, true, List, ℕ, slice_get};
-ghost use Rattle.std.specs.Prelude.{MatchBool};
+ghost use Rattle.std.specs.Prelude.{◌≡◌, ◌++◌, ◌∷◌, [], ◌≤◌, length, true, List, ℕ, slice_get, MatchBool};
 ghost use Rattle.std.specs.List.{list_all};
 ghost use Rattle.std.specs.Str.{chars};
-ghost use Rattle.xpath_lex.specs.Gaps.{Ends};
+ghost use Rattle.xt_names.specs.Characters.{Ends, NotNext};
 ghost use Rattle.xpath_lex.specs.Readings.{size, ends_in_digit};
-ghost use Rattle.xpath_lex.specs.Runs.{NotNext};
 
-use crate::classes::{Class, is_digit};
+use crate::classes::is_digit;
 use std::marker::Model;
+use text_scan::Class;
 
 /// What is left of a text; contracts see its characters.
 #[derive(Drop)]
 pub(crate) struct Scan<'a> {
-    rest: &'a str,
+    text: text_scan::Scan<'a>,
 }
 
 impl<'a> Model for Scan<'a> {
     ghost use Rattle.std.specs.Prelude.{List, ℕ};
-    ghost use Rattle.std.specs.Str.{chars};
 
     ghost Value = { List ℕ };
 
-    ghost view = { λ s. chars s.rest.now };
+    ghost view = { λ s. s.text };
 }
 
 impl<'a> Scan<'a> {
     pub(crate) fn new(text: &'a str) -> Scan<'a>
         ensures { result ≡ chars text.now }
     {
-        Scan { rest: text }
+        Scan {
+            text: text_scan::Scan::new(text),
+        }
     }
 
-    /// Another one that stands at the same place.
+    /// Another one that is at the same place.
     pub(crate) fn fork(&self) -> Scan<'a>
         ensures { result ≡ self.now }
     {
-        Scan { rest: self.rest }
+        Scan::new(self.text.rest())
     }
 
     /// How many bytes are left.
     pub(crate) fn left(&self) -> usize
         ensures { result ≡ size self.now }
     {
-        bytes_in(self.rest)
+        bytes_in(self.text.rest())
     }
 
     /// The next character, which stays.
     pub(crate) fn peek(&self) -> Option<char>
         ensures { result ≡ slice_get self.now 0 }
     {
-        self.rest.chars().next()
+        self.text.peek()
     }
 
     /// Whether nothing is left.
@@ -65,15 +65,7 @@ impl<'a> Scan<'a> {
         ensures { MatchBool result
             (self.old ≡ c ∷ self.new) ((self.new ≡ self.old) × NotNext c self.old) }
     {
-        let mut chars = self.rest.chars();
-        let _text = chars.as_str();
-        match chars.next() {
-            Some(next) if next == c => {
-                self.rest = chars.as_str();
-                true
-            }
-            _ => false,
-        }
+        self.text.eat(c)
     }
 
     /// Takes the characters of a class, as far as they come next.
@@ -83,16 +75,7 @@ impl<'a> Scan<'a> {
         ensures ends { Ends C.class self.new }
         ensures shorter { length self.new ≤ length self.old }
     {
-        let mut chars = self.rest.chars();
-        let whole = chars.as_str();
-        let mut rest = whole;
-        while let Some(c) = chars.next() {
-            if !C::has(c) {
-                break;
-            }
-            rest = chars.as_str();
-        }
-        self.rest = rest;
+        let _run = self.text.take_run::<C>();
     }
 
     /// The text that was taken since another one stood at the place where this one stands.
@@ -100,7 +83,7 @@ impl<'a> Scan<'a> {
         requires { (run : List ℕ) × (self.now ≡ run ++ end.now) }
         ensures { self.now ≡ chars result.now ++ end.now }
     {
-        front(self.rest, end.rest)
+        front(self.text.rest(), end.text.rest())
     }
 }
 
@@ -110,7 +93,7 @@ fn bytes_in(text: &str) -> usize
     text.len()
 }
 
-/// What stands before the rest of a text.
+/// What comes before the rest of a text.
 fn front<'a>(text: &'a str, rest: &str) -> &'a str
     requires { (run : List ℕ) × (chars text.now ≡ run ++ chars rest.now) }
     ensures { chars text.now ≡ chars result.now ++ chars rest.now }

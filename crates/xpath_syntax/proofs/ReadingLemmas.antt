@@ -6,9 +6,9 @@ use Rattle.xt_names.specs.declared.codes.Code.{Code}
 use Rattle.xt_syntax.specs.declared.exprs.Expr.{Expr}
 use Rattle.xt_syntax.specs.declared.prefixes.ParseFault.{ParseFault}
 use Rattle.xt_syntax.specs.declared.prefixes.ParseFault.TheVariants.{Syntax, Static, TooDeep, Memory}
-use Rattle.expr_terms.specs.declared.tokens.Token.{Token}
+use Rattle.expr_keys.specs.declared.tokens.Token.{Token}
 use Rattle.expr_terms.specs.declared.raws.Raw.{Raw}
-use Rattle.expr_terms.specs.declared.productions.Language.TheVariants.{Xpath as xpath}
+use Rattle.expr_keys.specs.declared.productions.Language.TheVariants.{Xpath as xpath}
 use Rattle.expr_terms.specs.Nest.{raw_nest_of}
 use Rattle.expr_tokens.specs.Terms.{Written, term_of, terms_of}
 use Rattle.expr_length.proofs.Within.{spelled_within}
@@ -38,7 +38,7 @@ written : (ts : List Written) (us : List Token) (raw : Raw) → terms_of ts ≡ 
 written ts us raw e f = record { terms = us; are = e; spelled = runs_spells f }
 
 -- .. what is written is what is read
-only_one : (ts : List Written) (us : List Token) (raw : Raw) → terms_of ts ≡ Some us → IsWritten ts raw → read_whole xpath us ≡ Some raw
+pub only_one : (ts : List Written) (us : List Token) (raw : Raw) → terms_of ts ≡ Some us → IsWritten ts raw → read_whole xpath us ≡ Some raw
 only_one ts us raw e w =
     let same : us ≡ w.terms = same_Some _ _ (sym e ∙ w.are) in
     rw same (spells_runs w.spelled)

@@ -4,9 +4,9 @@ use Rattle.xt_names.specs.declared.codes.Code.{Code}
 use Rattle.xt_syntax.specs.declared.exprs.Expr.{Expr}
 use Rattle.xt_syntax.specs.declared.prefixes.ParseFault.{ParseFault}
 use Rattle.xt_syntax.specs.declared.prefixes.ParseFault.TheVariants.{Syntax, Static, TooDeep, Memory}
-use Rattle.expr_terms.specs.declared.tokens.Token.{Token}
+use Rattle.expr_keys.specs.declared.tokens.Token.{Token}
 use Rattle.expr_terms.specs.declared.raws.Raw.{Raw}
-use Rattle.expr_terms.specs.declared.productions.Language.TheVariants.{Xpath as xpath}
+use Rattle.expr_keys.specs.declared.productions.Language.TheVariants.{Xpath as xpath}
 use Rattle.expr_terms.specs.Nest.{raw_nest_of}
 use Rattle.expr_tokens.specs.Terms.{Written, terms_of}
 use Rattle.expr_grammar.specs.Grammar as grammar

@@ -10,6 +10,7 @@
 //! declared, and XPST0081 where it is not.
 #![tactic(auto)]
 
+pub mod expr_readings;
 mod expressions;
 mod laws;
 

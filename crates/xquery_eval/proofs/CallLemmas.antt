@@ -12,7 +12,7 @@ use Rattle.xt_atoms.specs.declared.faults.ValueFault.TheVariants as value
 use Rattle.xdm_items.specs.declared.items.Item.{Item}
 use Rattle.xt_syntax.specs.declared.exprs.Expr.{Expr}
 use Rattle.xt_syntax.specs.declared.queries.QueryFunction.{QueryFunction}
-use Rattle.outcomes.specs.Outcome.{Outcome, Ends, Fails, Deep, and_then, step_outcome}
+use Rattle.expr_meaning.specs.Outcomes.Outcome.{Outcome, Ends, Fails, Deep, and_then, step_outcome}
 use Rattle.expr_meaning.specs.Env.{Binding, Program, State, no_state}
 use Rattle.expr_meaning.specs.Meaning.{outcome}
 use Rattle.expr_meaning.specs.Queries.{Run, calls_at, program_at, find_function, bound_params}

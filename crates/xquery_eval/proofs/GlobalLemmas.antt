@@ -4,7 +4,7 @@ use Rattle.std.proofs.Common.{drop-cons, get_or, length}
 use Rattle.std.proofs.Math.ListN.{drop_of_length-le}
 use Rattle.xdm_items.specs.declared.items.Item.{Item}
 use Rattle.xt_syntax.specs.declared.queries.QueryVar.{QueryVar}
-use Rattle.outcomes.specs.Outcome.{Ends, and_then}
+use Rattle.expr_meaning.specs.Outcomes.Outcome.{Ends, and_then}
 use Rattle.expr_meaning.specs.Queries.{Run, globals_from, program_at, variable_outcome}
 use Rattle.eval_scopes.specs.declared.faults.EvalFault.{EvalFault}
 use Rattle.eval_scopes.specs.declared.scopes.Variable.{Variable}

@@ -53,7 +53,7 @@ unbound (p ∷ ps) [] (suc i) e =
     no_arguments (drop i ps) ∙ sym (no_arguments (drop (suc i) ps))
 unbound (p ∷ ps) (xs ∷ args) (suc i) e = unbound ps args i e
 
--- the parameter at a place with its argument, and those behind it
+-- the parameter at a place with its argument, and those after it
 bound_at : (params : List QueryParam) (args : List (List Item)) (i : ℕ) (p : QueryParam)
     (xs : List Item) → slice_get params i ≡ Some p → slice_get args i ≡ Some xs →
     bound_params (drop i params) (drop i args)

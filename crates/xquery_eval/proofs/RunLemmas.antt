@@ -5,7 +5,7 @@ use Rattle.xdm_items.specs.declared.items.Item.{Item}
 use Rattle.doc_set.specs.Sets.{DocumentSet}
 use Rattle.xt_syntax.specs.declared.queries.Query.{Query}
 use Rattle.xt_syntax.specs.declared.queries.QueryFunction.{QueryFunction}
-use Rattle.outcomes.specs.Outcome.{Outcome, Ends, and_then}
+use Rattle.expr_meaning.specs.Outcomes.Outcome.{Outcome, Ends, and_then}
 use Rattle.expr_meaning.specs.Env.{Binding}
 use Rattle.expr_meaning.specs.Meaning.{outcome}
 use Rattle.expr_meaning.specs.Queries.{Run, globals_from, program_at, query_outcome, top_env}

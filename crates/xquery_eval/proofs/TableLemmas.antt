@@ -28,7 +28,7 @@ pub none_yet : {S : Type 0} (fs : List QueryFunction) (places : IndexMap Signatu
     ((s : Signature) → get same_signature places s ≡ None) → IsTableFrom fs places (length fs)
 none_yet fs places empty s = empty s ∙ ap (place_from s (length fs)) (sym (drop_of_length-le fs (omega arith)))
 
--- a function put in front of those behind it
+-- a function put in front of those after it
 pub one_before : {S T : Type 0} (fs : List QueryFunction) (old : IndexMap Signature ℕ S)
     (new : IndexMap Signature ℕ T) (n : ℕ) (f : QueryFunction) → 0 < n → n ≤ length fs →
     f ≡ get_or fs (n - 1) f → IsTableFrom fs old n →

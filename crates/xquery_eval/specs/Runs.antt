@@ -10,7 +10,7 @@ use Rattle.xdm_items.specs.declared.items.Item.{Item}
 use Rattle.xt_syntax.specs.declared.queries.Query.{Query}
 use Rattle.xt_syntax.specs.declared.queries.QueryFunction.{QueryFunction}
 use Rattle.xt_syntax.specs.declared.queries.QueryParam.{QueryParam}
-use Rattle.outcomes.specs.Outcome.{Outcome, Ends}
+use Rattle.expr_meaning.specs.Outcomes.Outcome.{Outcome, Ends}
 use Rattle.expr_meaning.specs.Env.{Binding, Keys}
 use Rattle.expr_meaning.specs.Queries.{Given, Run}
 use Rattle.eval_scopes.specs.declared.faults.EvalFault.{EvalFault}

@@ -8,8 +8,8 @@ ghost use Rattle.xquery_eval.specs.Runs.{run_of};
 
 use crate::calls::{QueryRun, eval_in};
 use crate::params::{external_value, held};
+use eval_scopes::eval_values::{Place, typed};
 use eval_scopes::{Env, EvalFault, Focus, Globals, Scope, no_state};
-use eval_steps::eval_values::{Place, typed};
 use std::alloc::Global;
 use xdm_items::{Item, ItemList};
 use xt_syntax::{Expr, QueryVar};

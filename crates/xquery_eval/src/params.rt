@@ -8,7 +8,7 @@ ghost use Rattle.eval_scopes.specs.Scopes.{binding_of, pushed_on};
 ghost use Rattle.xquery_eval.specs.Runs.{given_of, text_behind, AnswersBound, AnswersParam};
 
 use eval_scopes::Variable;
-use eval_steps::eval_values::one;
+use eval_scopes::eval_values::one;
 use lazy_seq::Seq;
 use std::alloc::{AllocError, Global};
 use xdm_items::{Item, ItemList, convert, copy_item_list};

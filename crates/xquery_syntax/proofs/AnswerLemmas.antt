@@ -6,7 +6,7 @@ use Rattle.xt_syntax.specs.declared.prefixes.ParseFault.{ParseFault}
 use Rattle.query_grammar.specs.declared.declared.RawQuery.{RawQuery}
 use Rattle.query_resolve.specs.Queries.{resolved}
 use Rattle.query_resolve.specs.Queries as meaning
-use Rattle.query_laws.specs.Shapes.{is_shaped_query}
+use Rattle.xquery_syntax.specs.QueryLaws.Shapes.{is_shaped_query}
 use Rattle.xquery_syntax.specs.Answers.{value, syntax, static, meant_answer, answer}
 use Rattle.xquery_syntax.specs.Answers.{Gives}
 

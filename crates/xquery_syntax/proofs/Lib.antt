@@ -1,2 +1,4 @@
 pub mod AnswerLemmas
 pub mod ParsedLemmas
+pub mod PrologLaws
+pub mod QueryLaws

@@ -18,9 +18,9 @@ use Rattle.query_resolve.specs.Meaning.{Meant}
 use Rattle.query_resolve.specs.Queries.{rules_broken, query_meant, resolved, value_or}
 use Rattle.query_resolve.specs.Queries as meaning
 use Rattle.query_resolve.proofs.MeaningLemmas.{meant_resolved, resolved_meant, means_one}
-use Rattle.query_laws.specs.Shapes.{is_shaped_query}
-use Rattle.query_laws.proofs.Closed.{text_closed}
-use Rattle.query_laws.proofs.Depth.{text_nest}
+use Rattle.xquery_syntax.specs.QueryLaws.Shapes.{is_shaped_query}
+use Rattle.xquery_syntax.proofs.QueryLaws.Closed.{text_closed}
+use Rattle.xquery_syntax.proofs.QueryLaws.Depth.{text_nest}
 use Rattle.xquery_syntax.specs.Answers.{Answer, value, syntax, static, too_deep}
 use Rattle.xquery_syntax.specs.Answers.{meant_answer, answer, answer_within, Gives}
 use Rattle.xquery_syntax.specs.Spelled.{IsWritten, Spells, SpellsWithin, BreaksFirst, Misspelt}
@@ -174,7 +174,7 @@ gives_within k text raw (Err TooDeep) s x =
 gives_within k text raw (Err (Memory e)) s x = tt
 
 -- the call that gives an answer
-abbrev result_of : Answer → Result Query ParseFault
+abbrev pub result_of : Answer → Result Query ParseFault
 result_of (value q) = Ok q
 result_of syntax = Err Syntax
 result_of (static c) = Err (Static c)

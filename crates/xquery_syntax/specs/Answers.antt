@@ -9,7 +9,7 @@ use Rattle.query_grammar.specs.declared.declared.RawQuery.{RawQuery}
 use Rattle.query_resolve.specs.Queries.{resolved}
 use Rattle.query_resolve.specs.Queries as meaning
 use Rattle.query_texts.specs.Texts.{query_nest}
-use Rattle.query_laws.specs.Shapes.{is_shaped_query}
+use Rattle.xquery_syntax.specs.QueryLaws.Shapes.{is_shaped_query}
 
 -- a query, or why there is none
 pub data Answer : Type 0 where

@@ -1,3 +1,4 @@
 pub mod Answers
 pub mod Spelled
-pub use Rattle.query_laws.specs as QueryLaws
+pub mod PrologLaws
+pub mod QueryLaws

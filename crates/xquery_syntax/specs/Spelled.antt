@@ -11,7 +11,7 @@ use Rattle.query_grammar.specs.declared.declared.RawQuery.{RawQuery}
 use Rattle.query_texts.specs.Texts.{SpellsText, query_nest}
 use Rattle.query_resolve.specs.Meaning.{Meant}
 use Rattle.query_resolve.specs.Queries.{rules_broken}
-use Rattle.query_laws.specs.Shapes.{is_shaped_query}
+use Rattle.xquery_syntax.specs.QueryLaws.Shapes.{is_shaped_query}
 
 -- the text spells the query as it is written
 pub record IsWritten (text : List ℕ) (raw : RawQuery) : Type 0 where

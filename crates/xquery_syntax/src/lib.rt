@@ -10,6 +10,8 @@
 
 mod laws;
 mod parsing;
+pub mod prolog_laws;
+pub mod query_laws;
 mod shapes;
 
 pub use laws::{answers_one, spells_one};

@@ -1,13 +1,13 @@
 ghost use Rattle.std.specs.Prelude.{◌≡◌, IfOk};
 ghost use Rattle.std.specs.List.{list_all};
-ghost use Rattle.query_laws.specs.Shapes.{is_shaped_value, is_shaped_in, is_shaped_query};
+ghost use Rattle.xquery_syntax.specs.QueryLaws.Shapes.{is_shaped_value, is_shaped_in, is_shaped_query};
 
-use expr_shapes::is_shaped;
+use expr_rules::expr_shapes::is_shaped;
 use expr_terms::Raw;
 use query_grammar::{Declared, RawQuery};
 use std::alloc::{AllocError, Global};
 
-#[tactic(auto, unfolding(query_laws::specs::Shapes::is_shaped_value))]
+#[tactic(auto, unfolding(crate::specs::QueryLaws::Shapes::is_shaped_value))]
 fn is_shaped_value(alloc: Global, value: &Option<Raw>) -> Result<bool, AllocError>
     ensures { IfOk result (λ shaped. shaped ≡ is_shaped_value value.now) }
 {
@@ -17,7 +17,7 @@ fn is_shaped_value(alloc: Global, value: &Option<Raw>) -> Result<bool, AllocErro
     }
 }
 
-#[tactic(auto, unfolding(query_laws::specs::Shapes::is_shaped_in))]
+#[tactic(auto, unfolding(crate::specs::QueryLaws::Shapes::is_shaped_in))]
 fn is_shaped_in(alloc: Global, declared: &Declared) -> Result<bool, AllocError>
     ensures { IfOk result (λ shaped. shaped ≡ is_shaped_in declared.now) }
 {

@@ -38,7 +38,7 @@ flushed_is_put : (t : List ℕ) → flushed t ≡ put_text t []
 flushed_is_put [] = refl
 flushed_is_put (c ∷ cs) = refl
 
--- what stands before a tree that is no text
+-- what comes before a tree that is no text
 pub put_text-doc : (t : List ℕ) (kids : _) (items : List Tree) → put_text t (Doc kids ∷ items) ≡ flushed t ++ Doc kids ∷ items
 put_text-doc [] kids items = refl
 put_text-doc (c ∷ cs) kids items = refl

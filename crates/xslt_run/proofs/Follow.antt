@@ -12,8 +12,8 @@ use Rattle.xt_tree.specs.TreeView.{put, forest_of, kids_of}
 use Rattle.sheet_meaning.specs.Meaning.{Calls, applied, constructed, entered, ruled, limited, is_within_limits, element_of, document_of, listed, transform_meaning}
 use Rattle.sheet_meaning.specs.Rules.{best_rule, templates_of}
 use Rattle.sheet_meaning.specs.Outcome.{Outcome, Ends, Fails, Deep as past_depth, and_then, joined}
-use Rattle.xslt_run.specs.declared.faults.EvalFault.{EvalFault}
-use Rattle.xslt_run.specs.declared.faults.EvalFault.TheVariants.{Error, Deep, Memory}
+use Rattle.eval_scopes.specs.declared.faults.EvalFault.{EvalFault}
+use Rattle.eval_scopes.specs.declared.faults.EvalFault.TheVariants.{Error, Deep, Memory}
 use Rattle.xslt_run.specs.Answers.{IsFaultOf, Grows, Makes}
 use Rattle.xslt_run.specs.Content.{Built, empty, all_of, with_tree, with_items, grown, instructed, literal_of}
 use Rattle.xslt_run.proofs.ContentLemmas.{with_items-append, all_of-empty}

@@ -3,8 +3,8 @@ use Rattle.std.specs.Prelude.{◌≡◌, ℕ, Result, Ok, Err}
 use Rattle.xt_tree.specs.declared.trees.Tree.{Tree}
 use Rattle.sheet_meaning.specs.Outcome.{Outcome, Ends, Fails, Deep as past_depth}
 use Rattle.sheet_meaning.specs.Meaning.{transform_meaning}
-use Rattle.xslt_run.specs.declared.faults.EvalFault.{EvalFault}
-use Rattle.xslt_run.specs.declared.faults.EvalFault.TheVariants.{Error, Deep, Memory}
+use Rattle.eval_scopes.specs.declared.faults.EvalFault.{EvalFault}
+use Rattle.eval_scopes.specs.declared.faults.EvalFault.TheVariants.{Error, Deep, Memory}
 use Rattle.xslt_run.specs.Content.{Built}
 
 -- the fault stands for the outcome, unless memory ran out

@@ -4,13 +4,13 @@ use Rattle.xt_names.specs.declared.names.Name.{Name}
 use Rattle.xt_tree.specs.declared.trees.Tree.{Tree}
 use Rattle.xt_tree.specs.declared.trees.Tree.TheVariants.{Doc, Elem, Text, Comment, Pi, Attr}
 use Rattle.xt_tree.specs.Forest.{Forest}
-use Rattle.sheet_meaning.specs.First.{is_in_xslt}
 use Rattle.xt_tree.specs.White.{is_white_text}
 use Rattle.sheet_meaning.specs.Meaning.{Calls, applied, constructed, listed, element_of}
 use Rattle.sheet_meaning.specs.Outcome.{Outcome, Ends, and_then}
 use Rattle.xslt_run.specs.declared.contents.Content.{Content}
 use Rattle.xslt_run.specs.declared.contents.Pending.{Pending}
 use Rattle.xslt_run.specs.declared.contents.Pending.TheVariants.{Nothing, Shared, Joined}
+use Rattle.xt_names.specs.Names.{is_in_xslt}
 
 -- the trees that are done, and the text after them to which more may come
 pub record Built : Type 0 where

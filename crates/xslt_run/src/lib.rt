@@ -8,9 +8,8 @@
 #![tactic(auto)]
 
 mod contents;
-mod faults;
 mod rules;
 mod runs;
 
-pub use faults::EvalFault;
+pub use eval_scopes::EvalFault;
 pub use runs::run_first_sheet;

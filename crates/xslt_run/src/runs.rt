@@ -10,11 +10,10 @@ ghost use Rattle.xslt_run.specs.Content.{built, grown, all_of, instructed, liter
 ghost use Rattle.xslt_run.specs.Table.{rule_for};
 
 use crate::contents::Content;
-use crate::faults::EvalFault;
 use crate::rules::{Rules, rules_of};
-use sheet_meaning::is_in_xslt;
+use eval_scopes::EvalFault;
 use std::alloc::Global;
-use xt_names::{Code, DynamicCode, List, Name};
+use xt_names::{Code, DynamicCode, List, Name, is_in_xslt};
 use xt_tree::{Attrs, Tree, is_white};
 
 /// What the stylesheet makes of the document (XSLT 2.0, 2.4), with at most `depth` rules open at once.

@@ -11,7 +11,7 @@ use Rattle.xt_atoms.specs.Casts.{is_zero}
 use Rattle.xt_atoms.specs.Lexical.{is_in_range}
 use Rattle.xt_atoms.proofs.IntegerLemmas.{range_true, range_of}
 
-abbrev to_ok : ℤ → Result ℤ Code
+abbrev pub to_ok : ℤ → Result ℤ Code
 to_ok z = Ok z
 
 -- an integer as it comes through a call
@@ -24,11 +24,11 @@ same z f = to_z-of_z w64 z f
 through : (f : ℤ → ℤ → Result ℤ Code) (a b : ℤ) → FitsSigned w64 a → FitsSigned w64 b → f (passed a) (passed b) ≡ f a b
 through f a b x y = ap (λ z. f z (passed b)) (same a x) ∙ ap (f a) (same b y)
 
-ranged_in : (z : ℤ) → is_in_range z ≡ true → ranged z ≡ Ok z
+pub ranged_in : (z : ℤ) → is_in_range z ≡ true → ranged z ≡ Ok z
 unfolding ranged
 ranged_in z e = rw e refl
 
-ranged_out : (z : ℤ) → is_in_range z ≡ false → ranged z ≡ Err (Dynamic FOAR0002)
+pub ranged_out : (z : ℤ) → is_in_range z ≡ false → ranged z ≡ Err (Dynamic FOAR0002)
 unfolding ranged
 ranged_out z e = rw e refl
 

@@ -1,4 +1,4 @@
--- Equal keys (XSLT 2.0, 14.3 and 16.3), and what may stand in one sort column (13.1).
+-- Equal keys (XSLT 2.0, 14.3 and 16.3), and what may be in one sort column (13.1).
 use Rattle.std.specs.Prelude.{Bool, false, Option, Some, None}
 use Rattle.std.specs.Bool.{beq}
 use Rattle.std.specs.Ordering.{int_eq}

@@ -1,1 +1,1 @@
-mod NestLemmas
+pub mod NestLemmas

@@ -1,7 +1,7 @@
 -- An expression nests one level more than its parts.
 use Rattle.std.proofs.Common.{◌≡◌, ℕ, ◌+◌, max, List, [], ◌∷◌, ◌++◌, map, refl, ap, ap₂, sym, ◌∙◌, arith}
 use Rattle.std.specs.Prelude.{Option, Some, None}
-use Rattle.xt_forms.specs.Nest.{greatest, if_any, nests, expr_nest, clause_nest, name_nest, part_nest, flwor_nest, nest_of, arm_nest_of, bind_nest_of, clause_nest_of, order_nest_of, name_nest_of, part_nest_of, attr_nest_of, flwor_nest_of}
+use Rattle.xt_forms.specs.Nest.{if_any, nests, expr_nest, clause_nest, name_nest, part_nest, flwor_nest, nest_of, arm_nest_of, bind_nest_of, clause_nest_of, order_nest_of, name_nest_of, part_nest_of, attr_nest_of, flwor_nest_of}
 use Rattle.xt_forms.specs.Parts.{of_all, arm_parts, bind_parts, clause_form_parts, clause_parts, order_parts, name_form_parts, name_parts, part_form_parts, part_parts, attr_parts, test_parts, flwor_parts, form_parts, parts_of}
 use Rattle.xt_syntax.specs.Layers.{ExprLayer, ClauseLayer, NameLayer, PartLayer, FlworLayer}
 use Rattle.xt_syntax.specs.declared.exprs.Expr.{Expr}
@@ -16,8 +16,9 @@ use Rattle.xt_syntax.specs.declared.exprs.Part.{Part}
 use Rattle.xt_syntax.specs.declared.exprs.Clause.TheViews.{out-Expr, out-Arm, out-Clause, out-Order, out-Flwor, out-Bind, out-NameSource, out-DirectAttr, out-Part}
 use Rattle.xt_syntax.specs.declared.exprs.Clause.TheFolds.{map-Expr, map-Clause, map-NameSource, map-Part, map-Flwor, fold_out-Expr, fold_out-Arm, fold_out-Clause, fold_out-Order, fold_out-Flwor, fold_out-Bind, fold_out-NameSource, fold_out-DirectAttr, fold_out-Part}
 use Rattle.xt_syntax.specs.declared.exprs.Clause.TheOpen.{Expr-F, Clause-F, NameSource-F, Part-F, Flwor-F, Int, Str, Var, Context, Root, Comma, Or, And, If, Flwor, Quant, General, Value, Is, Before, After, Range, Arith, Minus, Plus, Union, Intersect, Except, InstanceOf, Treat, Castable, Cast, Slash, Step, Filter, Call, ElemC, AttrC, DocC, TextC, CommentC, PiC, Direct, For, Let, Fixed, Computed, Chars, Enclosed, Child}
+use Rattle.xt_names.specs.Lists.{greatest}
 
-abbrev most : List Expr → ℕ
+abbrev pub most : List Expr → ℕ
 most es = greatest (map nest_of es)
 
 -- a form with the nesting of each part in its place

@@ -1,7 +1,8 @@
 // What follows from the definitions.
 ghost use Rattle.std.specs.Prelude.{◌≡◌, ◌+◌, true, map};
 ghost use Rattle.xt_syntax.specs.declared.exprs.Expr.{Expr};
-ghost use Rattle.xt_forms.specs.Nest.{nest_of, greatest};
+ghost use Rattle.xt_forms.specs.Nest.{nest_of};
+ghost use Rattle.xt_names.specs.Lists.{greatest};
 ghost use Rattle.xt_forms.specs.Parts.{parts_of};
 ghost use Rattle.xt_forms.specs.Plain.{is_plain_expr};
 ghost use Rattle.xt_forms.specs.Quiet.{is_quiet_expr};

@@ -1,6 +1,7 @@
 // How deep expressions and patterns nest.
 ghost use Rattle.std.specs.Prelude.{◌≡◌, min, map};
-ghost use Rattle.xt_forms.specs.Nest.{nest_of, greatest, arm_nest_of, bind_nest_of, clause_nest_of, order_nest_of, name_nest_of, attr_nest_of, part_nest_of, flwor_nest_of, if_any, step_nest_of, pattern_nest_of};
+ghost use Rattle.xt_forms.specs.Nest.{nest_of, arm_nest_of, bind_nest_of, clause_nest_of, order_nest_of, name_nest_of, attr_nest_of, part_nest_of, flwor_nest_of, if_any, step_nest_of, pattern_nest_of};
+ghost use Rattle.xt_names.specs.Lists.{greatest};
 
 use xt_syntax::{
     Arm, Bind, Clause, DirectAttr, Expr, Flwor, NameSource, Order, Part, Pattern, PatternStep,

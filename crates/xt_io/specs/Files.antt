@@ -13,11 +13,11 @@ pub record FilesState : Type 0 where
 abbrev pub last_count : ℕ
 last_count = 2 ^ 64 - 1
 
--- a count went up by n or more, or stands at its last value
+-- a count went up by n or more, or is at its last value
 abbrev pub RoseBy : ℕ → ℕ → ℕ → Type 0
 RoseBy n old new = min (old + n) last_count ≤ new
 
--- a count went up, or stands at its last value
+-- a count went up, or is at its last value
 abbrev pub Rose : ℕ → ℕ → Type 0
 Rose old new = RoseBy 1 old new
 

@@ -3,3 +3,4 @@ pub mod Sink
 pub mod MemFiles
 pub mod MemSink
 pub mod Disk
+pub mod Loads

@@ -1,7 +1,8 @@
 //! The syntax of instructions and stylesheets, above that of expressions and patterns in xt_syntax.
 //!
 //! Contracts see plain syntax: two values are equal where they are written alike. Within instructions each expression and
-//! each list stands in a `Shared`, so a copy goes down no level; the declarations of a stylesheet hold theirs themselves.
+//! each list is in a `Shared`, so a copy goes down no level; the declarations of a stylesheet hold
+//! theirs themselves.
 //!
 //! The types that hold expressions take the type of those, and of patterns, as parameters: proofs about them then look
 //! into no expression. They stand in the modules `instrs` and `values`; the names below give them the expressions and

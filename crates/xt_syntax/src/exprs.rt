@@ -101,7 +101,7 @@ pub struct Bind {
     pub source: Shared<Expr>,
 }
 
-/// A `for .. return`, with all that may stand in it (XQuery 1.0, 3.8).
+/// A `for .. return`, with all that may be in it (XQuery 1.0, 3.8).
 #[derive(Drop)]
 #[cycle(ast)]
 pub struct Flwor {

@@ -1,7 +1,8 @@
 //! The syntax of expressions, patterns and queries. Instructions and sheets stand in xt_sheets.
 //!
 //! Contracts see plain syntax: two values are equal where they are written alike. Within expressions each expression and
-//! each list stands in a `Shared`, so a copy goes down no level; a pattern and the declarations of a query hold theirs
+//! each list is in a `Shared`, so a copy goes down no level; a pattern and the declarations of a
+//! query hold theirs
 //! themselves.
 //!
 //! Example: `1, $x` is `Expr::Comma` of the list of `Expr::Int(1)` and `Expr::Var(x)`.

@@ -10,14 +10,14 @@ pub struct PatternStep {
     pub test: Test,
     /// The predicates, all of which are quiet: they fail on no node.
     pub quiet: List<Expr>,
-    /// Whether `//` stands before the step.
+    /// Whether `//` comes before the step.
     pub deep: bool,
 }
 
 /// One alternative of a pattern (XSLT 2.0, 5.5.2).
 #[derive(Drop)]
 pub struct Pattern {
-    /// Whether `/` or `//` stands at its front.
+    /// Whether `/` or `//` is at its front.
     pub rooted: bool,
     pub steps: List<PatternStep>,
 }

@@ -1,5 +1,5 @@
 use Rattle.std.proofs.Common.{[]}
-use Rattle.expr_terms.specs.declared.productions.Nonterminal.TheVariants.{Whole}
+use Rattle.expr_keys.specs.declared.productions.Nonterminal.TheVariants.{Whole}
 use Rattle.raw_tokens.proofs.Derive.{tokens_derive as law}
 use Rattle.raw_tokens.proofs.tokens_spell.Goals as goal
 

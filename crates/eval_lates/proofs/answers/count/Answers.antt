@@ -2,7 +2,7 @@ use Rattle.std.proofs.Common.{◌≡◌, ℤ, ap, sym, ◌∙◌, rules}
 use Rattle.std.specs.Prelude.{Ok, FitsSigned}
 use Rattle.std.specs.Int.{w64}
 use Rattle.std.proofs.lemmas.Int.{to_z-of_z}
-use Rattle.function_arguments.specs.Answers.{of_integer}
+use Rattle.xdm_items.specs.FunctionArguments.Answers.{of_integer}
 use Rattle.eval_scopes.specs.NodeWalks.Moves.{given}
 use Rattle.eval_lates.proofs.CountLemmas.{counted_some, counted_none}
 use Rattle.eval_lates.proofs.answers.count.Goals as goal

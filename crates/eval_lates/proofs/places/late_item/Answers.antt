@@ -5,7 +5,7 @@ use Rattle.std.specs.Option.{option_to_list}
 use Rattle.std.proofs.lemmas.Int.{to_z-of_z}
 use Rattle.eval_scopes.specs.NodeWalks.Moves.{given}
 use Rattle.eval_scopes.specs.LazySeq.Flow.{Flow, item_at}
-use Rattle.outcomes.specs.Outcome.{Ends}
+use Rattle.expr_meaning.specs.Outcomes.Outcome.{Ends}
 use Rattle.eval_lates.proofs.PlaceLemmas.{kept_there, kept_nowhere}
 use Rattle.eval_lates.proofs.places.late_item.Goals as goal
 

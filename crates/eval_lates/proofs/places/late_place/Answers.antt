@@ -7,7 +7,7 @@ use Rattle.std.proofs.lemmas.Int.{to_z-of_z}
 use Rattle.std.proofs.lemmas.Result.{IfOk-weaker}
 use Rattle.eval_scopes.specs.NodeWalks.Moves.{given}
 use Rattle.eval_scopes.specs.LazySeq.Flow.{item_at}
-use Rattle.outcomes.specs.Outcome.{Ends}
+use Rattle.expr_meaning.specs.Outcomes.Outcome.{Ends}
 use Rattle.eval_lates.proofs.PlaceLemmas.{kept_there}
 use Rattle.eval_lates.proofs.places.late_place.Goals as goal
 

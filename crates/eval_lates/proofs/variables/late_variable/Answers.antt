@@ -1,5 +1,5 @@
 use Rattle.std.proofs.Common.{◌≡◌, ◌∙◌, sym, ap}
-use Rattle.outcomes.specs.Outcome.{step_outcome}
+use Rattle.expr_meaning.specs.Outcomes.Outcome.{step_outcome}
 use Rattle.eval_scopes.specs.Scopes.{value_at}
 use Rattle.eval_lates.proofs.variables.late_variable.Goals as goal
 

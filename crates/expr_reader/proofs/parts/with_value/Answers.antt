@@ -1,6 +1,6 @@
 use Rattle.std.proofs.Common.{length, ◌==◌, ◌++◌, ◌∷◌, [], refl, sym, subst, ◌∙◌, ap, min, arith}
-use Rattle.expr_nest.specs.Held.{held}
-use Rattle.expr_nest.specs.Measures.{widest}
+use Rattle.expr_grammar.specs.ExprNest.Held.{held}
+use Rattle.expr_grammar.specs.ExprNest.Measures.{widest}
 use Rattle.expr_reader.specs.Counts.{SameCount}
 use Rattle.expr_reader.proofs.CapLemmas.{part_is_dropped, part_is_kept}
 use Rattle.expr_reader.proofs.parts.with_value.Goals as goal

@@ -1,6 +1,6 @@
 use Rattle.std.proofs.Common.{◌≡◌, ◌≤◌, length, take}
 use Rattle.expr_terms.specs.declared.choices.Second.{Second}
-use Rattle.expr_terms.specs.declared.productions.Language.{Language}
+use Rattle.expr_keys.specs.declared.productions.Language.{Language}
 use Rattle.expr_terms.specs.declared.raws.Raw.{Raw}
 use Rattle.expr_grammar.specs.Machine.{advance}
 use Rattle.expr_reader.specs.View.{frames_of, with_value}

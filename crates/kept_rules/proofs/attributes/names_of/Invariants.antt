@@ -1,5 +1,5 @@
 use Rattle.std.proofs.Common.{◌≡◌, ◌++◌, drop, map}
-use Rattle.clean_raws.specs.Keeps.{attr_names, kept_attr}
+use Rattle.raw_laws.specs.CleanRaws.Keeps.{attr_names, kept_attr}
 use Rattle.kept_rules.proofs.attributes.names_of.Given as goal
 
 abbrev pub invariant-loop-attr : goal.invariant-loop-attr

@@ -1,7 +1,7 @@
 use Rattle.std.proofs.Common.{◌≡◌, drop, map}
-use Rattle.clean_raws.specs.Keeps.{all, all_binds, all_attrs, keeps_rules, arm_keeps_rules}
-use Rattle.clean_raws.specs.Keeps.{clause_keeps_rules, kept_bind, order_keeps_rules, kept_attr}
-use Rattle.clean_raws.specs.Keeps.{part_keeps_rules}
+use Rattle.raw_laws.specs.CleanRaws.Keeps.{all, all_binds, all_attrs, keeps_rules, arm_keeps_rules}
+use Rattle.raw_laws.specs.CleanRaws.Keeps.{clause_keeps_rules, kept_bind, order_keeps_rules, kept_attr}
+use Rattle.raw_laws.specs.CleanRaws.Keeps.{part_keeps_rules}
 use Rattle.kept_rules.proofs.keeping.+keep.Given as goal
 
 abbrev pub invariant-all_keep-loop-e : goal.invariant-all_keep-loop-e

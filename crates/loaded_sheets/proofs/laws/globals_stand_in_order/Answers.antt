@@ -1,5 +1,5 @@
 use Rattle.std.proofs.Common.{length, refl}
-use Rattle.sheet_declarations.specs.Counts.{counted_of}
+use Rattle.sheet_rules.specs.SheetDeclarations.Counts.{counted_of}
 use Rattle.sheet_assembly.specs.Named.{each_by, global_if}
 use Rattle.global_order.proofs.OrderLemmas.{order-in_order}
 use Rattle.global_needs.specs.Needs.{needs}

@@ -1,7 +1,7 @@
 use Rattle.std.proofs.Common.{◌≡◌, drop, map}
 use Rattle.std.specs.List.{list_all}
 use Rattle.quiet_meaning.specs.Quietly.{quietly_of, holds_at}
-use Rattle.quiet_places.specs.Free.{focus}
+use Rattle.quiet_eval.specs.QuietPlaces.Free.{focus}
 use Rattle.match_patterns.proofs.steps.all_hold.Given as goal
 
 abbrev pub invariant-loop-test : goal.invariant-loop-test

@@ -1,6 +1,6 @@
 use Rattle.std.proofs.Common.{◌≡◌, true, sym, ◌∙◌, ap}
 use Rattle.std.specs.List.{list_all}
-use Rattle.quiet_places.specs.Free.{is_place_free_expr}
+use Rattle.quiet_eval.specs.QuietPlaces.Free.{is_place_free_expr}
 use Rattle.match_patterns.proofs.FreeLemmas.{free_member}
 use Rattle.match_patterns.proofs.steps.is_kept.Goals as goal
 

@@ -1,7 +1,7 @@
 use Rattle.std.proofs.Common.{arith}
-use Rattle.node_axes.proofs.LandLemmas.{no_one}
 use Rattle.node_axes.proofs.EndLemmas.{spot_path, own_next_at, own_end_at, top_owner_at, other_end_at}
 use Rattle.node_axes.proofs.axis_steps.next.Goals as goal
+use Rattle.xt_names.proofs.BoolLemmas.{never}
 
 pub next_of_node-requires-clause-exists : goal.next_of_node-requires-clause-exists
 next_of_node-requires-clause-exists c = spot_path c.args.start.now.tree c.args.path.now.items c.args.attribute.now c.requires.exists
@@ -28,7 +28,7 @@ returns-in-AncestorOrSelf-clause-yes c = λ _.
 
 pub returns-in_default : goal.returns-in_default
 returns-in_default c = record {
-  yes = λ e. no_one e;
+  yes = λ e. never e;
   no = λ _.
       other_end_at c.args.axis c.args.start.now.tree (c.args.start.now.path, c.args.start.now.attribute) c.args.path.now.items c.args.attribute.now c.in-Some.place c.in_default.not-Attribute
       c.in_default.not-AncestorOrSelf c.in-Some.is c.requires.on;

@@ -1,9 +1,10 @@
 use Rattle.std.proofs.Common.{sym, ap, ◌∙◌, arith}
 use Rattle.node_walks.specs.Courses.{moves_to_come}
 use Rattle.node_walks.specs.Moves.{settled, steps_before}
-use Rattle.node_walks.proofs.CourseLemmas.{Onto, onto_hit, onto_other, no_more}
+use Rattle.node_walks.proofs.CourseLemmas.{onto_hit, onto_other, no_more}
 use Rattle.node_walks.proofs.CourseLemmas.{settled_on, no_steps}
 use Rattle.node_walks.proofs.axis_walks.go_to_hit.Goals as goal
+use Rattle.node_axes.proofs.StepWalks.HitLemmas.{Onto}
 
 pub returns-then-is_hit-clause-hit : goal.returns-then-is_hit-clause-hit
 returns-then-is_hit-clause-hit g c = λ _.

@@ -1,5 +1,5 @@
 use Rattle.std.proofs.Common.{◌≡◌, ◌+◌, length}
-use Rattle.step_walks.specs.NodeAxes.Course.{to_come}
+use Rattle.node_axes.specs.Course.{to_come}
 use Rattle.node_walks.specs.Courses.{moves_to_come}
 use Rattle.node_walks.specs.Moves.{settled, steps_before}
 use Rattle.node_walks.proofs.axis_walks.go_to_hit.Given as goal

@@ -1,5 +1,5 @@
 use Rattle.std.proofs.Common.{◌≡◌, ◌+◌, ◌≤◌, ◌<◌, length, [], true, false, Ok, sym, ap, ◌∙◌, refl, arith}
-use Rattle.quiet_places.specs.QuietMeaning.Paths.{keeps}
+use Rattle.quiet_eval.specs.QuietMeaning.Paths.{keeps}
 use Rattle.node_walks.specs.Quiet.{IsFound, IsOn}
 use Rattle.node_walks.specs.Sift.{sifted_moves, quiet_moves}
 use Rattle.node_walks.proofs.SiftLemmas.{on_settle, on_from, on_then, found_from, nothing_left, kept_first}

@@ -1,5 +1,5 @@
 use Rattle.std.proofs.Common.{◌≡◌, ◌+◌, ◌≤◌, length}
-use Rattle.quiet_places.specs.QuietMeaning.Paths.{keeps}
+use Rattle.quiet_eval.specs.QuietMeaning.Paths.{keeps}
 use Rattle.node_walks.specs.Moves.{settled, steps_before}
 use Rattle.node_walks.specs.Quiet.{IsSieve}
 use Rattle.node_walks.specs.Sift.{sifted_moves}

@@ -1,6 +1,6 @@
 use Rattle.std.proofs.Common.{List, ap, ◌∙◌, true}
 use Rattle.xt_syntax.specs.declared.exprs.Expr.{Expr}
-use Rattle.quiet_places.specs.QuietMeaning.Paths.{keeps}
+use Rattle.quiet_eval.specs.QuietMeaning.Paths.{keeps}
 use Rattle.node_walks.specs.Sift.{quiet_moves}
 use Rattle.node_walks.proofs.SiftLemmas.{judged_keeps}
 use Rattle.node_walks.proofs.quiet_walks.turn.Goals as goal

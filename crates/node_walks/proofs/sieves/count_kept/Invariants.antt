@@ -1,7 +1,7 @@
 use Rattle.std.proofs.Common.{◌≡◌, ℕ, ◌+◌, ◌<◌, ◌^◌, drop}
 use Rattle.std.specs.Prelude.{slice_index}
-use Rattle.quiet_places.specs.QuietMeaning.Paths.{keeps}
-use Rattle.step_walks.specs.Sifted.{kept_in_turn}
+use Rattle.quiet_eval.specs.QuietMeaning.Paths.{keeps}
+use Rattle.node_axes.specs.StepWalks.Sifted.{kept_in_turn}
 use Rattle.node_walks.proofs.sieves.count_kept.Given as goal
 
 abbrev pub invariant-loop-test : goal.invariant-loop-test

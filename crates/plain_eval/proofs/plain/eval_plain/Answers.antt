@@ -1,6 +1,6 @@
 use Rattle.std.proofs.Common.{◌≡◌, ◌+◌, ap, ◌∙◌, length, subst}
 use Rattle.node_walks.specs.Moves.{given}
-use Rattle.outcomes.specs.Outcome.{Ends}
+use Rattle.expr_meaning.specs.Outcomes.Outcome.{Ends}
 use Rattle.expr_meaning.specs.Meaning.{outcome}
 use Rattle.eval_scopes.specs.Scopes.{focus_of}
 use Rattle.plain_eval.specs.Bound.{Bound}

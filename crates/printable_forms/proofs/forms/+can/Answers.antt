@@ -1,6 +1,6 @@
 use Rattle.std.proofs.Common.{List, map, ap, ◌∙◌}
 use Rattle.xt_syntax.specs.declared.exprs.Expr.{Expr}
-use Rattle.path_raws.specs.Forms.{all_can}
+use Rattle.expr_raws.specs.PathRaws.Forms.{all_can}
 use Rattle.expr_raws.specs.Raws.{form_of}
 use Rattle.printable_forms.proofs.NameLemmas.{then_can, else_can, calls, elements, attributes}
 use Rattle.printable_forms.proofs.NameLemmas.{instructions}

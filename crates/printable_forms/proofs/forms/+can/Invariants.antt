@@ -1,11 +1,11 @@
 use Rattle.std.proofs.Common.{◌≡◌, ◌&&◌, not, drop, map}
-use Rattle.path_raws.specs.Forms.{all_can}
-use Rattle.control_raws.specs.Operators.{arms_can}
-use Rattle.control_raws.specs.Bindings.{binds_can, clauses_can, orders_can}
-use Rattle.element_raws.specs.Direct.{attrs_can, parts_can, starts_characters}
+use Rattle.expr_raws.specs.PathRaws.Forms.{all_can}
+use Rattle.expr_raws.specs.ControlRaws.Operators.{arms_can}
+use Rattle.expr_raws.specs.ControlRaws.Bindings.{binds_can, clauses_can, orders_can}
+use Rattle.expr_raws.specs.ElementRaws.Direct.{attrs_can, parts_can, starts_characters}
 use Rattle.expr_raws.specs.Raws.{form_of}
-use Rattle.expr_places.specs.Forms.{arm_form, bind_form, clause_form, order_form, attr_form}
-use Rattle.expr_places.specs.Forms.{part_form}
+use Rattle.expr_drafts.specs.ExprPlaces.Forms.{arm_form, bind_form, clause_form, order_form, attr_form}
+use Rattle.expr_drafts.specs.ExprPlaces.Forms.{part_form}
 use Rattle.printable_forms.proofs.forms.+can.Given as goal
 
 abbrev pub invariant-can_each-loop-e : goal.invariant-can_each-loop-e

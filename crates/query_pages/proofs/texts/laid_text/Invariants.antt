@@ -1,5 +1,5 @@
 use Rattle.std.proofs.Common.{◌≡◌, ◌<◌, length, take, ◌++◌}
-use Rattle.token_texts.specs.Texts.{text_of, text_in}
+use Rattle.query_pages.specs.TokenTexts.Texts.{text_of, text_in}
 use Rattle.query_pages.specs.Laid.{laid}
 use Rattle.query_pages.specs.Placed.{tokens_of}
 use Rattle.query_pages.proofs.texts.laid_text.Given as goal

@@ -1,10 +1,10 @@
 use Rattle.std.proofs.Common.{sym, ap, ◌∙◌, ◌&&◌}
 use Rattle.std.specs.Str.{chars}
-use Rattle.xpath_lex.specs.Classes.{starts_name}
 use Rattle.query_pieces.specs.Fronts.{begins}
 use Rattle.query_pieces.proofs.AskLemmas.{same_outside, same_over, same_fault, same_found}
 use Rattle.query_pieces.proofs.AskLemmas.{sees_at, same_as}
 use Rattle.query_pieces.proofs.pieces.asks.Goals as goal
+use Rattle.xt_names.specs.Characters.{starts_name}
 
 pub returns-then-is_ascii_text : goal.returns-then-is_ascii_text
 returns-then-is_ascii_text c = λ e p s.

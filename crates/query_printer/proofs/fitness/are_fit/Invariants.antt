@@ -1,5 +1,5 @@
 use Rattle.std.proofs.Common.{◌≡◌, length}
-use Rattle.written_tokens.specs.Fit.{are_fit}
+use Rattle.token_laws.specs.WrittenTokens.Fit.{are_fit}
 use Rattle.query_printer.proofs.fitness.are_fit.Given as goal
 
 abbrev pub invariant-loop-token : goal.invariant-loop-token

@@ -1,6 +1,6 @@
 use Rattle.std.proofs.Common.{List, subst}
 use Rattle.std.proofs.lemmas.Result.{IfOk-weaker}
-use Rattle.expr_terms.specs.declared.tokens.Token.{Token}
+use Rattle.expr_keys.specs.declared.tokens.Token.{Token}
 use Rattle.query_pages.specs.Laid.{IsTextOf}
 use Rattle.query_printer.proofs.Spells.{printable_can, text_spells}
 use Rattle.query_printer.proofs.printing.print.Goals as goal

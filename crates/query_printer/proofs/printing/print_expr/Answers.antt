@@ -1,7 +1,7 @@
 use Rattle.std.proofs.Common.{List, ap, subst, ◌∙◌}
 use Rattle.std.proofs.lemmas.Result.{IfOk-weaker}
 use Rattle.xt_syntax.specs.declared.prefixes.Prefixes.{Prefixes}
-use Rattle.expr_terms.specs.declared.tokens.Token.{Token}
+use Rattle.expr_keys.specs.declared.tokens.Token.{Token}
 use Rattle.expr_raws.specs.Raws.{tokens_of}
 use Rattle.query_pages.specs.Laid.{IsTextOf}
 use Rattle.query_printer.proofs.printing.print_expr.Goals as goal

@@ -1,6 +1,6 @@
 use Rattle.std.proofs.Common.{◌≡◌, ◌≤◌, length, take}
 use Rattle.expr_reader.specs.View.{frames_of}
-use Rattle.query_places.specs.Places.{wants_operand}
+use Rattle.query_grammar.specs.QueryPlaces.Places.{wants_operand}
 use Rattle.query_reader.proofs.places.wanted_in.Given as goal
 
 abbrev pub invariant-loop-i : goal.invariant-loop-i

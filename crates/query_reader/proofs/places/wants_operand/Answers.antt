@@ -1,6 +1,6 @@
 use Rattle.std.proofs.Common.{◌≡◌, ◌∙◌, ap}
 use Rattle.expr_reader.specs.View.{frames_of}
-use Rattle.query_places.specs.Places.{wants_operand}
+use Rattle.query_grammar.specs.QueryPlaces.Places.{wants_operand}
 use Rattle.query_reader.proofs.WantLemmas.{tracked_want}
 use Rattle.query_reader.proofs.places.wants_operand.Goals as goal
 

@@ -1,7 +1,7 @@
 use Rattle.std.proofs.Common.{List, ◌++◌, subst}
 use Rattle.expr_names.specs.Answers.{Answers}
 use Rattle.expr_resolve.specs.Folds.{broken_of, expr_meant}
-use Rattle.prolog_rules.specs.Declarations.{query_broken}
+use Rattle.closed_queries.specs.PrologRules.Declarations.{query_broken}
 use Rattle.query_grammar.specs.declared.declared.Declared.{Declared}
 use Rattle.query_options.specs.Options.{no_options}
 use Rattle.query_resolve.specs.Late.{late_meant, all_broken}

@@ -2,8 +2,8 @@ use Rattle.std.proofs.Common.{◌≡◌, List, [], ◌++◌, ap, sym, subst, ◌
 use Rattle.xt_names.specs.declared.codes.Code.{Code}
 use Rattle.expr_names.specs.Answers.{Answers}
 use Rattle.expr_resolve.specs.Folds.{expr_meant}
-use Rattle.prolog_rules.specs.declared.setters.Setter.{Setter}
-use Rattle.query_prologs.specs.Setters.{setters_of, first_part_broken}
+use Rattle.closed_queries.specs.declared.prolog_rules.setters.Setter.{Setter}
+use Rattle.query_resolve.specs.QueryPrologs.Setters.{setters_of, first_part_broken}
 use Rattle.query_resolve.specs.Late.{late_meant}
 use Rattle.query_resolve.specs.Queries.{setting_behind, setting_of, rest_broken, query_by}
 use Rattle.query_resolve.specs.Queries.{query_meant}

@@ -1,5 +1,5 @@
 use Rattle.std.proofs.Common.{subst}
-use Rattle.query_steps.specs.declared.stages.Stage.TheVariants.{Body}
+use Rattle.query_reader.specs.declared.query_steps.stages.ReaderState.TheVariants.{Body}
 use Rattle.query_texts.specs.Standings.{progress}
 use Rattle.query_texts.specs.Bodies.{Led, IsShorter, SeesOn}
 use Rattle.query_texts.proofs.bodies.body_rest.Goals as goal

@@ -1,7 +1,7 @@
 use Rattle.std.proofs.Common.{length, List, ℕ, Bool}
 use Rattle.query_grammar.specs.declared.declared.Declared.{Declared}
 use Rattle.query_pieces.specs.Aheads.{Sees}
-use Rattle.query_steps.specs.declared.stages.Stage.TheVariants.{Body}
+use Rattle.query_reader.specs.declared.query_steps.stages.ReaderState.TheVariants.{Body}
 use Rattle.query_texts.specs.declared.orders.Order.{Order}
 use Rattle.query_texts.specs.Standings.{Standing, progress}
 use Rattle.query_texts.proofs.bodies.body_rest.Given as goal

@@ -2,7 +2,7 @@ use Rattle.std.proofs.Common.{subst}
 use Rattle.query_pieces.specs.Answers.{Answers}
 use Rattle.query_pieces.proofs.ShortLemmas.{reads_shorter}
 use Rattle.query_texts.specs.Standings.{progress}
-use Rattle.query_steps.specs.declared.stages.Stage.TheVariants.{Body}
+use Rattle.query_reader.specs.declared.query_steps.stages.ReaderState.TheVariants.{Body}
 use Rattle.query_texts.proofs.StandingLemmas.{stuck}
 use Rattle.query_texts.proofs.BodyLemmas.{body_refused, body_goes}
 use Rattle.query_texts.proofs.bodies.body_token.Goals as goal

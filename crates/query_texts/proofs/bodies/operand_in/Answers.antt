@@ -1,5 +1,5 @@
 use Rattle.std.proofs.Common.{sym, subst}
-use Rattle.query_steps.proofs.StepLemmas.{at_want, tracks_now}
+use Rattle.query_reader.proofs.QuerySteps.StepLemmas.{at_want, tracks_now}
 use Rattle.query_pieces.specs.Readings.{Reads}
 use Rattle.query_texts.proofs.bodies.operand_in.Goals as goal
 

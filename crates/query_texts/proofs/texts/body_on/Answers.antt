@@ -1,7 +1,7 @@
 use Rattle.std.proofs.Common.{subst}
 use Rattle.query_texts.specs.Bodies.{Rests}
 use Rattle.query_texts.specs.Standings.{progress}
-use Rattle.query_steps.specs.declared.stages.Stage.TheVariants.{Body}
+use Rattle.query_reader.specs.declared.query_steps.stages.ReaderState.TheVariants.{Body}
 use Rattle.query_texts.proofs.StandingLemmas.{ending}
 use Rattle.query_texts.proofs.texts.body_on.Goals as goal
 

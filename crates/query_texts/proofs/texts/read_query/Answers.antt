@@ -1,6 +1,6 @@
 use Rattle.std.proofs.Common.{sym, false, subst}
 use Rattle.std.specs.Str.{chars}
-use Rattle.query_steps.specs.declared.stages.Stage.TheVariants as stage
+use Rattle.query_reader.specs.declared.query_steps.stages.ReaderState.TheVariants as stage
 use Rattle.query_texts.specs.declared.orders.Order.TheVariants.{First}
 use Rattle.query_texts.specs.Standings.{Standing, Follows, IsShorter, SeesOn, progress}
 use Rattle.query_texts.proofs.StandingLemmas.{begins}

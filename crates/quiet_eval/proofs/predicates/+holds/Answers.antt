@@ -2,13 +2,14 @@ use Rattle.std.proofs.Common.{◌≡◌, ℕ, ◌+◌, ◌<◌, ◌≤◌, map, 
 use Rattle.std.specs.Option.{option_copied}
 use Rattle.quiet_meaning.specs.Quietly.{quietly_of, holds_at}
 use Rattle.quiet_meaning.specs.Paths.{nodes_of_form}
-use Rattle.step_walks.specs.Nodes.{nodes_of_each}
+use Rattle.node_axes.specs.StepWalks.Nodes.{nodes_of_each}
 use Rattle.quiet_meaning.proofs.HoldLemmas.{slashed_is, stepped_is}
-use Rattle.quiet_eval.specs.Subjects.{focus, path_part, negated_part}
+use Rattle.quiet_eval.specs.Subjects.{path_part, negated_part}
 use Rattle.quiet_eval.proofs.SubjectLemmas.{negated_holds, path_is_path}
 use Rattle.quiet_eval.proofs.NestLemmas.{in_greatest, path_nest, negated_nest, or_nest, and_nest}
 use Rattle.quiet_eval.proofs.CycleLemmas.{each_allowed, or_allowed, and_allowed, or_holds, and_holds, each_step, each_end, kept_begins, kept_step, kept_end, turn_step, turn_end, step_reached, slash_reached, no_path, if_ok}
 use Rattle.quiet_eval.proofs.predicates.+holds.Goals as goal
+use Rattle.quiet_eval.specs.QuietPlaces.Free.{focus}
 
 pub decided-holds-requires : goal.decided-holds-requires
 decided-holds-requires t c =

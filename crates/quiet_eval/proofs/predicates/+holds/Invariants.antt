@@ -1,10 +1,12 @@
 use Rattle.std.proofs.Common.{◌≡◌, ◌+◌, ◌*◌, ◌++◌, map, drop, length, max}
-use Rattle.xt_forms.specs.Nest.{nest_of, greatest}
-use Rattle.step_walks.specs.Nodes.{kept_from, kept_by, kept_by_all, nodes_of_each}
+use Rattle.xt_forms.specs.Nest.{nest_of}
+use Rattle.node_axes.specs.StepWalks.Nodes.{kept_from, kept_by, kept_by_all, nodes_of_each}
 use Rattle.quiet_meaning.specs.Quietly.{quietly_of, holds_at}
 use Rattle.quiet_meaning.specs.Paths.{nodes_of_form}
-use Rattle.quiet_eval.specs.Subjects.{decided, focus}
+use Rattle.quiet_eval.specs.Subjects.{decided}
 use Rattle.quiet_eval.proofs.predicates.+holds.Given as goal
+use Rattle.xt_names.specs.Lists.{greatest}
+use Rattle.quiet_eval.specs.QuietPlaces.Free.{focus}
 
 abbrev pub decreases-reached : goal.decreases-reached
 decreases-reached l = 8 * nest_of l.path.now

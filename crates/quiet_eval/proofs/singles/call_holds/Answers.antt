@@ -1,9 +1,9 @@
 use Rattle.std.proofs.Common.{◌∙◌, ap₂, refl, Bool}
 use Rattle.std.specs.Prelude.{if◌then◌else◌, not}
 use Rattle.xt_forms.specs.Quiet.{quiet_call}
-use Rattle.quiet_eval.specs.Subjects.{focus}
 use Rattle.quiet_eval.proofs.CaseLemmas.{call_of_none, call_of_one, call_of_more, some_nodes}
 use Rattle.quiet_eval.proofs.singles.call_holds.Goals as goal
+use Rattle.quiet_eval.specs.QuietPlaces.Free.{focus}
 
 pub returns-in-empty : goal.returns-in-empty
 returns-in-empty c =

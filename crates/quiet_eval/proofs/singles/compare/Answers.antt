@@ -1,8 +1,8 @@
 use Rattle.std.proofs.Common.{◌≡◌, subst, true, ◌∙◌}
 use Rattle.quiet_meaning.specs.Quietly.{Quietly, quietly_of, is_pattern_form}
-use Rattle.quiet_eval.specs.Subjects.{focus}
 use Rattle.quiet_eval.proofs.CaseLemmas.{last_compares, integer_right, literal_right}
 use Rattle.quiet_eval.proofs.singles.compare.Goals as goal
+use Rattle.quiet_eval.specs.QuietPlaces.Free.{focus}
 
 pub with_integer-requires-clause-form : goal.with_integer-requires-clause-form
 with_integer-requires-clause-form c = subst (λ (q : Quietly). is_pattern_form q ≡ true) (integer_right c.args.op c.args.a.now c.args.b.now c.in-Int.k c.in-Int.is) c.requires.form

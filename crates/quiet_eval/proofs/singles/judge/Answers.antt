@@ -1,7 +1,7 @@
 use Rattle.std.proofs.Common.{◌∙◌}
-use Rattle.quiet_eval.specs.Subjects.{focus}
 use Rattle.quiet_eval.proofs.CaseLemmas.{integer_keeps, some_nodes, alone_nodes}
 use Rattle.quiet_eval.proofs.singles.judge.Goals as goal
+use Rattle.quiet_eval.specs.QuietPlaces.Free.{focus}
 
 pub returns-in-Int : goal.returns-in-Int
 returns-in-Int c = c.integer_compares.ensures ∙ integer_keeps c.args.e.now c.in-Int.k (focus c.args.node.now c.args.position c.args.size) c.in-Int.is

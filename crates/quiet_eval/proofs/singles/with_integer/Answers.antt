@@ -1,9 +1,10 @@
 use Rattle.std.proofs.Common.{ap, sym, ◌∙◌, length}
 use Rattle.quiet_meaning.proofs.HoldLemmas.{number_compares}
 use Rattle.quiet_meaning.specs.Quietly.{quietly_of}
-use Rattle.quiet_eval.specs.Subjects.{focus, subject_number}
+use Rattle.quiet_eval.specs.Subjects.{subject_number}
 use Rattle.quiet_eval.proofs.JudgeLemmas.{number_is, integer_nodes}
 use Rattle.quiet_eval.proofs.singles.with_integer.Goals as goal
+use Rattle.quiet_eval.specs.QuietPlaces.Free.{focus}
 
 pub returns-in-Some : goal.returns-in-Some
 returns-in-Some c =

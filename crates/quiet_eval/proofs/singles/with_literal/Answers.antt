@@ -1,11 +1,11 @@
 use Rattle.std.proofs.Common.{◌≡◌, subst, true, ap}
 use Rattle.quiet_meaning.specs.Quietly.{Quietly, quietly_of, is_pattern_form, compared_with_literal}
 use Rattle.xt_forms.specs.Quiet.{quiet_call}
-use Rattle.quiet_eval.specs.Subjects.{focus}
 use Rattle.quiet_eval.proofs.JudgeLemmas.{name_compares}
 use Rattle.quiet_eval.proofs.CaseLemmas.{call_is, literal_nodes}
 use Rattle.std.proofs.Common.{◌∙◌}
 use Rattle.quiet_eval.proofs.singles.with_literal.Goals as goal
+use Rattle.quiet_eval.specs.QuietPlaces.Free.{focus}
 
 pub returns-in-Call : goal.returns-in-Call
 returns-in-Call c =

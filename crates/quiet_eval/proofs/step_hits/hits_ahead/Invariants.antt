@@ -1,5 +1,5 @@
 use Rattle.std.proofs.Common.{◌≡◌, ◌++◌, length}
-use Rattle.step_walks.specs.Hits.{hits_ahead}
+use Rattle.node_axes.specs.StepWalks.Hits.{hits_ahead}
 use Rattle.quiet_eval.proofs.step_hits.hits_ahead.Given as goal
 
 abbrev pub invariant-loop-nodes : goal.invariant-loop-nodes

@@ -1,5 +1,5 @@
 use Rattle.std.proofs.Common.{ap, sym, ◌∙◌}
-use Rattle.outcomes.specs.Outcome.{Ends}
+use Rattle.expr_meaning.specs.Outcomes.Outcome.{Ends}
 use Rattle.quiet_steps.proofs.walks.late_walk_list.Goals as goal
 
 pub returns : goal.returns

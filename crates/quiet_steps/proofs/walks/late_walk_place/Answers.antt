@@ -4,7 +4,7 @@ use Rattle.std.specs.Int.{w64}
 use Rattle.std.proofs.lemmas.Int.{to_z-of_z}
 use Rattle.node_walks.specs.Moves.{given}
 use Rattle.expr_meaning.specs.Paths.{kept}
-use Rattle.outcomes.specs.Outcome.{Ends, and_then}
+use Rattle.expr_meaning.specs.Outcomes.Outcome.{Ends, and_then}
 use Rattle.eval_lates.specs.EvalScopes.Scopes.{env_of}
 use Rattle.eval_lates.specs.Late.{literal}
 use Rattle.quiet_steps.proofs.walks.late_walk_place.Goals as goal

@@ -1,6 +1,6 @@
 use Rattle.std.proofs.Common.{rules, refl, if◌then◌else◌, arith, ◌≡◌, ◌-◌, suc}
 use Rattle.expr_names.proofs.Follow.{fault_first}
-use Rattle.sheet_nodes.specs.Parts.{is_variable}
+use Rattle.sheet_table.specs.SheetNodes.Parts.{is_variable}
 use Rattle.sheet_bodies.specs.Bodies.{body_faults, body_value, node_faults, node_value}
 use Rattle.sheet_bodies.proofs.Rooms.{turn_closed, turn_faults, turn_none, turn_value, left_less, end_faults, end_value}
 use Rattle.sheet_bodies.proofs.bodies.+bodies.Goals as goal

@@ -1,5 +1,5 @@
 use Rattle.std.proofs.Common.{◌≡◌, drop}
-use Rattle.graph_orders.specs.Behind.{all_below}
+use Rattle.global_order.specs.GraphOrders.Behind.{all_below}
 use Rattle.sheet_closure.proofs.numbers.are_modes.Given as goal
 
 abbrev pub invariant-loop-number : goal.invariant-loop-number

@@ -1,6 +1,7 @@
 use Rattle.std.proofs.Common.{◌≡◌, drop, map, min, max}
-use Rattle.xt_forms.specs.Nest.{greatest, nest_of, arm_nest_of, bind_nest_of, clause_nest_of, order_nest_of, attr_nest_of, part_nest_of}
+use Rattle.xt_forms.specs.Nest.{nest_of, arm_nest_of, bind_nest_of, clause_nest_of, order_nest_of, attr_nest_of, part_nest_of}
 use Rattle.xt_forms.proofs.nesting.+nest.Given as goal
+use Rattle.xt_names.specs.Lists.{greatest}
 
 abbrev pub invariant-nest_list-loop-e : goal.invariant-nest_list-loop-e
 invariant-nest_list-loop-e l =

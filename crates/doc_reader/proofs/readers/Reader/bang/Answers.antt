@@ -1,9 +1,9 @@
 use Rattle.std.proofs.Common.{sym, ap, ◌∙◌}
 use Rattle.doc_grammar.specs.Machine.{bang}
-use Rattle.doc_reader.specs.Reading.{reads}
+use Rattle.xml_source.specs.Reading.{reads}
 use Rattle.doc_reader.specs.Frames.{open_in}
-use Rattle.doc_reader.proofs.ReadLemmas.{takes_next, ran_from}
-use Rattle.doc_reader.proofs.ElementLemmas.{if_ok}
+use Rattle.doc_reader.proofs.ReadLemmas.{ran_from}
+use Rattle.doc_reader.proofs.ElementLemmas.{if_ok, takes_next}
 use Rattle.doc_reader.proofs.MarkupReads.{to_bang, to_comment}
 use Rattle.doc_reader.proofs.readers.Reader.bang.Goals as goal
 

@@ -1,7 +1,7 @@
-use Rattle.doc_reader.proofs.ReadLemmas.{takes_next}
 use Rattle.doc_reader.proofs.ContentLemmas.{inside}
 use Rattle.doc_reader.proofs.TextReads.{one_bracket, two_brackets, section_end}
 use Rattle.doc_reader.proofs.readers.Reader.brackets.Goals as goal
+use Rattle.doc_reader.proofs.ElementLemmas.{takes_next}
 
 pub returns-then-not-eat-clause-ran : goal.returns-then-not-eat-clause-ran
 returns-then-not-eat-clause-ran c =

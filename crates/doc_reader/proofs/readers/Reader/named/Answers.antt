@@ -1,6 +1,7 @@
 use Rattle.std.proofs.Common.{ap, map}
 use Rattle.doc_reader.specs.Frames.{open_in}
-use Rattle.doc_reader.specs.View.{name_of, attribute_of}
+use Rattle.xml_source.specs.View.{name_of}
+use Rattle.doc_reader.specs.View.{attribute_of}
 use Rattle.doc_reader.proofs.ReadLemmas.{ran_from}
 use Rattle.doc_reader.proofs.ElementLemmas.{named_on, named_stopped, if_ok}
 use Rattle.doc_reader.proofs.readers.Reader.named.Goals as goal

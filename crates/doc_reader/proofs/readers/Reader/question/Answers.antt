@@ -1,7 +1,7 @@
 use Rattle.std.proofs.Common.{sym, ◌∙◌}
 use Rattle.std.specs.Str.{chars}
-use Rattle.doc_reader.proofs.ReadLemmas.{takes_next, ran_from}
-use Rattle.doc_reader.proofs.ElementLemmas.{if_ok}
+use Rattle.doc_reader.proofs.ReadLemmas.{ran_from}
+use Rattle.doc_reader.proofs.ElementLemmas.{if_ok, takes_next}
 use Rattle.doc_reader.proofs.MarkupReads.{no_target, no_target_name, to_target, target_ends}
 use Rattle.doc_reader.proofs.GroundReads.{declaration_goes}
 use Rattle.doc_reader.proofs.readers.Reader.question.Goals as goal

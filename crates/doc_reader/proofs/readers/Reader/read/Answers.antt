@@ -1,5 +1,5 @@
 use Rattle.std.proofs.Common.{refl}
-use Rattle.doc_reader.specs.Reading.{reads}
+use Rattle.xml_source.specs.Reading.{reads}
 use Rattle.doc_reader.specs.Frames.{here}
 use Rattle.doc_reader.proofs.ReadLemmas.{read_to_end}
 use Rattle.doc_reader.proofs.readers.Reader.read.Goals as goal

@@ -3,7 +3,7 @@ use Rattle.std.proofs.lemmas.Result.{err_from_is_err_and}
 use Rattle.eval_scopes.specs.Scopes.{env_of}
 use Rattle.eval_steps.proofs.Follow.{fault_first}
 use Rattle.expr_meaning.specs.Flow.{flow_of}
-use Rattle.sort_meaning.specs.Sorted.{placed_from}
+use Rattle.expr_meaning.specs.SortMeaning.Sorted.{placed_from}
 use Rattle.eval_steps.specs.Parts.{clause_outcome}
 use Rattle.flow_eval.specs.Rows.{tuple_of, row_outcome}
 use Rattle.eval_steps.proofs.Forms.{for_means, let_means, first_and_rest}

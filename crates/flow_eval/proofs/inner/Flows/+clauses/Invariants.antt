@@ -1,6 +1,6 @@
 use Rattle.std.proofs.Common.{◌≡◌, ◌+◌, ◌*◌, length, map}
-use Rattle.outcomes.specs.Outcome.{for_each}
-use Rattle.sort_meaning.specs.Sorted.{placed_from}
+use Rattle.expr_meaning.specs.Outcomes.Outcome.{for_each}
+use Rattle.expr_meaning.specs.SortMeaning.Sorted.{placed_from}
 use Rattle.expr_meaning.specs.Flow.{flow_of, for_item, for_place}
 use Rattle.eval_scopes.specs.Scopes.{env_of}
 use Rattle.eval_steps.specs.Parts.{bind_outcome, clause_outcome}

@@ -4,14 +4,14 @@ use Rattle.expr_meaning.specs.Meaning.{outcome}
 use Rattle.eval_scopes.specs.Scopes.{env_of}
 use Rattle.eval_steps.proofs.Follow.{gathers_first, gathers_step, gathers_exit, gathers_end}
 use Rattle.eval_steps.proofs.Follow.{fault_first}
-use Rattle.sort_meaning.specs.Sorted.{placed_from}
+use Rattle.expr_meaning.specs.SortMeaning.Sorted.{placed_from}
 use Rattle.eval_steps.proofs.Forms.{no_items, first_and_rest}
 use Rattle.eval_steps.proofs.Places.{places_by_count, count_is}
-use Rattle.flow_streams.specs.Streams.{stream_of, binder_of}
-use Rattle.flow_streams.proofs.Clauses.{for_binds, let_binds}
-use Rattle.flow_streams.proofs.Turns.{item_streams, item_fails, place_streams, place_fails}
-use Rattle.flow_streams.proofs.Turns.{for_fails}
-use Rattle.flow_streams.proofs.Turns.{for_turns as stream_turns_of}
+use Rattle.flow_eval.specs.FlowStreams.Streams.{stream_of, binder_of}
+use Rattle.flow_eval.proofs.FlowStreams.Clauses.{for_binds, let_binds}
+use Rattle.flow_eval.proofs.FlowStreams.Turns.{item_streams, item_fails, place_streams, place_fails}
+use Rattle.flow_eval.proofs.FlowStreams.Turns.{for_fails}
+use Rattle.flow_eval.proofs.FlowStreams.Turns.{for_turns as stream_turns_of}
 use Rattle.xt_syntax.specs.declared.exprs.Clause.TheViews.{out-Flwor}
 use Rattle.eval_steps.proofs.Places.{placed_item, placed_length}
 use Rattle.flow_eval.proofs.Lets.{let_behind}

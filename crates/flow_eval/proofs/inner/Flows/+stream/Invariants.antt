@@ -1,11 +1,11 @@
 use Rattle.std.proofs.Common.{◌≡◌, ◌+◌, ◌*◌, [], length, map}
-use Rattle.outcomes.specs.Outcome.{for_each}
-use Rattle.sort_meaning.specs.Sorted.{placed_from}
+use Rattle.expr_meaning.specs.Outcomes.Outcome.{for_each}
+use Rattle.expr_meaning.specs.SortMeaning.Sorted.{placed_from}
 use Rattle.expr_meaning.specs.Meaning.{outcome}
 use Rattle.eval_scopes.specs.Scopes.{env_of}
 use Rattle.eval_steps.specs.Parts.{bind_outcome}
 use Rattle.eval_steps.proofs.Follow.{Gathers}
-use Rattle.flow_streams.specs.Streams.{stream_of, stream_item, stream_place, binder_of}
+use Rattle.flow_eval.specs.FlowStreams.Streams.{stream_of, stream_item, stream_place, binder_of}
 use Rattle.xt_syntax.specs.declared.exprs.Clause.TheViews.{out-Flwor}
 use Rattle.flow_eval.proofs.inner.Flows.+stream.Given as goal
 

@@ -1,5 +1,5 @@
 use Rattle.std.proofs.Common.{ℕ, map}
-use Rattle.outcomes.specs.Outcome.{for_each}
+use Rattle.expr_meaning.specs.Outcomes.Outcome.{for_each}
 use Rattle.expr_meaning.specs.Env.{bind_all}
 use Rattle.expr_meaning.specs.Meaning.{outcome}
 use Rattle.eval_scopes.specs.Scopes.{env_of}

@@ -1,7 +1,7 @@
 use Rattle.std.proofs.Common.{◌≡◌, List, [], filter, slice_get, IfOk, ap, ap₂, ◌∙◌, subst}
 use Rattle.xt_atoms.specs.Keys.{key_same}
 use Rattle.xdm_items.specs.declared.items.Item.{Item}
-use Rattle.atom_keys.specs.Tables.{places_of}
+use Rattle.order_group.specs.AtomKeys.Tables.{places_of}
 use Rattle.key_index.specs.Keys.{put_pairs, put_places}
 use Rattle.key_index.proofs.Tables.{found_places}
 use Rattle.key_index.specs.declared.indexes.KeyPair.{KeyPair}

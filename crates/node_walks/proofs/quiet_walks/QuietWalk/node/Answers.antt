@@ -2,7 +2,7 @@ use Rattle.std.proofs.Common.{◌≡◌, Bool, true, Option, IfOk, sym, ap, ◌�
 use Rattle.std.specs.Option.{option_map}
 use Rattle.xdm_items.specs.declared.items.Item.{Item}
 use Rattle.xdm_items.specs.declared.items.Item.TheVariants.{Node}
-use Rattle.quiet_places.specs.QuietMeaning.Paths.{keeps}
+use Rattle.quiet_eval.specs.QuietMeaning.Paths.{keeps}
 use Rattle.node_walks.specs.Moves.{standing}
 use Rattle.node_walks.specs.Quiet.{Sifting}
 use Rattle.node_walks.specs.Sift.{quiet_moves}

@@ -1,5 +1,5 @@
 use Rattle.std.proofs.Common.{◌≡◌, Bool, true, false, sym, ap, ◌∙◌}
-use Rattle.quiet_places.specs.QuietMeaning.Paths.{keeps}
+use Rattle.quiet_eval.specs.QuietMeaning.Paths.{keeps}
 use Rattle.node_walks.specs.Moves.{Moves, passed}
 use Rattle.node_walks.specs.Quiet.{Sifting}
 use Rattle.node_walks.specs.Sift.{quiet_moves}

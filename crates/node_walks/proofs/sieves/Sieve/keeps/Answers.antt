@@ -1,6 +1,6 @@
 use Rattle.std.proofs.Common.{◌≡◌, ◌+◌, List, ℕ, length, ap, ap₂, sym, ◌∙◌}
-use Rattle.step_walks.specs.Sifted.{raised}
-use Rattle.step_walks.proofs.SiftLemmas.{raised_length}
+use Rattle.node_axes.specs.StepWalks.Sifted.{raised}
+use Rattle.node_axes.proofs.StepWalks.SiftLemmas.{raised_length}
 use Rattle.node_walks.proofs.SieveLemmas.{kept_count, after_count, write_back}
 use Rattle.node_walks.proofs.sieves.Sieve.keeps.Goals as goal
 

@@ -1,6 +1,4 @@
-use Rattle.xpath_lex.proofs.ScanLemmas.{eaten}
 use Rattle.xpath_lex.proofs.scans.Scan.eat.Goals as goal
 
-pub returns-in-Some : goal.returns-in-Some
-returns-in-Some c =
-    eaten _ _ _ _ _ _ _ c.in-Some.next c.self.view_is c.chars-chars.ensures.rest c.as_str-text.ensures c.as_str-text.utf8 c.in-Some.ensures.steps.0 c.as_str-self-inside.ensures c.if-next-c.true
+pub returns : goal.returns
+returns c = rw c.self.view_is at c.eat.ensures

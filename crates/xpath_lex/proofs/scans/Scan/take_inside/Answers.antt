@@ -1,8 +1,8 @@
 use Rattle.std.proofs.Common.{ℕ, sym, subst}
-use Rattle.xpath_lex.specs.Gaps.{Ends}
 use Rattle.xpath_lex.specs.Runs.{is_inside}
 use Rattle.xpath_lex.proofs.PartLemmas.{RunTaken, quote_is}
 use Rattle.xpath_lex.proofs.scans.Scan.take_inside.Goals as goal
+use Rattle.xt_names.specs.Characters.{Ends}
 
 pub returns-else-quote-eq34-clause-taken : goal.returns-else-quote-eq34-clause-taken
 returns-else-quote-eq34-clause-taken c =

@@ -1,6 +1,6 @@
-use Rattle.xpath_lex.specs.Classes.{starts_name}
 use Rattle.xpath_lex.proofs.PartLemmas.{first_is, name_taken, local_found}
 use Rattle.xpath_lex.proofs.scans.Scan.take_local.Goals as goal
+use Rattle.xt_names.specs.Characters.{starts_name}
 
 pub returns-in-Some : goal.returns-in-Some
 returns-in-Some c =

@@ -1,6 +1,7 @@
-use Rattle.xpath_lex.specs.Classes.{starts_name, is_digit}
+use Rattle.xpath_lex.specs.Classes.{is_digit}
 use Rattle.xpath_lex.proofs.PartLemmas.{first_of, first_is, nothing_first, none_empty, none_behind}
 use Rattle.xpath_lex.proofs.scans.Scan.take_token.Goals as goal
+use Rattle.xt_names.specs.Characters.{starts_name}
 
 pub returns-then-behind : goal.returns-then-behind
 returns-then-behind c =

@@ -1,2 +1,0 @@
-pub mod Heads
-pub use Rattle.sheet_laws.specs.SheetLanguage

@@ -1,2 +1,0 @@
-pub use Rattle.used_numbers.specs.LoadedSheets
-pub use Rattle.assembly_laws.specs.SheetClosure

@@ -1,6 +1,0 @@
-use Rattle.std.proofs.Common.{sym, ◌∙◌}
-use Rattle.doc_reader.proofs.LineLemmas.{no_return}
-use Rattle.doc_reader.proofs.lines.has_return.Goals as goal
-
-pub returns : goal.returns
-returns c none = no_return _ c.memchr.result c.utf8.text (rw c.as_bytes.ensures.value at c.memchr.ensures) (sym c.is_some.ensures ∙ none)

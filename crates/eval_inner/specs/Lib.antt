@@ -1,2 +1,0 @@
-pub mod Inner
-pub use Rattle.value_slots.specs as ValueSlots

@@ -1,6 +1,0 @@
-use Rattle.std.proofs.Common.{◌≡◌, drop}
-use Rattle.expr_elements.specs.Direct.{content_in}
-use Rattle.expr_elements.proofs.direct.content_in.Given as goal
-
-abbrev pub invariant-loop-part : goal.invariant-loop-part
-invariant-loop-part l = content_in (drop l.part-index l.parts) ≡ content_in l.parts

@@ -1,0 +1,4 @@
+pub mod Keys
+pub mod TokenNames
+pub mod Tokens
+pub mod Classes

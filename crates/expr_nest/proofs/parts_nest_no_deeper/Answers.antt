@@ -1,5 +1,0 @@
-use Rattle.expr_nest.proofs.Keeps.{parts_nest_no_deeper as law}
-use Rattle.expr_nest.proofs.parts_nest_no_deeper.Goals as goal
-
-pub returns : goal.returns
-returns c = λ m l ts p vs ss fs w e. law m l ts p vs ss fs w e

@@ -1,0 +1,4 @@
+pub mod Space
+pub mod Direct
+pub mod Computed
+pub mod Table

@@ -1,5 +1,0 @@
-use Rattle.std.proofs.Common.{length}
-use Rattle.flow_streams.proofs.streams.+streamed.Given as goal
-
-abbrev pub decreases-are_streamed : goal.decreases-are_streamed
-decreases-are_streamed l = length l.clauses.now

@@ -1,0 +1,2 @@
+pub mod OperatorDrafts
+pub mod ControlDrafts

@@ -1,9 +1,0 @@
-use Rattle.std.proofs.Common.{sym, ◌∙◌}
-use Rattle.function_arguments.proofs.AtomLemmas.{atoms_stay}
-use Rattle.function_arguments.proofs.conversions.is_atomic.Goals as goal
-
-pub returns-clause-exactly : goal.returns-clause-exactly
-returns-clause-exactly c = c.matches.ensures
-
-pub returns-clause-stay : goal.returns-clause-stay
-returns-clause-stay c = λ all. atoms_stay c.args.kind c.args.count c.args.items.now (sym c.matches.ensures ∙ all)

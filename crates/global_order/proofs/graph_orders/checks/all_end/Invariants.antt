@@ -1,0 +1,7 @@
+use Rattle.std.proofs.Common.{◌≡◌, ◌-◌}
+use Rattle.global_order.specs.GraphOrders.Checks.{all_from, is_end}
+use Rattle.global_order.proofs.graph_orders.checks.all_end.Given as goal
+
+abbrev pub invariant-loop-one : goal.invariant-loop-one
+invariant-loop-one l =
+    all_from (l.count - l.one) l.one (is_end l.at l.places l.latest) ≡ all_from l.count 0 (is_end l.at l.places l.latest)

@@ -1,6 +1,0 @@
-use Rattle.std.proofs.Common.{◌≡◌, drop}
-use Rattle.graph_orders.specs.Behind.{are_in_place}
-use Rattle.graph_orders.proofs.behind.are_in_place.Given as goal
-
-abbrev pub invariant-loop-place : goal.invariant-loop-place
-invariant-loop-place l = are_in_place 0 l.numbers ≡ are_in_place l.place (drop l.place l.numbers)

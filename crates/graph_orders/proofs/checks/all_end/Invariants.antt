@@ -1,7 +1,0 @@
-use Rattle.std.proofs.Common.{◌≡◌, ◌-◌}
-use Rattle.graph_orders.specs.Checks.{all_from, is_end}
-use Rattle.graph_orders.proofs.checks.all_end.Given as goal
-
-abbrev pub invariant-loop-one : goal.invariant-loop-one
-invariant-loop-one l =
-    all_from (l.count - l.one) l.one (is_end l.at l.places l.latest) ≡ all_from l.count 0 (is_end l.at l.places l.latest)

@@ -1,8 +1,0 @@
-use Rattle.std.proofs.Common.{◌≡◌, ◌-◌, length}
-use Rattle.graph_orders.specs.Checks.{all_from, has_place}
-use Rattle.graph_orders.proofs.checks.all_have_place.Given as goal
-
-abbrev pub invariant-loop-one : goal.invariant-loop-one
-invariant-loop-one l =
-    all_from (l.count - l.one) l.one (has_place (length l.order) l.places l.order)
-    ≡ all_from l.count 0 (has_place (length l.order) l.places l.order)

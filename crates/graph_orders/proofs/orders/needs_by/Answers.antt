@@ -1,7 +1,0 @@
-use Rattle.graph_orders.proofs.Turns.{turn}
-use Rattle.graph_orders.proofs.orders.needs_by.Goals as goal
-
-pub loop-place-preserved : goal.loop-place-preserved
-loop-place-preserved c =
-    turn c.loop-place.all c.push.new.self _ c.in_ok-needs_of.field-0 c.args.count c.loop-place.place c.args.at
-    c.args.graph.now c.loop-place-test.true c.in_ok-needs_of.ensures c.in_ok-push.ensures.ok c.loop-place.invariant

@@ -1,0 +1,3 @@
+pub mod SequenceFunctions
+pub mod NumberFunctions
+pub mod NodeFunctions

@@ -1,0 +1,14 @@
+pub mod Walk
+pub mod Found
+pub mod Same
+pub mod Values
+pub mod Compare
+pub mod Nodes
+pub mod Loops
+pub mod Calls
+pub mod Still
+pub mod StillWhole
+pub mod Uses
+pub mod Levels
+pub mod FitForms
+pub mod FitNames

@@ -1,0 +1,4 @@
+pub mod KeyBody
+pub mod Keys
+pub mod Uses
+pub mod Bounds

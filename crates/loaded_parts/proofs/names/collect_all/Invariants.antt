@@ -1,8 +1,0 @@
-use Rattle.std.proofs.Common.{◌≡◌, drop}
-use Rattle.loaded_parts.specs.Names.{with_levels_of, names_alone}
-use Rattle.loaded_parts.proofs.names.collect_all.Given as goal
-
-abbrev pub invariant-loop-level : goal.invariant-loop-level
-invariant-loop-level l =
-    with_levels_of l.modules (drop l.level-index l.levels) l.names
-    ≡ with_levels_of l.modules l.levels names_alone

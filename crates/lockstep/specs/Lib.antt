@@ -1,0 +1,4 @@
+pub mod Spots
+pub mod Helpers
+pub mod Doors
+pub mod Numbers

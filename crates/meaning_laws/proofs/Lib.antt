@@ -1,0 +1,4 @@
+pub mod QuietLaws
+pub mod SoundValues
+pub mod SoundFunctions
+pub mod SoundRuns

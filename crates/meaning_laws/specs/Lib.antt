@@ -1,0 +1,3 @@
+pub mod QuietLaws
+pub mod SoundValues
+pub mod SoundRuns

@@ -1,9 +1,0 @@
-use Rattle.std.proofs.Common.{◌≡◌, ◌++◌}
-use Rattle.module_names.specs.Names.{folder_of}
-use Rattle.module_names.proofs.names.folder.Given as goal
-
-abbrev pub invariant-loop-c : goal.invariant-loop-c
-invariant-loop-c l = record {
-  folder_is : l.folder ≡ folder_of l.yielded;
-  all_is : l.folder ++ l.part ≡ l.yielded;
-}

@@ -1,6 +1,0 @@
-use Rattle.std.proofs.Common.{◌≡◌, ◌++◌, drop}
-use Rattle.module_reader.specs.InForce.{all_of}
-use Rattle.module_reader.proofs.in_force.joined.Given as goal
-
-abbrev pub invariant-loop-layer : goal.invariant-loop-layer
-invariant-loop-layer l = l.all ++ all_of (drop l.layer-index l.layers) ≡ all_of l.layers

@@ -1,5 +1,0 @@
-use Rattle.named_keys.proofs.Stands.{named_nests}
-use Rattle.named_keys.proofs.named_keys_nest_no_deeper.Goals as goal
-
-pub returns : goal.returns
-returns c = λ s grouped v w u e. named_nests s grouped u v w e

@@ -1,1 +1,0 @@
-pub use Rattle.standing_parts.specs as StandingParts

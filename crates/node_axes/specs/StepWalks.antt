@@ -1,0 +1,4 @@
+pub mod Hits
+pub mod Nodes
+pub mod Sifted
+pub mod Within

@@ -1,7 +1,0 @@
-use Rattle.node_functions.proofs.TableLemmas.{table_more}
-use Rattle.node_functions.proofs.attribute_tables.table_of.Goals as goal
-
-pub loop-attribute-preserved : goal.loop-attribute-preserved
-loop-attribute-preserved c =
-    table_more c.loop-attribute.table c.put.new.table c.args.others.now c.loop-attribute.attribute-index c.attribute-item.result c.loop-attribute-test.true c.attribute-item.is
-    c.in_ok-put.ensures c.loop-attribute.invariant

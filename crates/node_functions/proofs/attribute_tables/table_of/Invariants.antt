@@ -1,9 +1,0 @@
-use Rattle.std.proofs.Common.{◌≡◌, ◌||◌, drop}
-use Rattle.std.specs.List.{list_any}
-use Rattle.node_functions.specs.AttributeTables.{has_key, key_of, same_key}
-use Rattle.node_functions.specs.declared.attribute_tables.AttributeKey.{AttributeKey}
-use Rattle.node_functions.proofs.attribute_tables.table_of.Given as goal
-
-abbrev pub invariant-loop-attribute : goal.invariant-loop-attribute
-invariant-loop-attribute l =
-    (key : AttributeKey) → (has_key l.table key || list_any (λ a. same_key (key_of a) key) (drop l.attribute-index l.others)) ≡ list_any (λ a. same_key (key_of a) key) l.others

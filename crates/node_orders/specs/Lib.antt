@@ -1,2 +1,0 @@
-pub mod Counted
-pub use Rattle.lazy_seq.specs as LazySeq

@@ -1,1 +1,0 @@
-pub use Rattle.assembly_laws.specs.SheetClosure

@@ -1,0 +1,5 @@
+pub mod Upwards
+pub mod Predicates
+pub mod Matching
+pub mod Built
+pub mod Properties

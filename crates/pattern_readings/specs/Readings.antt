@@ -1,9 +1,0 @@
--- What a text is read as: one function of its characters.
-use Rattle.std.specs.Prelude.{ℕ, List}
-use Rattle.pattern_syntax.specs.ExprResolve.declared.setting.Setting.{Setting}
-use Rattle.text_tokens.specs.Lexed.{lexed}
-use Rattle.pattern_syntax.specs.Readings.{Answer, pattern_reading}
-
--- the alternatives of the pattern that the text spells, or why it is none
-unfoldable pub text_reading : Setting → ℕ → List ℕ → Answer
-text_reading s k text = pattern_reading s k (lexed text)

@@ -1,0 +1,4 @@
+pub mod QueryRaws
+pub mod PrintedQueries
+pub mod PrintedTexts
+pub mod PrintedReads

@@ -1,0 +1,3 @@
+pub mod Prologs
+pub mod Declarations
+pub mod Queries

@@ -1,2 +1,0 @@
-pub mod Keeps
-pub use Rattle.expr_raws.specs as ExprRaws

@@ -1,1 +1,0 @@
-pub use Rattle.written_tokens.specs as WrittenTokens

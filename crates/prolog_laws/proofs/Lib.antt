@@ -1,3 +1,0 @@
-mod ScopeLemmas
-mod Monotone
-pub mod PrologLemmas

@@ -1,7 +1,0 @@
-use Rattle.std.proofs.Common.{◌≡◌, drop}
-use Rattle.name_rules.specs.Faults.{first, earlier}
-use Rattle.prolog_rules.specs.Setters.{nothing_seen, setters_broken}
-use Rattle.prolog_rules.proofs.setter_rules.broken_setter.Given as goal
-
-abbrev pub invariant-loop-setter : goal.invariant-loop-setter
-invariant-loop-setter l = earlier l.fault (first (setters_broken l.seen (drop l.setter-index l.setters))) ≡ first (setters_broken nothing_seen l.setters)

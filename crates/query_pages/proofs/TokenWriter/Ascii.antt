@@ -1,0 +1,1 @@
+-- Texts of ASCII characters are their own characters.

@@ -1,5 +1,0 @@
-use Rattle.query_partings.proofs.SaidLemmas.{says_so, so_says}
-use Rattle.query_partings.proofs.literals_say_so.Goals as goal
-
-pub returns : goal.returns
-returns c = λ text said. (says_so text said, so_says text said)

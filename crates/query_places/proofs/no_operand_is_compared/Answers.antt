@@ -1,5 +1,0 @@
-use Rattle.query_places.proofs.Apart.{uncompared_where}
-use Rattle.query_places.proofs.no_operand_is_compared.Goals as goal
-
-pub returns : goal.returns
-returns c = λ from fs s i r w a. uncompared_where s fs i r w a

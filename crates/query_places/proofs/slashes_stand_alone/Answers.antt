@@ -1,5 +1,0 @@
-use Rattle.query_places.proofs.Apart.{alone_behind}
-use Rattle.query_places.proofs.slashes_stand_alone.Goals as goal
-
-pub returns : goal.returns
-returns c = λ l t ts from fs gs i r e a. alone_behind t ts fs gs i r e a

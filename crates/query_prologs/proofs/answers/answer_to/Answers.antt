@@ -1,5 +1,0 @@
-use Rattle.query_prologs.proofs.FaultLemmas.{some_broken}
-use Rattle.query_prologs.proofs.answers.answer_to.Goals as goal
-
-pub returns-in-Some : goal.returns-in-Some
-returns-in-Some c = λ codes e. some_broken codes c.in-Some.code c.args.found c.in-Some.is e

@@ -1,7 +1,0 @@
-use Rattle.std.proofs.Common.{◌≡◌, ◌++◌, drop}
-use Rattle.query_prologs.specs.Prefixes.{declared_bindings}
-use Rattle.query_prologs.proofs.prefixes.declared_bindings.Given as goal
-
-abbrev pub invariant-loop-setter : goal.invariant-loop-setter
-invariant-loop-setter l =
-    l.bound ++ declared_bindings (drop l.setter-index l.setters) ≡ declared_bindings l.setters

@@ -1,7 +1,0 @@
-use Rattle.std.proofs.Common.{◌≡◌, ◌++◌, drop, map}
-use Rattle.query_prologs.specs.Setters.{setter_of}
-use Rattle.query_prologs.proofs.setters.setters_of.Given as goal
-
-abbrev pub invariant-loop-d : goal.invariant-loop-d
-invariant-loop-d l =
-    l.setters.items ++ map setter_of (drop l.d-index l.declared) ≡ map setter_of l.declared

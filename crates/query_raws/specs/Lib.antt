@@ -1,4 +1,0 @@
-pub mod Prologs
-pub mod Declarations
-pub mod Queries
-pub use Rattle.clean_raws.specs as CleanRaws

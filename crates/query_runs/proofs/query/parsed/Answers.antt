@@ -1,9 +1,0 @@
-use Rattle.std.proofs.Common.{chars, subst, sym}
-use Rattle.query_runs.specs.Queries.{IsNoneAs}
-use Rattle.query_runs.proofs.QueryLemmas.{none_told}
-use Rattle.query_runs.proofs.query.parsed.Goals as goal
-
-pub returns-in-Err-clause-refused : goal.returns-in-Err-clause-refused
-returns-in-Err-clause-refused c =
-    subst (IsNoneAs (chars c.args.text.now)) (sym c.told.ensures)
-    (none_told (chars c.args.text.now) c.in-Err.fault c.in-Err.ensures)

@@ -1,8 +1,0 @@
-use Rattle.quiet_laws.proofs.LawLemmas.{reached_by_step, reached_by_steps}
-use Rattle.quiet_laws.proofs.a_path_reaches_nodes_step_by_step.Goals as goal
-
-pub returns-clause-step : goal.returns-clause-step
-returns-clause-step c = reached_by_step
-
-pub returns-clause-steps : goal.returns-clause-steps
-returns-clause-steps c = reached_by_steps

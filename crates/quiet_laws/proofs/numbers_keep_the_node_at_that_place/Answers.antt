@@ -1,8 +1,0 @@
-use Rattle.quiet_laws.proofs.LawLemmas.{integer_law, last_law}
-use Rattle.quiet_laws.proofs.numbers_keep_the_node_at_that_place.Goals as goal
-
-pub returns-clause-integer : goal.returns-clause-integer
-returns-clause-integer c = integer_law
-
-pub returns-clause-last : goal.returns-clause-last
-returns-clause-last c = last_law

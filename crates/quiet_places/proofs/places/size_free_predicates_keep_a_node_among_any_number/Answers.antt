@@ -1,5 +1,0 @@
-use Rattle.quiet_places.proofs.FreeLemmas.{size_free}
-use Rattle.quiet_places.proofs.places.size_free_predicates_keep_a_node_among_any_number.Goals as goal
-
-pub returns : goal.returns
-returns c = size_free

@@ -1,2 +1,0 @@
-pub mod Free
-pub use Rattle.quiet_meaning.specs as QuietMeaning

@@ -1,0 +1,4 @@
+pub mod ExprSpellings
+pub mod CleanRaws
+pub mod NestRaws
+pub mod ShapedRaws

@@ -1,0 +1,2 @@
+pub mod CleanRaws
+pub use Rattle.expr_raws.specs as ExprRaws

@@ -1,3 +1,0 @@
-mod Literals
-pub mod Lexed
-pub mod Types

@@ -1,3 +1,0 @@
-pub mod Names
-pub mod Uses
-pub use Rattle.sheet_expressions.specs as SheetExpressions

@@ -1,5 +1,0 @@
-use Rattle.std.proofs.Common.{◌≡◌, ◌++◌, drop}
-use Rattle.sheet_texts.proofs.places.push_all.Given as goal
-
-abbrev pub invariant-loop-binding : goal.invariant-loop-binding
-invariant-loop-binding l = l.fn.all ++ l.bindings ≡ l.all ++ drop l.binding-index l.bindings

@@ -1,3 +1,0 @@
-pub mod Sorted
-pub mod Related
-pub use Rattle.order_group.specs as OrderGroup

@@ -1,0 +1,2 @@
+pub mod SoundForms
+pub mod ExprRegular

@@ -1,8 +1,0 @@
-use Rattle.sound_values.proofs.Trees.{value_text, all_atomized}
-use Rattle.sound_values.proofs.values_of_sound_items_are_sound.Goals as goal
-
-pub returns-clause-texts : goal.returns-clause-texts
-returns-clause-texts c = value_text
-
-pub returns-clause-atoms : goal.returns-clause-atoms
-returns-clause-atoms c = all_atomized

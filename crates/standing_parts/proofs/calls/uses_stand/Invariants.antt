@@ -1,9 +1,0 @@
-use Rattle.std.proofs.Common.{◌≡◌, drop}
-use Rattle.std.specs.List.{list_all}
-use Rattle.standing_parts.specs.Calls.{use_stands}
-use Rattle.standing_parts.proofs.calls.uses_stand.Given as goal
-
-abbrev pub invariant-loop-one : goal.invariant-loop-one
-invariant-loop-one l =
-    list_all (use_stands l.grouped) (drop l.one-index l.uses)
-    ≡ list_all (use_stands l.grouped) l.uses

@@ -1,9 +1,0 @@
-use Rattle.std.proofs.Common.{◌≡◌, drop}
-use Rattle.std.specs.List.{list_all}
-use Rattle.standing_parts.specs.Sheets.{template_stands}
-use Rattle.standing_parts.proofs.sheets.templates_stand.Given as goal
-
-abbrev pub invariant-loop-template : goal.invariant-loop-template
-invariant-loop-template l =
-    list_all template_stands (drop l.template-index l.all)
-    ≡ list_all template_stands l.all

@@ -1,4 +1,0 @@
-use Rattle.step_walks.proofs.hits.next_hit.Given as goal
-
-abbrev pub ghosts-walk_to_hit : goal.ghosts-walk_to_hit
-ghosts-walk_to_hit a = record { name = a.blank.name; parts = a.blank.parts }

@@ -1,0 +1,2 @@
+-- The characters of texts in the code.
+use Rattle.std.proofs.Common.{[]}

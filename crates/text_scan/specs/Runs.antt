@@ -1,0 +1,2 @@
+-- What comes next in a text.
+pub use Rattle.xt_names.specs.Characters.{Ends, NotNext}

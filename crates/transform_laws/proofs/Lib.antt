@@ -1,0 +1,15 @@
+pub mod Lists
+pub mod Texts
+pub mod Names
+pub mod Making
+pub mod Bindings
+pub mod Sorting
+pub mod Grouping
+pub mod Dispatch
+pub mod Values
+pub mod Rolled
+pub mod Whole
+pub mod Keys
+pub mod Runs
+pub mod Anything
+pub mod Depth

@@ -1,0 +1,12 @@
+pub mod Places
+pub mod Texts
+pub mod Names
+pub mod Making
+pub mod Bindings
+pub mod Sorting
+pub mod Grouping
+pub mod Dispatch
+pub mod Instrs
+pub mod Keys
+pub mod Templates
+pub mod Sheets

@@ -1,0 +1,13 @@
+pub mod Rolled
+pub mod Fine
+pub mod FineFlows
+pub mod FineChains
+pub mod FineTexts
+pub mod FineNames
+pub mod FineBodies
+pub mod FineMaking
+pub mod FineLoops
+pub mod FineGroups
+pub mod FineDispatch
+pub mod FineInstrs
+pub mod BoundsLemmas

@@ -1,0 +1,16 @@
+pub mod Names
+pub mod Forms
+pub mod Mentions
+pub mod Texts
+pub mod Converted
+pub mod NodeNames
+pub mod Places
+pub mod Bodies
+pub mod Making
+pub mod Loops
+pub mod Groups
+pub mod Params
+pub mod Dispatch
+pub mod Instrs
+pub mod Leaves
+pub mod Bounds

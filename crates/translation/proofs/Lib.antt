@@ -1,0 +1,5 @@
+pub mod FineHelpers
+pub mod FineParts
+pub mod FineQuery
+pub mod QueryLimits
+pub mod Variables

@@ -1,0 +1,15 @@
+pub mod Found
+pub mod Ranks
+pub mod PatternTests
+pub mod Prefixes
+pub mod Tables
+pub mod Templates
+pub mod Rules
+pub mod Keys
+pub mod Globals
+pub mod Uris
+pub mod Sheets
+pub mod Limits
+pub mod Stands
+pub mod Translatable
+pub mod Laws

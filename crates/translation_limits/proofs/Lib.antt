@@ -1,0 +1,4 @@
+pub mod LeafValues
+pub mod LeafInstrs
+pub mod LeafPatterns
+pub mod LeafSheets

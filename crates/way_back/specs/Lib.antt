@@ -1,0 +1,9 @@
+pub mod Leaves
+pub mod Forms
+pub mod Same
+pub mod Rules
+pub mod Sheets
+pub mod Differ
+pub mod Spelled
+pub mod Places
+pub mod Contents

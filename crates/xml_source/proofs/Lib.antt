@@ -1,0 +1,9 @@
+mod ScanLemmas
+mod LineLemmas
+mod NameLemmas
+pub mod ReadLemmas
+pub mod ReferenceReads
+pub mod ReferenceLemmas
+mod SpellLemmas
+pub mod EqualsLemmas
+mod AsideLemmas

@@ -1,0 +1,9 @@
+pub mod Sources
+pub mod Classes
+pub mod LineEnds
+pub mod View
+pub mod Reading
+pub mod References
+pub mod Asides
+pub mod Spelling
+pub mod PrologParts

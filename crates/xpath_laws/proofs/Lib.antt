@@ -1,0 +1,2 @@
+pub mod XpathForms
+pub mod BindingLaws

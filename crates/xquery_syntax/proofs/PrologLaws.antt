@@ -1,0 +1,3 @@
+pub mod ScopeLemmas
+pub mod Monotone
+pub mod PrologLemmas
