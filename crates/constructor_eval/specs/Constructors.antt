@@ -13,16 +13,23 @@ use Rattle.xt_syntax.specs.declared.exprs.Clause.TheViews.{out-Expr}
 use Rattle.xt_syntax.specs.declared.exprs.Clause.TheOpen.{Expr-F, ElemC, AttrC, DocC, TextC}
 use Rattle.xt_syntax.specs.declared.exprs.Clause.TheOpen.{CommentC, PiC, Direct}
 
-abbrev pub makes : Expr-F Clause Expr NameSource Part Arm Bind DirectAttr Flwor Order → Bool
-makes (ElemC name content) = true
-makes (AttrC name content) = true
-makes (DocC content) = true
-makes (TextC content) = true
-makes (CommentC content) = true
-makes (PiC name content) = true
-makes (Direct name attributes parts) = true
-makes x = false
+abbrev pub computes : Expr-F Clause Expr NameSource Part Arm Bind DirectAttr Flwor Order → Bool
+computes (ElemC name content) = true
+computes (AttrC name content) = true
+computes (DocC content) = true
+computes (TextC content) = true
+computes (CommentC content) = true
+computes (PiC name content) = true
+computes x = false
 
--- direct elements and computed constructors (XQuery 1.0, 3.7)
-abbrev pub is_constructor : Expr → Bool
-is_constructor e = makes (out-Expr e)
+-- computed constructors (XQuery 1.0, 3.7.3)
+abbrev pub is_computed : Expr → Bool
+is_computed e = computes (out-Expr e)
+
+abbrev pub writes : Expr-F Clause Expr NameSource Part Arm Bind DirectAttr Flwor Order → Bool
+writes (Direct name attributes parts) = true
+writes x = false
+
+-- direct elements (XQuery 1.0, 3.7.1)
+abbrev pub is_direct : Expr → Bool
+is_direct e = writes (out-Expr e)

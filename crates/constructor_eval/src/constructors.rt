@@ -1,6 +1,6 @@
 // The constructors, form by form.
 ghost use Rattle.std.specs.Prelude.{◌≡◌, true};
-ghost use Rattle.constructor_eval.specs.Constructors.{is_constructor};
+ghost use Rattle.constructor_eval.specs.Constructors.{is_computed, is_direct};
 ghost use Rattle.eval_scopes.specs.Scopes.{env_of, program_of};
 ghost use Rattle.eval_steps.specs.EvalInner.Inner.{CanEvaluateBelow, Evaluates};
 ghost use Rattle.eval_steps.specs.Sizes.{nodes};
@@ -23,8 +23,8 @@ impl<
     W: Calling,
     E: Fn(&Env, &mut u64, &Expr, &mut ItemList) -> Result<(), EvalFault>,
 > Constructor<'a, W, E> {
-    /// Puts the node that the constructor makes (XQuery 1.0, 3.7).
-    pub fn eval_constructor(
+    /// Puts the node that a computed constructor makes (XQuery 1.0, 3.7.3).
+    pub fn eval_computed(
         &self,
         env: &Env,
         next: &mut u64,
@@ -34,7 +34,7 @@ impl<
             (nodes self.now.form.whole.now) }
         requires serves { Evaluates (E.post self.now.form.eval) (program_of self.now.form.fixed.now
             (W.calls self.now.form.within.now) (W.keys self.now.form.within.now)) }
-        requires form { is_constructor self.now.form.whole.now ≡ true }
+        requires form { is_computed self.now.form.whole.now ≡ true }
         ensures { let p = program_of self.now.form.fixed.now (W.calls self.now.form.within.now)
             (W.keys self.now.form.within.now) in
             Leaves result value.new next.new
@@ -47,8 +47,31 @@ impl<
             Expr::TextC(of) => self.eval_text(env, next, of.get(), value),
             Expr::CommentC(of) => self.eval_comment(env, next, of.get(), value),
             Expr::PiC(name, of) => self.eval_pi(env, next, name, of.get(), value),
+            _ => unreachable!(),
+        }
+    }
+
+    /// Puts the element that a direct element makes (XQuery 1.0, 3.7.1), apart from the others:
+    /// direct elements nest most, and so take few frames of the machine.
+    pub fn eval_direct(
+        &self,
+        env: &Env,
+        next: &mut u64,
+        value: &mut ItemList,
+    ) -> Result<(), EvalFault>
+        requires callable { CanEvaluateBelow (E.pre self.now.form.eval)
+            (nodes self.now.form.whole.now) }
+        requires serves { Evaluates (E.post self.now.form.eval) (program_of self.now.form.fixed.now
+            (W.calls self.now.form.within.now) (W.keys self.now.form.within.now)) }
+        requires form { is_direct self.now.form.whole.now ≡ true }
+        ensures { let p = program_of self.now.form.fixed.now (W.calls self.now.form.within.now)
+            (W.keys self.now.form.within.now) in
+            Leaves result value.new next.new
+            (outcome p self.now.form.whole.now (env_of env.now) next.old) }
+    {
+        match self.form.whole {
             Expr::Direct(name, attributes, parts) => {
-                self.eval_direct(env, next, name, attributes.get(), parts.get(), value)
+                self.eval_written(env, next, name, attributes.get(), parts.get(), value)
             }
             _ => unreachable!(),
         }

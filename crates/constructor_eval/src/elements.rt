@@ -32,9 +32,9 @@ impl<
     W: Calling,
     E: Fn(&Env, &mut u64, &Expr, &mut ItemList) -> Result<(), EvalFault>,
 > Constructor<'a, W, E> {
-    /// A direct element (XQuery 1.0, 3.7.1).
-    #[inline(never)]
-    pub(crate) fn eval_direct(
+    /// A direct element as it is written (XQuery 1.0, 3.7.1).
+    #[inline(always)]
+    pub(crate) fn eval_written(
         &self,
         env: &Env,
         next: &mut u64,
@@ -142,6 +142,7 @@ impl<
     }
 
     /// The content of a direct element (XQuery 1.0, 3.7.1.3).
+    #[inline(always)]
     pub(crate) fn eval_content(
         &self,
         env: &Env,
@@ -159,11 +160,34 @@ impl<
             Leaves result list.new next.new (for_each (content_part (env_of env.now))
             (map (part_outcome p) parts.now) next.old) }
     {
-        clear(self.form.alloc, list);
         let mut more = ItemList::new(self.form.alloc);
+        self.eval_parts(env, next, parts, list, &mut more)
+    }
+
+    /// The parts of the content, one after another, each by way of the same list.
+    #[inline(always)]
+    pub(crate) fn eval_parts(
+        &self,
+        env: &Env,
+        next: &mut u64,
+        parts: &[Part],
+        list: &mut ItemList,
+        more: &mut ItemList,
+    ) -> Result<(), EvalFault>
+        requires callable { CanEvaluateBelow (E.pre self.now.form.eval)
+            (nodes self.now.form.whole.now) }
+        requires serves { Evaluates (E.post self.now.form.eval) (program_of self.now.form.fixed.now
+            (W.calls self.now.form.within.now) (W.keys self.now.form.within.now)) }
+        requires within { total (map part_nodes parts.now) < nodes self.now.form.whole.now }
+        ensures { let p = program_of self.now.form.fixed.now (W.calls self.now.form.within.now)
+            (W.keys self.now.form.within.now) in
+            Leaves result list.new next.new (for_each (content_part (env_of env.now))
+            (map (part_outcome p) parts.now) next.old) }
+    {
+        clear(self.form.alloc, list);
         for part in parts {
-            self.eval_part(env, next, part, &mut more)?;
-            join(self.form.alloc, list, &mut more)?;
+            self.eval_part(env, next, part, more)?;
+            join(self.form.alloc, list, more)?;
         }
         Ok(())
     }

@@ -115,7 +115,8 @@ impl<'a, G: Callee, F: Fn(&ExprName, &[ItemList], &mut u64) -> Result<ItemList, 
                 self.eval_item_form(env, next, e, value)
             }
             Expr::Call(name, args) => self.eval_call(env, next, name, args.get().as_slice(), value),
-            _ => self.eval_constructor(env, next, e, value),
+            Expr::Direct(_, _, _) => self.eval_direct(env, next, e, value),
+            _ => self.eval_computed(env, next, e, value),
         }
     }
 

@@ -1,6 +1,6 @@
 // The program that expressions stand in.
 ghost use Rattle.std.specs.Prelude.{◌≡◌, ◌≤◌, ◌<◌, map, length, ℕ, true};
-ghost use Rattle.constructor_eval.specs.Constructors.{is_constructor};
+ghost use Rattle.constructor_eval.specs.Constructors.{is_computed, is_direct};
 ghost use Rattle.path_eval.specs.Forms.{asks_at_items};
 ghost use Rattle.eval_steps.specs.EvalLates.Late.{AnswersLate};
 ghost use Rattle.expr_meaning.specs.Outcomes.Outcome.{Ends, step_outcome};
@@ -201,10 +201,10 @@ impl<'a, G: Callee, F: Fn(&ExprName, &[ItemList], &mut u64) -> Result<ItemList, 
         flows.eval_flwor(env, next, value)
     }
 
-    /// A constructor, with what evaluates the expressions within it (XQuery 1.0, 3.7).
+    /// A direct element, with what evaluates the expressions within it (XQuery 1.0, 3.7.1).
     #[cycle(eval)]
     #[inline(never)]
-    pub(crate) fn eval_constructor(
+    pub(crate) fn eval_direct(
         &self,
         env: &Env,
         next: &mut u64,
@@ -213,7 +213,7 @@ impl<'a, G: Callee, F: Fn(&ExprName, &[ItemList], &mut u64) -> Result<ItemList, 
     ) -> Result<(), EvalFault>
         requires callable { F.IsAlwaysCallable self.now.calls }
         requires serves { Serves (F.post self.now.calls) (G.calls self.now.given) }
-        requires form { is_constructor whole.now ≡ true }
+        requires form { is_direct whole.now ≡ true }
         ensures { let p = program_of self.now.fixed (G.calls self.now.given)
             (G.keys self.now.given) in
             Leaves result value.new next.new (outcome p whole.now (env_of env.now) next.old) }
@@ -239,7 +239,48 @@ impl<'a, G: Callee, F: Fn(&ExprName, &[ItemList], &mut u64) -> Result<ItemList, 
             whole: &*whole,
             eval,
         };
-        Constructor { form }.eval_constructor(env, next, value)
+        Constructor { form }.eval_direct(env, next, value)
+    }
+
+    /// A computed constructor, with what evaluates the expressions within it (XQuery 1.0, 3.7.3).
+    #[cycle(eval)]
+    #[inline(never)]
+    pub(crate) fn eval_computed(
+        &self,
+        env: &Env,
+        next: &mut u64,
+        whole: &Expr,
+        value: &mut ItemList,
+    ) -> Result<(), EvalFault>
+        requires callable { F.IsAlwaysCallable self.now.calls }
+        requires serves { Serves (F.post self.now.calls) (G.calls self.now.given) }
+        requires form { is_computed whole.now ≡ true }
+        ensures { let p = program_of self.now.fixed (G.calls self.now.given)
+            (G.keys self.now.given) in
+            Leaves result value.new next.new (outcome p whole.now (env_of env.now) next.old) }
+    {
+        let eval = |env: &Env, next: &mut u64, e: &Expr, value: &mut ItemList| -> Result<
+            (),
+            EvalFault,
+        >
+            requires callable { F.IsAlwaysCallable self.now.calls }
+            requires serves { Serves (F.post self.now.calls) (G.calls self.now.given) }
+            requires within { nodes e.now < nodes whole.now }
+            ensures { let host = self.entry.now in
+                let p = program_of host.fixed (G.calls host.given) (G.keys host.given) in
+                Leaves result value.new next.new (outcome p e.now (env_of env.now) next.old) }
+        {
+            let _whole = whole;
+            self.eval_into(env, next, e, value)
+        };
+        let form = Form {
+            alloc: self.alloc,
+            fixed: &self.fixed,
+            within: &*self,
+            whole: &*whole,
+            eval,
+        };
+        Constructor { form }.eval_computed(env, next, value)
     }
 
     /// A path, a step, a filter or a quantifier, with what evaluates the expressions within it (XPath

@@ -246,16 +246,26 @@ pub Host::eval_flwor-eval_flwor-requires-clause-serves :
 unfolding Evaluates
 Host::eval_flwor-eval_flwor-requires-clause-serves g t c = search rules
 
-pub Host::eval_constructor-eval_constructor-requires-clause-callable :
-    goal.Host::eval_constructor-eval_constructor-requires-clause-callable
+pub Host::eval_direct-eval_direct-requires-clause-callable :
+    goal.Host::eval_direct-eval_direct-requires-clause-callable
 unfolding CanEvaluateBelow
-Host::eval_constructor-eval_constructor-requires-clause-callable g t c = λ env next e value h.
+Host::eval_direct-eval_direct-requires-clause-callable g t c = λ env next e value h. search rules
+
+pub Host::eval_direct-eval_direct-requires-clause-serves :
+    goal.Host::eval_direct-eval_direct-requires-clause-serves
+unfolding Evaluates
+Host::eval_direct-eval_direct-requires-clause-serves g t c = search rules
+
+pub Host::eval_computed-eval_computed-requires-clause-callable :
+    goal.Host::eval_computed-eval_computed-requires-clause-callable
+unfolding CanEvaluateBelow
+Host::eval_computed-eval_computed-requires-clause-callable g t c = λ env next e value h.
     search rules
 
-pub Host::eval_constructor-eval_constructor-requires-clause-serves :
-    goal.Host::eval_constructor-eval_constructor-requires-clause-serves
+pub Host::eval_computed-eval_computed-requires-clause-serves :
+    goal.Host::eval_computed-eval_computed-requires-clause-serves
 unfolding Evaluates
-Host::eval_constructor-eval_constructor-requires-clause-serves g t c = search rules
+Host::eval_computed-eval_computed-requires-clause-serves g t c = search rules
 
 pub Host::eval_item_form-eval_form-requires-clause-callable :
     goal.Host::eval_item_form-eval_form-requires-clause-callable

@@ -74,11 +74,17 @@ decreases-Host::eval_flwor g l = 16 * flwor_nodes l.parts.now + 5
 abbrev pub decreases-Host::eval_flwor-eval : goal.decreases-Host::eval_flwor-eval
 decreases-Host::eval_flwor-eval g l = 16 * flwor_nodes l.parts.now + 4
 
-abbrev pub decreases-Host::eval_constructor : goal.decreases-Host::eval_constructor
-decreases-Host::eval_constructor g l = 16 * nodes l.whole.now + 1
+abbrev pub decreases-Host::eval_direct : goal.decreases-Host::eval_direct
+decreases-Host::eval_direct g l = 16 * nodes l.whole.now + 1
 
-abbrev pub decreases-Host::eval_constructor-eval : goal.decreases-Host::eval_constructor-eval
-decreases-Host::eval_constructor-eval g l = 16 * nodes l.whole.now
+abbrev pub decreases-Host::eval_direct-eval : goal.decreases-Host::eval_direct-eval
+decreases-Host::eval_direct-eval g l = 16 * nodes l.whole.now
+
+abbrev pub decreases-Host::eval_computed : goal.decreases-Host::eval_computed
+decreases-Host::eval_computed g l = 16 * nodes l.whole.now + 1
+
+abbrev pub decreases-Host::eval_computed-eval : goal.decreases-Host::eval_computed-eval
+decreases-Host::eval_computed-eval g l = 16 * nodes l.whole.now
 
 abbrev pub decreases-Host::eval_item_form : goal.decreases-Host::eval_item_form
 decreases-Host::eval_item_form g l = 16 * nodes l.whole.now + 1

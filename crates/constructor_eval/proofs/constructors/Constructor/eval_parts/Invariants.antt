@@ -5,7 +5,7 @@ use Rattle.expr_meaning.specs.Outcomes.Outcome.{for_each}
 use Rattle.expr_meaning.specs.Making.{content_part}
 use Rattle.eval_steps.specs.Parts.{part_outcome}
 use Rattle.eval_steps.proofs.Follow.{Gathers}
-use Rattle.constructor_eval.proofs.constructors.Constructor.eval_content.Given as goal
+use Rattle.constructor_eval.proofs.constructors.Constructor.eval_parts.Given as goal
 
 abbrev pub invariant-loop-part : goal.invariant-loop-part
 invariant-loop-part g l =

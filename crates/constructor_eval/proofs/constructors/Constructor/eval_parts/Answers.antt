@@ -3,7 +3,7 @@ use Rattle.std.proofs.lemmas.Result.{err_from_is_err_and}
 use Rattle.eval_steps.specs.Sizes.{part_nodes}
 use Rattle.eval_steps.proofs.Follow.{gathers_first_map, gathers_step, gathers_exit, gathers_end}
 use Rattle.eval_steps.proofs.Forms.{within}
-use Rattle.constructor_eval.proofs.constructors.Constructor.eval_content.Goals as goal
+use Rattle.constructor_eval.proofs.constructors.Constructor.eval_parts.Goals as goal
 
 pub eval_part-requires-clause-within : goal.eval_part-requires-clause-within
 eval_part-requires-clause-within g c =
