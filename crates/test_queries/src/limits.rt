@@ -72,7 +72,7 @@ const FORMS: [(usize, Parts, &str); 5] = [
         "0",
     ),
     (
-        30,
+        22,
         ("count(", "<a>", "{ local:f($n - 1) }", "</a>", ")"),
         "1",
     ),
