@@ -46,7 +46,8 @@ class Case:
 
 
 def repeated(text):
-    """The text with each `{N*TEXT}` written out; `{{` is a brace before a digit."""
+    """The text with each `{N*TEXT}` written out; `{#}` in TEXT is the number of the turn from 0, and
+    `{{` a brace before a digit."""
     out, at = [], 0
     while True:
         m = re.compile(r'\{\{(?=[0-9])|\{([0-9]+)\*').search(text, at)
@@ -58,7 +59,8 @@ def repeated(text):
             at = m.end()
             continue
         end = closing(text, m.end())
-        out.append(int(m.group(1)) * repeated(text[m.end():end]))
+        turn = text[m.end():end]
+        out.extend(repeated(turn.replace('{#}', str(i))) for i in range(int(m.group(1))))
         at = end + 1
 
 
